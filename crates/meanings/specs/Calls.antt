@@ -1,0 +1,106 @@
+-- Each call's whole outcome: its answer, and what each lent list holds at exit, for every input. On a refusal a lent list holds what it
+-- held. A call's enum is read through its told definition, which gives the paper's number or values.
+use Prim.Native.Nat.{ℕ}
+use mathlib.Core.List.{List, [], _++_}
+use mathlib.Core.Option.{Option}
+use lib.ListN.{length, getD, drop, replicate}
+use Rattle.meanings.specs.declared.Estimate.{Estimate}
+use Rattle.meanings.specs.declared.RunningSums.{RunningSums}
+use Rattle.meanings.specs.declared.Evaluation.{Evaluation}
+use Rattle.meanings.specs.declared.Evaluation.the-variants.{Row, Unfit}
+use Rattle.meanings.specs.declared.Advance.{Advance}
+use Rattle.meanings.specs.declared.Advance.the-variants.{Moved, Stayed}
+use Rattle.meanings.specs.declared.Smoothing.{Smoothing}
+use Rattle.meanings.specs.declared.Smoothing.the-variants.{Passes, Unswept}
+use Rattle.meanings.specs.declared.Filling.{Filling}
+use Rattle.meanings.specs.declared.Filling.the-variants.{Filled, Unfilled}
+use Rattle.meanings.specs.declared.Reading.{Reading}
+use Rattle.meanings.specs.declared.Reading.the-variants.{Used, Unread}
+use Rattle.meanings.specs.Limits.{Limits}
+use Rattle.meanings.specs.Moves.{moves}
+use Rattle.meanings.specs.Reports.{Fault, Answer, given, refused, unless, accepted-or, told, first-of, evaluate-checks, smooth-checks, fill-checks, read-checks}
+use Rattle.meanings.specs.Estimate.{estimate, left-of, run-of, rows}
+use Rattle.meanings.specs.Running.{fresh, passes}
+use Rattle.meanings.specs.Grid.{presets, grid}
+use Rattle.meanings.specs.Sheet.{Contents, Outcome, or-next, read-sheet}
+
+-- the question at one mark, first call: the row or the report
+abbrev pub told-evaluation : Evaluation → Answer Estimate
+told-evaluation (Row e) = given e
+told-evaluation (Unfit r) = refused (told r)
+
+abbrev pub evaluate-refusal : Limits → List ℕ → List ℕ → ℕ → Option Fault
+evaluate-refusal L ts vs h = first-of (evaluate-checks L ts vs h)
+
+unfoldable pub evaluate : Limits → List ℕ → List ℕ → ℕ → ℕ → Answer Estimate
+evaluate L ts vs z h = unless (evaluate-refusal L ts vs h) (estimate ts vs z h)
+
+-- second call: the run as a part of the caller's value list, empty on a refusal
+unfoldable pub window : Limits → List ℕ → List ℕ → ℕ → ℕ → List ℕ
+window L ts vs z h = accepted-or (evaluate-refusal L ts vs h) (run-of ts vs z h) []
+
+-- and the position in that list at which the part begins: left, on a refusal 0
+unfoldable pub window-start : Limits → List ℕ → List ℕ → ℕ → ℕ → ℕ
+window-start L ts vs z h = accepted-or (evaluate-refusal L ts vs h) (left-of ts z h) 0
+
+-- the step: its meaning is advance of specs/Running.antt
+abbrev pub told-advance : Advance → Answer RunningSums
+told-advance (Moved r) = given r
+told-advance (Stayed r) = refused (told r)
+
+-- the whole sweep: its passes or the report
+abbrev pub told-smoothing : Smoothing → Answer ℕ
+told-smoothing (Passes n) = given n
+told-smoothing (Unswept r) = refused (told r)
+
+abbrev pub smooth-refusal : Limits → List ℕ → List ℕ → List ℕ → List ℕ → List ℕ → Option Fault
+smooth-refusal L ts vs zs hs rs = first-of (smooth-checks L ts vs zs hs rs)
+
+unfoldable pub smooth : Limits → List ℕ → List ℕ → List ℕ → List ℕ → List ℕ → Answer ℕ
+smooth L ts vs zs hs rs = unless (smooth-refusal L ts vs zs hs rs) (passes ts vs fresh (moves zs hs))
+
+-- and the rows at exit
+unfoldable pub smooth-rows : Limits → List ℕ → List ℕ → List ℕ → List ℕ → List ℕ → List ℕ
+smooth-rows L ts vs zs hs rs = accepted-or (smooth-refusal L ts vs zs hs rs) (rows ts vs zs hs (length zs)) rs
+
+-- the mark filler, with the lists zs of marks and hs of half widths
+abbrev pub told-filling : Filling → Answer Unit
+told-filling Filled = given tt
+told-filling (Unfilled r) = refused (told r)
+
+abbrev pub fill-refusal : Limits → ℕ → ℕ → ℕ → List ℕ → List ℕ → Option Fault
+fill-refusal L z₀ spacing preset zs hs = first-of (fill-checks L (length presets) z₀ spacing preset (length zs) (length hs))
+
+unfoldable pub fill : Limits → ℕ → ℕ → ℕ → List ℕ → List ℕ → Answer Unit
+fill L z₀ spacing preset zs hs = unless (fill-refusal L z₀ spacing preset zs hs) tt
+
+-- and both lists at exit
+unfoldable pub fill-points : Limits → ℕ → ℕ → ℕ → List ℕ → List ℕ → List ℕ
+fill-points L z₀ spacing preset zs hs =
+    accepted-or (fill-refusal L z₀ spacing preset zs hs) (grid z₀ spacing (length zs)) zs
+
+unfoldable pub fill-bandwidths : Limits → ℕ → ℕ → ℕ → List ℕ → List ℕ → List ℕ
+fill-bandwidths L z₀ spacing preset zs hs =
+    accepted-or (fill-refusal L z₀ spacing preset zs hs) (replicate (length hs) (getD presets preset 0)) hs
+
+-- the reader: how many readings are kept and how many marks there are, or the report
+pub record Counts : Type 0 where
+  pub samples : ℕ
+  pub points : ℕ
+
+abbrev pub told-reading : Reading → Answer Counts
+told-reading (Used n m) = given (record { samples = n; points = m })
+told-reading (Unread r) = refused (told r)
+
+-- what the reader makes of a sheet with four lent lists
+unfoldable pub read : Limits → List ℕ → List ℕ → List ℕ → List ℕ → List ℕ → Outcome
+read L s ts vs zs hs = or-next (first-of (read-checks L (length ts) (length vs) (length zs) (length hs))) (read-sheet L s)
+
+abbrev pub counts : Outcome → Answer Counts
+counts (refused e) = refused e
+counts (given c) = given (record { samples = length (c .minutes); points = length (c .points) })
+
+-- a lent list at exit: the used part in front of its untouched tail, or all of what it held
+abbrev pub filled-front : Outcome → (Contents → List ℕ) → List ℕ → List ℕ
+filled-front (refused e) part xs = xs
+filled-front (given c) part xs = part c ++ drop (length (part c)) xs

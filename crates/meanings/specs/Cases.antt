@@ -1,0 +1,103 @@
+-- What a case says: on one input a call gives this answer and leaves these lists.
+use Prim.Native.Nat.{ℕ}
+use Prim.Native.String.{String}
+use mathlib.Core.Path.{_≡_}
+use mathlib.Core.List.{List, [], _∷_, map}
+use lib.ListN.{length}
+use Rattle.meanings.specs.declared.Estimate.{Estimate}
+use Rattle.meanings.specs.declared.PowerSums.{PowerSums}
+use Rattle.meanings.specs.declared.RunningSums.{RunningSums}
+use Rattle.meanings.specs.Limits.{Limits, full}
+use Rattle.meanings.specs.Bytes.{ascii}
+use Rattle.meanings.specs.Moves.{Move}
+use Rattle.meanings.specs.Reports.{Answer, given, refused}
+use Rattle.meanings.specs.Estimate.{left-of, right-of}
+use Rattle.meanings.specs.Running.{power-sums, advance, after, fresh}
+use Rattle.meanings.specs.EventLog.{EventLog, empty-log, log-after}
+use Rattle.meanings.specs.Sheet.{Contents, read-sheet}
+use Rattle.meanings.specs.Calls.{evaluate, window, window-start, smooth, smooth-rows, fill, fill-points, fill-bandwidths, read, counts, filled-front, Counts}
+use Rattle.meanings.specs.Output.{program}
+
+pub data Call : Type 0 where
+  -- the question at one mark: minutes, values, mark, half width; its run; the six running sums over that run
+  row run sums : List ℕ → List ℕ → ℕ → ℕ → Call
+  -- the step: minutes, values, record, mark, half width
+  step : List ℕ → List ℕ → RunningSums → ℕ → ℕ → Call
+  -- a list of steps from a fresh record: minutes, values, steps
+  steps : List ℕ → List ℕ → List Move → Call
+  -- the sweep: minutes, values, marks, half widths, rows at entry
+  sweep : List ℕ → List ℕ → List ℕ → List ℕ → List ℕ → Call
+  -- the filler: first mark, spacing, position, both lists at entry
+  filler : ℕ → ℕ → ℕ → List ℕ → List ℕ → Call
+  -- what the reader makes of a sheet, under any limits
+  sheet : Limits → List ℕ → Call
+  -- the reader: the sheet and its four lists at entry
+  reader : Limits → List ℕ → List ℕ → List ℕ → List ℕ → List ℕ → Call
+  -- the program: what it reads
+  output : String → Call
+
+pub data Result : Type 0 where
+  estimated : Answer Estimate → Result
+  -- the run's values, and the position at which it begins
+  part : List ℕ → ℕ → Result
+  powers : PowerSums → Result
+  stepped : Answer RunningSums → Result
+  -- the record and the book after a list of steps
+  logged : RunningSums → EventLog → Result
+  -- passes, and rows at exit
+  swept : Answer ℕ → List ℕ → Result
+  -- both lists at exit
+  filled : Answer Unit → List ℕ → List ℕ → Result
+  outcome : Answer Contents → Result
+  -- the four lists at exit
+  read-into : Answer Counts → Contents → Result
+  written : List ℕ → Result
+
+abbrev pub result : Call → Result
+result (row ts vs z h) = estimated (evaluate full ts vs z h)
+result (run ts vs z h) = part (window full ts vs z h) (window-start full ts vs z h)
+result (sums ts vs z h) = powers (power-sums ts vs (left-of ts z h) (length (window full ts vs z h)))
+result (step ts vs r z h) = stepped (advance ts vs r z h)
+result (steps ts vs ms) = logged (after ts vs fresh ms) (log-after ts vs empty-log ms)
+result (sweep ts vs zs hs rs) = swept (smooth full ts vs zs hs rs) (smooth-rows full ts vs zs hs rs)
+result (filler z₀ d k zs hs) = filled (fill full z₀ d k zs hs) (fill-points full z₀ d k zs hs) (fill-bandwidths full z₀ d k zs hs)
+result (sheet L s) = outcome (read-sheet L s)
+result (reader L s ts vs zs hs) =
+    let o = read L s ts vs zs hs in
+    read-into (counts o)
+    (record {
+      minutes = filled-front o (λ c. c .minutes) ts;
+      values = filled-front o (λ c. c .values) vs;
+      points = filled-front o (λ c. c .points) zs;
+      bandwidths = filled-front o (λ c. c .bandwidths) hs;
+    })
+result (output s) = written (program (ascii s))
+
+pub record Case : Type 0 where
+  pub call : Call
+  pub expected : Result
+
+infix 90 _⇒_
+abbrev pub _⇒_ : Call → Result → Case
+c ⇒ e = record { call = c; expected = e }
+
+-- every case of the list gives what it should
+abbrev pub AllHold : List Case → Type 0
+AllHold cs = map (λ (c : Case). result (c .call)) cs ≡ map (λ (c : Case). c .expected) cs
+
+-- a row; 65,536 stands for missing
+abbrev pub is-row : ℕ → ℕ → ℕ → ℕ → ℕ → Answer Estimate
+is-row left right weight sum value = given (record { left = left; right = right; weight = weight; sum = sum; value = value })
+
+-- a report's number and place
+abbrev pub is-report : {A : Type 0} → ℕ → ℕ → Answer A
+is-report n p = refused (record { number = n; place = p })
+
+abbrev pub is-sums : ℕ → ℕ → ℕ → ℕ → ℕ → ℕ → PowerSums
+is-sums a b c d e f = record { s00 = a; s10 = b; s20 = c; s01 = d; s11 = e; s21 = f }
+
+abbrev pub is-record : ℕ → ℕ → PowerSums → RunningSums
+is-record l r s = record { left = l; right = r; sums = s }
+
+abbrev pub contents : List ℕ → List ℕ → List ℕ → List ℕ → Contents
+contents ts vs zs hs = record { minutes = ts; values = vs; points = zs; bandwidths = hs }

@@ -1,0 +1,72 @@
+-- Document 01, "The row of a mark": window, left, right, run, weight, sum, value, row.
+-- t is a minute, z a mark, h a half width; ts are the minutes of the readings and vs their values.
+use Prim.Native.Nat.{ℕ, zero, suc, _+_, _-_, _*_, _/_, _%_, _≤_}
+use mathlib.Core.List.{List, [], _∷_, _++_}
+use lib.Dec.{ltb, leb, eqb}
+use lib.ListN.{length, getD}
+use lib.Seq.{slice}
+use Rattle.meanings.specs.declared.Estimate.{Estimate}
+use Rattle.meanings.specs.Lists.{pick, count, total, distance}
+
+-- the minute lies in the closed window from z − h to z + h
+abbrev pub Inside : ℕ → ℕ → ℕ → Type 0
+Inside z h t = (z ≤ t + h) × (t ≤ z + h)
+
+-- left: how many readings have minute + h < z
+abbrev pub left-of : List ℕ → ℕ → ℕ → ℕ
+left-of ts z h = count (λ t. ltb (t + h) z) ts
+
+-- right: how many have minute ≤ z + h
+abbrev pub right-of : List ℕ → ℕ → ℕ → ℕ
+right-of ts z h = count (λ t. leb t (z + h)) ts
+
+-- the run's values: positions left up to but without right
+abbrev pub run-of : List ℕ → List ℕ → ℕ → ℕ → List ℕ
+run-of ts vs z h = slice (left-of ts z h) (right-of ts z h) vs
+
+-- h² − (minute − z)²; the law kernel-exact says that inside the window nothing is cut off at 0
+abbrev pub kernel : ℕ → ℕ → ℕ → ℕ
+kernel z h t = h * h - distance t z * distance t z
+
+-- the sum of g over the positions of the run
+abbrev pub over-run : (ℕ → ℕ) → List ℕ → ℕ → ℕ → ℕ
+over-run g ts z h = total g (left-of ts z h) (right-of ts z h - left-of ts z h)
+
+-- weight: the sum over the run of h² − (minute − z)²
+unfoldable pub weight-of : List ℕ → ℕ → ℕ → ℕ
+weight-of ts z h = over-run (λ i. kernel z h (getD ts i 0)) ts z h
+
+-- sum: the same weights, each times its reading's value
+unfoldable pub sum-of : List ℕ → List ℕ → ℕ → ℕ → ℕ
+sum-of ts vs z h = over-run (λ i. kernel z h (getD ts i 0) * getD vs i 0) ts z h
+
+-- s divided by w to the nearest whole number, halves upward
+unfoldable pub rounded : ℕ → ℕ → ℕ
+rounded s w = pick (leb w (2 * (s % w))) (s / w + 1) (s / w)
+
+-- the number that means missing
+abbrev pub missing : ℕ
+missing = 65536
+
+-- value: sum divided by weight, rounded; missing if the weight is 0
+unfoldable pub value-of : ℕ → ℕ → ℕ
+value-of s w = pick (eqb w 0) missing (rounded s w)
+
+-- the row of a mark
+unfoldable pub estimate : List ℕ → List ℕ → ℕ → ℕ → Estimate
+estimate ts vs z h = record {
+  left = left-of ts z h;
+  right = right-of ts z h;
+  weight = weight-of ts z h;
+  sum = sum-of ts vs z h;
+  value = value-of (sum-of ts vs z h) (weight-of ts z h);
+}
+
+-- a row as five numbers
+abbrev pub fields : Estimate → List ℕ
+fields e = e .left ∷ e .right ∷ e .weight ∷ e .sum ∷ e .value ∷ []
+
+-- the flat list of the rows of the first n marks, zs with half widths hs
+abbrev pub rows : List ℕ → List ℕ → List ℕ → List ℕ → ℕ → List ℕ
+rows ts vs zs hs zero = []
+rows ts vs zs hs (suc n) = rows ts vs zs hs n ++ fields (estimate ts vs (getD zs n 0) (getD hs n 0))

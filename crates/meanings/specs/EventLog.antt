@@ -1,0 +1,67 @@
+-- Document 01, the plain book kept beside a list of steps. It is fed each step's readings, mark and half width, and never the record.
+use Prim.Native.Nat.{ℕ, zero, suc, _+_}
+use mathlib.Core.Bool.{Bool, true, false, not, _&&_, _||_}
+use mathlib.Core.List.{List, [], _∷_, _++_}
+use mathlib.Core.Option.{Option}
+use lib.Dec.{ltb, leb, eqb}
+use lib.ListN.{length, getD}
+use Rattle.meanings.specs.Lists.{pick}
+use Rattle.meanings.specs.Limits.{full}
+use Rattle.meanings.specs.Moves.{Move}
+use Rattle.meanings.specs.Reports.{Fault, first-of, accepted-or, log-checks}
+
+-- the book: the positions taken and those let go, each in the order in which they were added
+pub record EventLog : Type 0 where
+  pub inserted : List ℕ
+  pub evicted : List ℕ
+
+-- both empty at first
+abbrev pub empty-log : EventLog
+empty-log = record { inserted = []; evicted = [] }
+
+abbrev pub listed : ℕ → List ℕ → Bool
+listed i [] = false
+listed i (x ∷ xs) = eqb i x || listed i xs
+
+-- the positions 0 to n - 1 at which the test is true, lowest first
+abbrev pub positions : (ℕ → Bool) → ℕ → List ℕ
+positions p zero = []
+positions p (suc n) = positions p n ++ pick (p n) (n ∷ []) []
+
+-- what an accepted step adds to taken: every position not yet there whose minute ≤ z + h
+abbrev pub insertions : List ℕ → EventLog → Move → List ℕ
+insertions ts b m =
+    positions (λ i. not (listed i (b .inserted)) && leb (getD ts i 0) (m .point + m .bandwidth)) (length ts)
+
+abbrev pub with-insertions : List ℕ → EventLog → Move → List ℕ
+with-insertions ts b m = b .inserted ++ insertions ts b m
+
+-- then to let go: every position of taken not yet in let go whose minute + h < z
+abbrev pub evictions : List ℕ → EventLog → Move → List ℕ
+evictions ts b m =
+    positions
+    (λ i. listed i (with-insertions ts b m) && not (listed i (b .evicted)) && ltb (getD ts i 0 + m .bandwidth) (m .point))
+    (length ts)
+
+-- the book's own refusal: the first of 8, 6 and 9 that holds of what the step is fed
+abbrev pub log-refusal : List ℕ → List ℕ → Move → Option Fault
+log-refusal ts vs m = first-of (log-checks full ts vs (m .bandwidth))
+
+-- the book after a step: both lists stay where it is refused
+abbrev pub log-step : List ℕ → List ℕ → EventLog → Move → EventLog
+log-step ts vs b m =
+    accepted-or (log-refusal ts vs m)
+    (record { inserted = with-insertions ts b m; evicted = b .evicted ++ evictions ts b m })
+    b
+
+-- the book after a list of steps
+abbrev pub log-after : List ℕ → List ℕ → EventLog → List Move → EventLog
+log-after ts vs b [] = b
+log-after ts vs b (m ∷ ms) = log-after ts vs (log-step ts vs b m) ms
+
+-- takings and lettings
+abbrev pub takings : EventLog → ℕ
+takings b = length (b .inserted)
+
+abbrev pub lettings : EventLog → ℕ
+lettings b = length (b .evicted)

@@ -1,0 +1,17 @@
+pub mod Bytes
+pub mod Calls
+pub mod Cases
+pub mod Document
+pub mod Estimate
+pub mod EventLog
+pub mod Grid
+pub mod Limits
+pub mod Lists
+pub mod Moves
+pub mod Output
+pub mod OwnCases
+pub mod Published
+pub mod Reports
+pub mod Running
+pub mod Sheet
+pub mod SheetForm

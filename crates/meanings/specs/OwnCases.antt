@@ -1,0 +1,211 @@
+-- Cases of our own: the closed right edge, which C1 to C12 leave open, and each report of each call that can give it, with its place and
+-- with the reports that are looked at before and after it.
+use Prim.Native.Nat.{ℕ, _^_, _-_}
+use mathlib.Core.List.{List, [], _∷_, _++_}
+use lib.ListN.{replicate}
+use Rattle.meanings.specs.declared.RunningSums.{RunningSums}
+use Rattle.meanings.specs.Limits.{Limits, full}
+use Rattle.meanings.specs.Bytes.{ascii}
+use Rattle.meanings.specs.Moves.{Move}
+use Rattle.meanings.specs.Reports.{given}
+use Rattle.meanings.specs.EventLog.{EventLog}
+use Rattle.meanings.specs.Cases.{Case, _⇒_, row, run, sums, step, steps, sweep, filler, sheet, reader, output, estimated, part, powers, stepped, logged, swept, filled, outcome, read-into, written, is-row, is-report, is-sums, is-record, contents}
+
+abbrev fives : ℕ → List ℕ
+fives n = replicate n 5
+
+abbrev small : Limits
+small = record { samples = 2; points = 2 }
+
+abbrev move : ℕ → ℕ → Move
+move z h = record { point = z; bandwidth = h }
+
+abbrev log : List ℕ → List ℕ → EventLog
+log a b = record { inserted = a; evicted = b }
+
+-- a record of no run of steps, with sums that wrap
+abbrev any-record : RunningSums
+any-record = is-record 1 2 (is-sums 0 1 5 (2 ^ 64 - 1) 0 7)
+
+abbrev pub one-point-cases : List Case
+one-point-cases =
+    -- a reading on the right edge is inside
+    row (30 ∷ []) (40 ∷ []) 20 10 ⇒ estimated (is-row 0 1 0 0 65536)
+    ∷ sums (30 ∷ []) (40 ∷ []) 20 10 ⇒ powers (is-sums 1 30 900 40 1200 36000)
+    ∷ run (30 ∷ []) (40 ∷ []) 20 10 ⇒ part (40 ∷ []) 0
+    -- outside on either side
+    ∷ row (9 ∷ 31 ∷ []) (1 ∷ 2 ∷ []) 20 10 ⇒ estimated (is-row 1 1 0 0 65536)
+    ∷ run (1 ∷ 10 ∷ 20 ∷ 31 ∷ []) (4 ∷ 5 ∷ 6 ∷ 7 ∷ []) 20 10 ⇒ part (5 ∷ 6 ∷ []) 1
+    ∷ row (0 ∷ 0 ∷ 0 ∷ []) (2 ∷ 2 ∷ 3 ∷ []) 0 1 ⇒ estimated (is-row 0 3 3 7 2)
+    -- 8, 6, 4, 9
+    ∷ row (1 ∷ 0 ∷ []) (1 ∷ []) 0 0 ⇒ estimated (is-report 8 0)
+    ∷ row (1 ∷ []) (1 ∷ 2 ∷ []) 0 1 ⇒ estimated (is-report 8 0)
+    ∷ row (1 ∷ replicate 1024 0) (replicate 1025 0) 0 0 ⇒ estimated (is-report 6 0)
+    ∷ row (replicate 1024 3) (replicate 1024 4) 3 1 ⇒ estimated (is-row 0 1024 1024 4096 4)
+    ∷ row (1 ∷ 2 ∷ 1 ∷ 0 ∷ []) (1 ∷ 1 ∷ 1 ∷ 1 ∷ []) 0 0 ⇒ estimated (is-report 4 2)
+    ∷ row (1 ∷ 1 ∷ []) (1 ∷ 1 ∷ []) 0 0 ⇒ estimated (is-report 9 0)
+    ∷ row [] [] 0 65537 ⇒ estimated (is-report 9 0)
+    ∷ row [] [] 0 65536 ⇒ estimated (is-row 0 0 0 0 65536)
+    ∷ run (2 ∷ 1 ∷ []) (1 ∷ 1 ∷ []) 0 9 ⇒ part [] 0
+    ∷ []
+
+abbrev pub step-cases : List Case
+step-cases =
+    -- sums of any record, modulo 2^64: readings 1 and 2 are taken in at positions 2 and 3, reading 1 is let go
+    step (1 ∷ 2 ∷ 3 ∷ 5 ∷ 9 ∷ []) (1 ∷ 1 ∷ 2 ∷ 1 ∷ 1 ∷ []) any-record 5 2
+    ⇒ stepped (given (is-record 2 4 (is-sums 1 7 35 1 9 46)))
+    -- new right first: left runs up to it (C9)
+    ∷ step (50 ∷ []) (9 ∷ []) (is-record 0 0 (is-sums 0 0 0 0 0 0)) 100 1
+    ⇒ stepped (given (is-record 1 1 (is-sums 0 0 0 0 0 0)))
+    -- both edges are closed
+    ∷ step (10 ∷ 30 ∷ []) (1 ∷ 1 ∷ []) (is-record 0 0 (is-sums 0 0 0 0 0 0)) 20 10
+    ⇒ stepped (given (is-record 0 2 (is-sums 2 40 1000 2 40 1000)))
+    -- order is not checked: the search stops at the first minute over the edge
+    ∷ step (1 ∷ 9 ∷ 1 ∷ []) (1 ∷ 1 ∷ 1 ∷ []) (is-record 0 0 (is-sums 0 0 0 0 0 0)) 1 1
+    ⇒ stepped (given (is-record 0 1 (is-sums 1 1 1 1 1 1)))
+    ∷ step (0 ∷ 9 ∷ 0 ∷ []) (1 ∷ 1 ∷ 1 ∷ []) (is-record 0 3 (is-sums 3 9 81 3 9 81)) 9 1
+    ⇒ stepped (given (is-record 1 3 (is-sums 2 9 81 2 9 81)))
+    -- 8, 6, 11, 9
+    ∷ step (1 ∷ []) [] (is-record 1 0 (is-sums 0 0 0 0 0 0)) 0 0 ⇒ stepped (is-report 8 0)
+    ∷ step (replicate 1025 0) (replicate 1025 0) (is-record 1 0 (is-sums 0 0 0 0 0 0)) 0 0
+    ⇒ stepped (is-report 6 0)
+    ∷ step (1 ∷ []) (1 ∷ []) (is-record 1 0 (is-sums 0 0 0 0 0 0)) 0 0 ⇒ stepped (is-report 11 0)
+    ∷ step (1 ∷ []) (1 ∷ []) (is-record 0 2 (is-sums 0 0 0 0 0 0)) 0 0 ⇒ stepped (is-report 11 0)
+    ∷ step (1 ∷ []) (1 ∷ []) (is-record 1 1 (is-sums 0 0 0 0 0 0)) 0 0 ⇒ stepped (is-report 9 0)
+    ∷ step (1 ∷ []) (1 ∷ []) (is-record 1 1 (is-sums 0 0 0 0 0 0)) 0 65537 ⇒ stepped (is-report 9 0)
+    -- accepted, refused, accepted; readings enter and leave, and one is jumped over
+    ∷ steps (1 ∷ 5 ∷ 9 ∷ []) (1 ∷ 2 ∷ 3 ∷ []) [] ⇒ logged (is-record 0 0 (is-sums 0 0 0 0 0 0)) (log [] [])
+    ∷ steps (1 ∷ 5 ∷ 9 ∷ []) (1 ∷ 2 ∷ 3 ∷ []) (move 2 1 ∷ move 3 0 ∷ move 9 1 ∷ [])
+    ⇒ logged (is-record 2 3 (is-sums 1 9 81 3 27 243)) (log (0 ∷ 1 ∷ 2 ∷ []) (0 ∷ 1 ∷ []))
+    ∷ steps (1 ∷ 5 ∷ 9 ∷ []) (1 ∷ 2 ∷ 3 ∷ []) (move 4 3 ∷ move 5 0 ∷ [])
+    ⇒ logged (is-record 0 2 (is-sums 2 6 26 3 11 51)) (log (0 ∷ 1 ∷ []) [])
+    -- 8 and 6: every step is refused, and the book stays
+    ∷ steps (1 ∷ []) [] (move 1 1 ∷ move 2 1 ∷ []) ⇒ logged (is-record 0 0 (is-sums 0 0 0 0 0 0)) (log [] [])
+    ∷ steps (replicate 1025 0) (replicate 1025 0) (move 0 1 ∷ [])
+    ⇒ logged (is-record 0 0 (is-sums 0 0 0 0 0 0)) (log [] [])
+    -- the book goes by minutes, not by positions, and adds the lowest position first
+    ∷ []
+
+abbrev pub sweep-cases : List Case
+sweep-cases =
+    -- 8, 6, 7, 4, 5, 9, 10
+    sweep (1 ∷ []) [] [] [] [] ⇒ swept (is-report 8 0) []
+    ∷ sweep [] [] (1 ∷ []) [] (fives 5) ⇒ swept (is-report 8 0) (fives 5)
+    ∷ sweep [] [] (1 ∷ []) (1 ∷ []) (fives 4) ⇒ swept (is-report 8 0) (fives 4)
+    ∷ sweep [] [] (1 ∷ []) (1 ∷ []) (fives 6) ⇒ swept (is-report 8 0) (fives 6)
+    ∷ sweep (replicate 1025 0) (replicate 1025 0) [] [] [] ⇒ swept (is-report 6 0) []
+    ∷ sweep (1 ∷ 0 ∷ []) (0 ∷ 0 ∷ []) (replicate 513 0) (replicate 513 0) (fives 2565)
+    ⇒ swept (is-report 6 0) (fives 2565)
+    ∷ sweep (1 ∷ 0 ∷ []) (0 ∷ 0 ∷ []) [] [] [] ⇒ swept (is-report 7 0) []
+    ∷ sweep (1 ∷ 2 ∷ 1 ∷ 0 ∷ []) (0 ∷ 0 ∷ 0 ∷ 0 ∷ []) (1 ∷ 0 ∷ []) (1 ∷ 1 ∷ []) (fives 10)
+    ⇒ swept (is-report 4 2) (fives 10)
+    ∷ sweep [] [] (1 ∷ 1 ∷ 0 ∷ []) (0 ∷ 1 ∷ 1 ∷ []) (fives 15) ⇒ swept (is-report 5 2) (fives 15)
+    ∷ sweep [] [] (0 ∷ 0 ∷ 0 ∷ []) (3 ∷ 2 ∷ 0 ∷ []) (fives 15) ⇒ swept (is-report 9 2) (fives 15)
+    ∷ sweep [] [] (0 ∷ 0 ∷ []) (65537 ∷ 65536 ∷ []) (fives 10) ⇒ swept (is-report 9 0) (fives 10)
+    ∷ sweep [] [] (5 ∷ 5 ∷ 6 ∷ []) (9 ∷ 9 ∷ 7 ∷ []) (fives 15) ⇒ swept (is-report 10 2) (fives 15)
+    ∷ sweep [] [] (5 ∷ 6 ∷ []) (9 ∷ 8 ∷ []) (fives 10)
+    ⇒ swept (given 0) (0 ∷ 0 ∷ 0 ∷ 0 ∷ 65536 ∷ 0 ∷ 0 ∷ 0 ∷ 0 ∷ 65536 ∷ [])
+    -- a reading taken in and let go, one jumped over, one left
+    ∷ sweep (1 ∷ 5 ∷ 9 ∷ []) (1 ∷ 2 ∷ 3 ∷ []) (2 ∷ 9 ∷ []) (2 ∷ 2 ∷ []) (fives 10)
+    ⇒ swept (given 5) (0 ∷ 1 ∷ 3 ∷ 3 ∷ 1 ∷ 2 ∷ 3 ∷ 4 ∷ 12 ∷ 3 ∷ [])
+    ∷ []
+
+abbrev pub fill-cases : List Case
+fill-cases =
+    -- 8, 7, 6, 12, 13
+    filler 0 0 12 [] (7 ∷ []) ⇒ filled (is-report 8 0) [] (7 ∷ [])
+    ∷ filler 0 0 12 (7 ∷ 7 ∷ []) (7 ∷ []) ⇒ filled (is-report 8 0) (7 ∷ 7 ∷ []) (7 ∷ [])
+    ∷ filler 0 0 12 [] [] ⇒ filled (is-report 7 0) [] []
+    ∷ filler 0 0 12 (fives 513) (fives 513) ⇒ filled (is-report 6 0) (fives 513) (fives 513)
+    ∷ filler 65535 1 12 (7 ∷ 7 ∷ []) (7 ∷ 7 ∷ []) ⇒ filled (is-report 12 0) (7 ∷ 7 ∷ []) (7 ∷ 7 ∷ [])
+    ∷ filler 65534 1 0 (7 ∷ 7 ∷ 7 ∷ []) (7 ∷ 7 ∷ 7 ∷ [])
+    ⇒ filled (is-report 13 0) (7 ∷ 7 ∷ 7 ∷ []) (7 ∷ 7 ∷ 7 ∷ [])
+    ∷ filler 65533 1 11 (7 ∷ 7 ∷ 7 ∷ []) (7 ∷ 7 ∷ 7 ∷ [])
+    ⇒ filled (given tt) (65533 ∷ 65534 ∷ 65535 ∷ []) (1440 ∷ 1440 ∷ 1440 ∷ [])
+    ∷ filler 100 30 2 (7 ∷ 7 ∷ 7 ∷ []) (7 ∷ 7 ∷ 7 ∷ [])
+    ⇒ filled (given tt) (100 ∷ 130 ∷ 160 ∷ []) (60 ∷ 60 ∷ 60 ∷ [])
+    ∷ []
+
+-- a sheet with a mark before its readings
+abbrev readings : List ℕ → List ℕ
+readings ls = ascii "mark,half\n0,1\n\nminute,inj,vdk\n" ++ ls
+
+abbrev pub sheet-cases : List Case
+sheet-cases =
+    -- 1
+    sheet full (replicate 32769 10) ⇒ outcome (is-report 1 32768)
+    ∷ sheet full (replicate 32768 10) ⇒ outcome (is-report 2 0)
+    -- 2
+    ∷ sheet full (ascii "mark,half") ⇒ outcome (is-report 2 0)
+    ∷ sheet full (ascii "mark,hal\n") ⇒ outcome (is-report 2 0)
+    ∷ sheet full (ascii "mark,halff\n") ⇒ outcome (is-report 2 0)
+    ∷ sheet full (ascii "mark,half\n0,1\n\n") ⇒ outcome (is-report 2 15)
+    ∷ sheet full (ascii "mark,half\n0,1\n\nminute,inj,vdk") ⇒ outcome (is-report 2 15)
+    ∷ sheet full (ascii "mark,half\n0,1\n\nminute,inj,vdl\n1\n") ⇒ outcome (is-report 2 15)
+    -- 3, mark lines
+    ∷ sheet full (ascii "mark,half\n") ⇒ outcome (is-report 3 10)
+    ∷ sheet full (ascii "mark,half\n0,1\n") ⇒ outcome (is-report 3 14)
+    ∷ sheet full (ascii "mark,half\n0,1") ⇒ outcome (is-report 3 10)
+    ∷ sheet full (ascii "mark,half\n0\n") ⇒ outcome (is-report 3 10)
+    ∷ sheet full (ascii "mark,half\n0,1,2\n") ⇒ outcome (is-report 3 10)
+    ∷ sheet full (ascii "mark,half\n00,1\n") ⇒ outcome (is-report 3 10)
+    ∷ sheet full (ascii "mark,half\n,1\n") ⇒ outcome (is-report 3 10)
+    ∷ sheet full (ascii "mark,half\n0,1:\n") ⇒ outcome (is-report 3 10)
+    ∷ sheet full (ascii "mark,half\n0,/1\n") ⇒ outcome (is-report 3 10)
+    ∷ sheet full (ascii "mark,half\n65536,1\n") ⇒ outcome (is-report 3 10)
+    ∷ sheet full (ascii "mark,half\n0,100000\n") ⇒ outcome (is-report 3 10)
+    ∷ sheet full (ascii "mark,half\n0,1 \n") ⇒ outcome (is-report 3 10)
+    -- 3, reading lines
+    ∷ sheet full (readings (ascii "0,3,1")) ⇒ outcome (is-report 3 30)
+    ∷ sheet full (readings (ascii "\n")) ⇒ outcome (is-report 3 30)
+    ∷ sheet full (readings (ascii "0,3\n")) ⇒ outcome (is-report 3 30)
+    ∷ sheet full (readings (ascii "0\n")) ⇒ outcome (is-report 3 30)
+    ∷ sheet full (readings (ascii "0,3,1,1\n")) ⇒ outcome (is-report 3 30)
+    ∷ sheet full (readings (ascii "0,3,1\n0,0,1\n")) ⇒ outcome (is-report 3 36)
+    ∷ sheet full (readings (ascii "0,65536,1\n")) ⇒ outcome (is-report 3 30)
+    ∷ sheet full (readings (ascii "65536,3,1\n")) ⇒ outcome (is-report 3 30)
+    ∷ sheet full (readings (ascii "0,3,65536\n")) ⇒ outcome (is-report 3 30)
+    ∷ sheet full (readings (ascii ",3,1\n")) ⇒ outcome (is-report 3 30)
+    ∷ sheet full (readings (ascii "0,03,1\n")) ⇒ outcome (is-report 3 30)
+    ∷ sheet full (readings (ascii "0,3,\n")) ⇒ outcome (is-report 3 30)
+    -- 4: against a dropped line too
+    ∷ sheet full (readings (ascii "9,1,0\n8,3,0\n")) ⇒ outcome (is-report 4 36)
+    -- 5, 9, 10, 6 of a mark line
+    ∷ sheet small (ascii "mark,half\n5,1\n4,0\n") ⇒ outcome (is-report 5 14)
+    ∷ sheet small (ascii "mark,half\n5,9\n5,0\n") ⇒ outcome (is-report 9 14)
+    ∷ sheet small (ascii "mark,half\n5,99999\n") ⇒ outcome (is-report 9 10)
+    ∷ sheet small (ascii "mark,half\n5,65537\n") ⇒ outcome (is-report 9 10)
+    ∷ sheet small (ascii "mark,half\n5,1\n5,1\n5,2\n") ⇒ outcome (is-report 10 18)
+    ∷ sheet small (ascii "mark,half\n5,2\n5,1\n") ⇒ outcome (is-report 10 14)
+    ∷ sheet small (ascii "mark,half\n5,1\n5,1\n5,1\n") ⇒ outcome (is-report 6 18)
+    -- 4, 6 of a reading line; dropped lines don't count
+    ∷ sheet small (readings (ascii "1,3,0\n1,3,0\n0,3,0\n")) ⇒ outcome (is-report 4 42)
+    ∷ sheet small (readings (ascii "1,3,0\n1,3,0\n1,3,0\n")) ⇒ outcome (is-report 6 42)
+    ∷ sheet small (readings (ascii "1,3,5\n1,2,6\n1,1,7\n1,4,8\n1,2,9\n"))
+    ⇒ outcome (given (contents (1 ∷ 1 ∷ []) (5 ∷ 8 ∷ []) (0 ∷ []) (1 ∷ [])))
+    -- 7, before anything after it
+    ∷ sheet full (ascii "mark,half\n\n") ⇒ outcome (is-report 7 10)
+    -- the greatest of each number
+    ∷ sheet full (ascii "mark,half\n0,65536\n65535,65536\n\nminute,inj,vdk\n65535,65535,65535\n")
+    ⇒ outcome (given (contents (65535 ∷ []) (65535 ∷ []) (0 ∷ 65535 ∷ []) (65536 ∷ 65536 ∷ [])))
+    -- no readings
+    ∷ sheet full (readings []) ⇒ outcome (given (contents [] [] (0 ∷ []) (1 ∷ [])))
+    -- 8 (its four lengths) before all else, and the lists at exit
+    ∷ reader small [] (7 ∷ []) (7 ∷ 7 ∷ []) (7 ∷ 7 ∷ []) (7 ∷ 7 ∷ [])
+    ⇒ read-into (is-report 8 0) (contents (7 ∷ []) (7 ∷ 7 ∷ []) (7 ∷ 7 ∷ []) (7 ∷ 7 ∷ []))
+    ∷ reader small [] (7 ∷ 7 ∷ []) (7 ∷ 7 ∷ 7 ∷ []) (7 ∷ 7 ∷ []) (7 ∷ 7 ∷ [])
+    ⇒ read-into (is-report 8 0) (contents (7 ∷ 7 ∷ []) (7 ∷ 7 ∷ 7 ∷ []) (7 ∷ 7 ∷ []) (7 ∷ 7 ∷ []))
+    ∷ reader small [] (7 ∷ 7 ∷ []) (7 ∷ 7 ∷ []) (7 ∷ []) (7 ∷ 7 ∷ [])
+    ⇒ read-into (is-report 8 0) (contents (7 ∷ 7 ∷ []) (7 ∷ 7 ∷ []) (7 ∷ []) (7 ∷ 7 ∷ []))
+    ∷ reader small [] (7 ∷ 7 ∷ []) (7 ∷ 7 ∷ []) (7 ∷ 7 ∷ []) []
+    ⇒ read-into (is-report 8 0) (contents (7 ∷ 7 ∷ []) (7 ∷ 7 ∷ []) (7 ∷ 7 ∷ []) [])
+    ∷ reader small (ascii "mark,half\n0,1\n") (7 ∷ 7 ∷ []) (7 ∷ 7 ∷ []) (7 ∷ 7 ∷ []) (7 ∷ 7 ∷ [])
+    ⇒ read-into (is-report 3 14) (contents (7 ∷ 7 ∷ []) (7 ∷ 7 ∷ []) (7 ∷ 7 ∷ []) (7 ∷ 7 ∷ []))
+    ∷ reader small (readings (ascii "4,3,5\n")) (6 ∷ 6 ∷ []) (7 ∷ 7 ∷ []) (8 ∷ 8 ∷ []) (9 ∷ 9 ∷ [])
+    ⇒ read-into (given (record { samples = 1; points = 1 })) (contents (4 ∷ 6 ∷ []) (5 ∷ 7 ∷ []) (0 ∷ 8 ∷ []) (1 ∷ 9 ∷ []))
+    -- what the program writes of a refusal
+    ∷ output "mark,half\n20,10\n21,12\n" ⇒ written (ascii "refused,place\n10,16\n")
+    ∷ []
+
+abbrev pub own-cases : List Case
+own-cases = one-point-cases ++ step-cases ++ sweep-cases ++ fill-cases ++ sheet-cases

@@ -1,0 +1,163 @@
+-- Document 01, "What the instrument reports": the thirteen reports' numbers, conditions and places, and for each call the order in which
+-- they are looked at. A call is refused with the first check of its list that holds.
+use Prim.Native.Nat.{ℕ, zero, suc, _+_, _-_, _*_}
+use mathlib.Core.Bool.{Bool, true, false, _||_}
+use mathlib.Core.List.{List, [], _∷_}
+use mathlib.Core.Option.{Option, none, some}
+use lib.Dec.{ltb, leb, eqb}
+use lib.ListN.{length, getD}
+use Rattle.meanings.specs.declared.Report.{Report}
+use Rattle.meanings.specs.declared.Report.the-variants.{TooLong, BadHeader, MalformedLine, SampleOutOfOrder, PointOutOfOrder, TooMany, NoPoints, LengthMismatch, BandwidthOutOfRange, EdgeDecreases, InvalidRecord, UnknownPreset, GridOverflow}
+use Rattle.meanings.specs.declared.Refusal.{Refusal}
+use Rattle.meanings.specs.Lists.{pick, lowest}
+use Rattle.meanings.specs.Limits.{Limits, max-u16, max-bandwidth}
+
+-- the report's number in document 01
+abbrev pub number : Report → ℕ
+number TooLong = 1
+number BadHeader = 2
+number MalformedLine = 3
+number SampleOutOfOrder = 4
+number PointOutOfOrder = 5
+number TooMany = 6
+number NoPoints = 7
+number LengthMismatch = 8
+number BandwidthOutOfRange = 9
+number EdgeDecreases = 10
+number InvalidRecord = 11
+number UnknownPreset = 12
+number GridOverflow = 13
+
+-- what a refusal returns: a report's number and place
+pub record Fault : Type 0 where
+  pub number : ℕ
+  pub place : ℕ
+
+-- a refusal of the code in document 01's numbers
+abbrev pub told : Refusal → Fault
+told r = record { number = number (r .report); place = r .place }
+
+-- what a call answers: a value, or a report
+pub data Answer (A : Type 0) : Type 0 where
+  given : A → Answer A
+  refused : Fault → Answer A
+
+abbrev pub unless : {A : Type 0} → Option Fault → A → Answer A
+unless none a = given a
+unless (some e) a = refused e
+
+-- what a lent list holds at exit: a where the call is accepted, b where it is refused
+abbrev pub accepted-or : {A : Type 0} → Option Fault → A → A → A
+accepted-or none a b = a
+accepted-or (some e) a b = b
+
+-- a report's number, and the place at which its condition holds, if it does
+pub record Check : Type 0 where
+  pub report : ℕ
+  pub place : Option ℕ
+
+abbrev pub report : ℕ → Option ℕ → Check
+report n p = record { report = n; place = p }
+
+-- a condition with one place
+abbrev pub at : ℕ → Bool → Option ℕ
+at p c = pick c (some p) none
+
+abbrev pub or-later : ℕ → Option ℕ → Option Fault → Option Fault
+or-later n none later = later
+or-later n (some p) later = some (record { number = n; place = p })
+
+-- the first check of the list that holds
+abbrev pub first-of : List Check → Option Fault
+first-of [] = none
+first-of (c ∷ cs) = or-later (c .report) (c .place) (first-of cs)
+
+-- two list lengths don't agree
+abbrev pub differ : ℕ → ℕ → Bool
+differ m n = ltb m n || ltb n m
+
+-- reports 4 and 5: position k is below the one before
+abbrev pub decreases : List ℕ → ℕ → Bool
+decreases xs zero = false
+decreases xs (suc k) = ltb (getD xs (suc k) 0) (getD xs k 0)
+
+-- report 9: a half width of 0 or over 65,536
+abbrev pub bad-bandwidth : ℕ → Bool
+bad-bandwidth h = eqb h 0 || ltb max-bandwidth h
+
+-- the left edge z − h lies below z′ − h′, said without negative numbers
+abbrev pub left-edge-below : ℕ → ℕ → ℕ → ℕ → Bool
+left-edge-below z h z′ h′ = ltb (z + h′) (z′ + h)
+
+-- the right edge z + h lies below z′ + h′
+abbrev pub right-edge-below : ℕ → ℕ → ℕ → ℕ → Bool
+right-edge-below z h z′ h′ = ltb (z + h) (z′ + h′)
+
+-- an edge of z and h lies below that of z′ and h′
+abbrev pub edge-below : ℕ → ℕ → ℕ → ℕ → Bool
+edge-below z h z′ h′ = left-edge-below z h z′ h′ || right-edge-below z h z′ h′
+
+-- report 10: at position k an edge lies below the one before
+abbrev pub edge-decreases : List ℕ → List ℕ → ℕ → Bool
+edge-decreases zs hs zero = false
+edge-decreases zs hs (suc k) = edge-below (getD zs (suc k) 0) (getD hs (suc k) 0) (getD zs k 0) (getD hs k 0)
+
+-- report 8 for readings alone: minutes with values
+abbrev pub uneven-samples : List ℕ → List ℕ → Bool
+uneven-samples ts vs = differ (length ts) (length vs)
+
+-- the sweep: 8 (minutes with values, marks with half widths, rows exactly five times marks), 6, 7, 4, 5, 9, 10, lowest position each
+abbrev pub smooth-checks : Limits → List ℕ → List ℕ → List ℕ → List ℕ → List ℕ → List Check
+smooth-checks L ts vs zs hs rs =
+    report 8 (at 0 (uneven-samples ts vs || differ (length zs) (length hs) || differ (length rs) (5 * length zs)))
+    ∷ report 6 (at 0 (ltb (L .samples) (length ts) || ltb (L .points) (length zs)))
+    ∷ report 7 (at 0 (eqb (length zs) 0))
+    ∷ report 4 (lowest (decreases ts) (length ts))
+    ∷ report 5 (lowest (decreases zs) (length zs))
+    ∷ report 9 (lowest (λ k. bad-bandwidth (getD hs k 0)) (length hs))
+    ∷ report 10 (lowest (edge-decreases zs hs) (length zs))
+    ∷ []
+
+-- one mark: 8, 6, 4, 9
+abbrev pub evaluate-checks : Limits → List ℕ → List ℕ → ℕ → List Check
+evaluate-checks L ts vs h =
+    report 8 (at 0 (uneven-samples ts vs))
+    ∷ report 6 (at 0 (ltb (L .samples) (length ts)))
+    ∷ report 4 (lowest (decreases ts) (length ts))
+    ∷ report 9 (at 0 (bad-bandwidth h))
+    ∷ []
+
+-- the step on a record with these edges: 8, 6, 11, 9
+abbrev pub advance-checks : Limits → List ℕ → List ℕ → ℕ → ℕ → ℕ → List Check
+advance-checks L ts vs left right h =
+    report 8 (at 0 (uneven-samples ts vs))
+    ∷ report 6 (at 0 (ltb (L .samples) (length ts)))
+    ∷ report 11 (at 0 (ltb right left || ltb (length ts) right))
+    ∷ report 9 (at 0 (bad-bandwidth h))
+    ∷ []
+
+-- what of these the book looks at, which has no record: 8, 6, 9
+abbrev pub log-checks : Limits → List ℕ → List ℕ → ℕ → List Check
+log-checks L ts vs h =
+    report 8 (at 0 (uneven-samples ts vs))
+    ∷ report 6 (at 0 (ltb (L .samples) (length ts)))
+    ∷ report 9 (at 0 (bad-bandwidth h))
+    ∷ []
+
+-- the filler of n marks and m half widths, with k knob positions: 8, 7, 6, 12, 13
+abbrev pub fill-checks : Limits → ℕ → ℕ → ℕ → ℕ → ℕ → ℕ → List Check
+fill-checks L k z₀ spacing preset n m =
+    report 8 (at 0 (differ n m))
+    ∷ report 7 (at 0 (eqb n 0))
+    ∷ report 6 (at 0 (ltb (L .points) n))
+    ∷ report 12 (at 0 (leb k preset))
+    ∷ report 13 (at 0 (ltb max-u16 (z₀ + (n - 1) * spacing)))
+    ∷ []
+
+-- the reader's lists, before the sheet itself: 8 (its four lengths)
+abbrev pub read-checks : Limits → ℕ → ℕ → ℕ → ℕ → List Check
+read-checks L minutes values points bandwidths =
+    report 8
+    (at 0
+    (differ minutes (L .samples) || differ values (L .samples) || differ points (L .points) || differ bandwidths (L .points)))
+    ∷ []

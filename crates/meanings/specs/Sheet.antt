@@ -1,0 +1,198 @@
+-- Document 01, "The tank sheet": lines, numbers, names lines, and the reader as a function from any list of bytes to a report with its
+-- place or the four lists.
+use Prim.Native.Nat.{ℕ, zero, suc, _+_, _-_, _*_}
+use mathlib.Core.Bool.{Bool, true, false, not, _&&_, _||_}
+use mathlib.Core.List.{List, [], _∷_, _++_}
+use mathlib.Core.Option.{Option, none, some}
+use lib.Dec.{ltb, leb, eqb}
+use lib.ListN.{length, getD}
+use Rattle.meanings.specs.Lists.{pick}
+use Rattle.meanings.specs.Limits.{Limits, max-u16, max-sheet}
+use Rattle.meanings.specs.Moves.{Move}
+use Rattle.meanings.specs.Bytes.{line-feed, comma, zero-digit, nine-digit, point-header, sample-header}
+use Rattle.meanings.specs.Reports.{Fault, Answer, given, refused, Check, report, at, first-of, decreases, bad-bandwidth, edge-decreases}
+
+-- bytes as lines: each text up to a line feed, and at the end nothing or a text without its line feed
+pub data Lines : Type 0 where
+  end : Lines
+  unended : List ℕ → Lines
+  line : List ℕ → Lines → Lines
+
+-- one byte more in front: the line feed that ends an empty text, or the first byte of the text that follows
+abbrev pub with-byte : Bool → ℕ → Lines → Lines
+with-byte true b ls = line [] ls
+with-byte false b end = unended (b ∷ [])
+with-byte false b (unended t) = unended (b ∷ t)
+with-byte false b (line t ls) = line (b ∷ t) ls
+
+abbrev pub lines : List ℕ → Lines
+lines [] = end
+lines (b ∷ bs) = with-byte (eqb b line-feed) b (lines bs)
+
+-- a text as the parts between its commas
+abbrev pub with-part-byte : Bool → ℕ → List (List ℕ) → List (List ℕ)
+with-part-byte true b ps = [] ∷ ps
+with-part-byte false b [] = (b ∷ []) ∷ []
+with-part-byte false b (p ∷ ps) = (b ∷ p) ∷ ps
+
+abbrev pub parts : List ℕ → List (List ℕ)
+parts [] = [] ∷ []
+parts (b ∷ bs) = with-part-byte (eqb b comma) b (parts bs)
+
+abbrev pub digit : ℕ → Bool
+digit b = leb zero-digit b && leb b nine-digit
+
+abbrev pub digits : List ℕ → Bool
+digits [] = true
+digits (b ∷ bs) = digit b && digits bs
+
+-- the number that the digits say, after those that say n
+abbrev pub said : ℕ → List ℕ → ℕ
+said n [] = n
+said n (b ∷ bs) = said (n * 10 + (b - zero-digit)) bs
+
+-- no leading zero, except 0 itself
+abbrev pub plain-front : ℕ → List ℕ → Bool
+plain-front b [] = true
+plain-front b (c ∷ cs) = not (eqb b zero-digit)
+
+-- a number: 1 to 5 digits and no leading zero, except 0 itself
+abbrev pub number-form : List ℕ → Bool
+number-form [] = false
+number-form (b ∷ bs) = digits (b ∷ bs) && leb (length (b ∷ bs)) 5 && plain-front b bs
+
+abbrev pub parsed : List ℕ → Option ℕ
+parsed t = pick (number-form t) (some (said 0 t)) none
+
+-- a mark line's values; its half width has no range here
+abbrev pub ranged-point : Option ℕ → Option ℕ → Option Move
+ranged-point none h = none
+ranged-point (some z) none = none
+ranged-point (some z) (some h) = pick (leb z max-u16) (some (record { point = z; bandwidth = h })) none
+
+abbrev pub two-parts : List (List ℕ) → Option Move
+two-parts [] = none
+two-parts (a ∷ []) = none
+two-parts (a ∷ b ∷ []) = ranged-point (parsed a) (parsed b)
+two-parts (a ∷ b ∷ c ∷ r) = none
+
+abbrev pub point-line : List ℕ → Option Move
+point-line t = two-parts (parts t)
+
+-- a reading line's values: minute, inj, vdk
+pub record Injection : Type 0 where
+  pub minute : ℕ
+  pub injection : ℕ
+  pub value : ℕ
+
+abbrev pub ranged-sample : Option ℕ → Option ℕ → Option ℕ → Option Injection
+ranged-sample none j v = none
+ranged-sample (some t) none v = none
+ranged-sample (some t) (some j) none = none
+ranged-sample (some t) (some j) (some v) =
+    pick (leb t max-u16 && leb 1 j && leb j max-u16 && leb v max-u16)
+    (some (record { minute = t; injection = j; value = v }))
+    none
+
+abbrev pub three-parts : List (List ℕ) → Option Injection
+three-parts [] = none
+three-parts (a ∷ []) = none
+three-parts (a ∷ b ∷ []) = none
+three-parts (a ∷ b ∷ c ∷ []) = ranged-sample (parsed a) (parsed b) (parsed c)
+three-parts (a ∷ b ∷ c ∷ d ∷ r) = none
+
+abbrev pub sample-line : List ℕ → Option Injection
+sample-line t = three-parts (parts t)
+
+-- lines with inj 1 or 2 are not kept
+abbrev pub kept : Injection → Bool
+kept j = ltb 2 (j .injection)
+
+-- what an accepted sheet holds: the kept readings, and the marks with their half widths
+pub record Contents : Type 0 where
+  pub minutes : List ℕ
+  pub values : List ℕ
+  pub points : List ℕ
+  pub bandwidths : List ℕ
+
+-- what the reader makes of a sheet
+abbrev pub Outcome : Type 0
+Outcome = Answer Contents
+
+abbrev pub refused-at : ℕ → ℕ → Outcome
+refused-at p n = refused (record { number = n; place = p })
+
+-- the refusal, if there is one, else what comes next
+abbrev pub or-next : Option Fault → Outcome → Outcome
+or-next none o = o
+or-next (some e) o = refused e
+
+-- a mark line at byte p, after those with the marks zs and half widths hs: 5, 9, 10, 6
+abbrev pub point-checks : Limits → ℕ → List ℕ → List ℕ → Move → List Check
+point-checks L p zs hs m =
+    report 5 (at p (decreases (zs ++ m .point ∷ []) (length zs)))
+    ∷ report 9 (at p (bad-bandwidth (m .bandwidth)))
+    ∷ report 10 (at p (edge-decreases (zs ++ m .point ∷ []) (hs ++ m .bandwidth ∷ []) (length zs)))
+    ∷ report 6 (at p (leb (L .points) (length zs)))
+    ∷ []
+
+-- a reading line at byte p, after lines with the minutes all, of which n are kept: 4, 6
+abbrev pub sample-checks : Limits → ℕ → List ℕ → ℕ → Injection → List Check
+sample-checks L p all n j =
+    report 4 (at p (decreases (all ++ j .minute ∷ []) (length all)))
+    ∷ report 6 (at p (kept j && leb (L .samples) n))
+    ∷ []
+
+-- a line that is no value line is refused with 3; else the first that holds; else what comes next
+abbrev pub with-point : Limits → ℕ → List ℕ → List ℕ → Option Move → (List ℕ → List ℕ → Outcome) → Outcome
+with-point L p zs hs none next = refused-at p 3
+with-point L p zs hs (some m) next =
+    or-next (first-of (point-checks L p zs hs m)) (next (zs ++ m .point ∷ []) (hs ++ m .bandwidth ∷ []))
+
+abbrev pub add-kept : Bool → ℕ → List ℕ → List ℕ
+add-kept b x xs = pick b (xs ++ x ∷ []) xs
+
+abbrev pub with-sample : Limits → ℕ → List ℕ → List ℕ → List ℕ → Option Injection → (List ℕ → List ℕ → List ℕ → Outcome) → Outcome
+with-sample L p all ts vs none next = refused-at p 3
+with-sample L p all ts vs (some j) next =
+    or-next (first-of (sample-checks L p all (length ts) j))
+    (next (all ++ j .minute ∷ []) (add-kept (kept j) (j .minute) ts) (add-kept (kept j) (j .value) vs))
+
+-- the reading lines from byte p on, to the end
+abbrev pub read-samples : Limits → List ℕ → List ℕ → ℕ → List ℕ → List ℕ → List ℕ → Lines → Outcome
+read-samples L zs hs p all ts vs end = given (record { minutes = ts; values = vs; points = zs; bandwidths = hs })
+read-samples L zs hs p all ts vs (unended t) = refused-at p 3
+read-samples L zs hs p all ts vs (line t ls) =
+    with-sample L p all ts vs (sample-line t) (λ all′ ts′ vs′. read-samples L zs hs (p + length t + 1) all′ ts′ vs′ ls)
+
+abbrev pub same : List ℕ → List ℕ → Bool
+same [] [] = true
+same [] (y ∷ ys) = false
+same (x ∷ xs) [] = false
+same (x ∷ xs) (y ∷ ys) = eqb x y && same xs ys
+
+-- the names line at byte p, and what follows it
+abbrev pub header : List ℕ → ℕ → Lines → (ℕ → Lines → Outcome) → Outcome
+header names p end next = refused-at p 2
+header names p (unended t) next = refused-at p 2
+header names p (line t ls) next = pick (same t names) (next (p + length t + 1) ls) (refused-at p 2)
+
+-- the empty line at byte p, and what follows it
+abbrev pub after-points : Limits → ℕ → List ℕ → List ℕ → Lines → Outcome
+after-points L p zs hs ls =
+    pick (eqb (length zs) 0) (refused-at p 7)
+    (header sample-header (p + 1) ls (λ q rest. read-samples L zs hs q [] [] [] rest))
+
+-- the mark lines from byte p on, to the empty line
+abbrev pub read-points : Limits → ℕ → List ℕ → List ℕ → Lines → Outcome
+read-points L p zs hs end = refused-at p 3
+read-points L p zs hs (unended t) = refused-at p 3
+read-points L p zs hs (line [] ls) = after-points L p zs hs ls
+read-points L p zs hs (line (b ∷ t) ls) =
+    with-point L p zs hs (point-line (b ∷ t)) (λ zs′ hs′. read-points L (p + length (b ∷ t) + 1) zs′ hs′ ls)
+
+-- the reader's meaning
+unfoldable pub read-sheet : Limits → List ℕ → Outcome
+read-sheet L s =
+    pick (ltb max-sheet (length s)) (refused-at max-sheet 1)
+    (header point-header 0 (lines s) (λ p ls. read-points L p [] [] ls))

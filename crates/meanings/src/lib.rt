@@ -1,0 +1,81 @@
+// The types that calls take and give, named by the field's terms. Each comment gives document 01's word.
+// What each value has to be is defined in specs/.
+
+// "What the instrument reports": the thirteen reports. `number` of specs/Reports.antt gives each its number.
+pub enum Report {
+    TooLong, // 1, overlong
+    BadHeader, // 2, heading
+    MalformedLine, // 3, torn line
+    SampleOutOfOrder, // 4, early reading
+    PointOutOfOrder, // 5, early mark
+    TooMany, // 6, crowded
+    NoPoints, // 7, no marks
+    LengthMismatch, // 8, uneven
+    BandwidthOutOfRange, // 9, half width
+    EdgeDecreases, // 10, edge back
+    InvalidRecord, // 11, foreign record
+    UnknownPreset, // 12, knob
+    GridOverflow, // 13, past the clock
+}
+
+// A report with its place.
+pub struct Refusal {
+    pub report: Report,
+    pub place: usize,
+}
+
+// The row of a mark.
+pub struct Estimate {
+    pub left: u64,
+    pub right: u64,
+    pub weight: u64,
+    pub sum: u64,
+    pub value: u64,
+}
+
+// The six running sums: spq is the sum of time to the power p times value to the power q.
+pub struct PowerSums {
+    pub s00: u64,
+    pub s10: u64,
+    pub s20: u64,
+    pub s01: u64,
+    pub s11: u64,
+    pub s21: u64,
+}
+
+// The running record.
+pub struct RunningSums {
+    pub left: usize,
+    pub right: usize,
+    pub sums: PowerSums,
+}
+
+// What the question at one mark gives: the row or the report.
+pub enum Evaluation {
+    Row(Estimate),
+    Unfit(Refusal),
+}
+
+// What a step gives: the new record or the report.
+pub enum Advance {
+    Moved(RunningSums),
+    Stayed(Refusal),
+}
+
+// What a sweep gives: its passes or the report.
+pub enum Smoothing {
+    Passes(u64),
+    Unswept(Refusal),
+}
+
+// What the mark filler gives.
+pub enum Filling {
+    Filled,
+    Unfilled(Refusal),
+}
+
+// What the reader gives: how many readings are kept and how many marks there are, or the report.
+pub enum Reading {
+    Used { samples: usize, points: usize },
+    Unread(Refusal),
+}
