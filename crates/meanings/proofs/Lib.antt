@@ -1,1 +1,14 @@
+pub mod Accepted
+pub mod Answers
+pub mod Bounds
 pub mod Cases
+pub mod Checks
+pub mod Decimal
+pub mod Kernel
+pub mod Moments
+pub mod Presets
+pub mod Published
+pub mod Rounding
+pub mod Search
+pub mod Totals
+pub mod Window

@@ -3,7 +3,6 @@ use Prim.Native.Nat.{ℕ}
 use Prim.Native.String.{String}
 use mathlib.Core.Path.{_≡_}
 use mathlib.Core.List.{List, [], _∷_, map}
-use lib.ListN.{length}
 use Rattle.meanings.specs.declared.Estimate.{Estimate}
 use Rattle.meanings.specs.declared.PowerSums.{PowerSums}
 use Rattle.meanings.specs.declared.RunningSums.{RunningSums}
@@ -11,8 +10,7 @@ use Rattle.meanings.specs.Limits.{Limits, full}
 use Rattle.meanings.specs.Bytes.{ascii}
 use Rattle.meanings.specs.Moves.{Move}
 use Rattle.meanings.specs.Reports.{Answer, given, refused}
-use Rattle.meanings.specs.Estimate.{left-of, right-of}
-use Rattle.meanings.specs.Running.{power-sums, advance, after, fresh}
+use Rattle.meanings.specs.Running.{window-sums, advance, after, fresh}
 use Rattle.meanings.specs.EventLog.{EventLog, empty-log, log-after}
 use Rattle.meanings.specs.Sheet.{Contents, read-sheet}
 use Rattle.meanings.specs.Calls.{evaluate, window, window-start, smooth, smooth-rows, fill, fill-points, fill-bandwidths, read, counts, filled-front, Counts}
@@ -56,7 +54,7 @@ pub data Result : Type 0 where
 abbrev pub result : Call → Result
 result (row ts vs z h) = estimated (evaluate full ts vs z h)
 result (run ts vs z h) = part (window full ts vs z h) (window-start full ts vs z h)
-result (sums ts vs z h) = powers (power-sums ts vs (left-of ts z h) (length (window full ts vs z h)))
+result (sums ts vs z h) = powers (window-sums ts vs z h)
 result (step ts vs r z h) = stepped (advance ts vs r z h)
 result (steps ts vs ms) = logged (after ts vs fresh ms) (log-after ts vs empty-log ms)
 result (sweep ts vs zs hs rs) = swept (smooth full ts vs zs hs rs) (smooth-rows full ts vs zs hs rs)

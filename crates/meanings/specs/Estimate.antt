@@ -1,23 +1,32 @@
 -- Document 01, "The row of a mark": window, left, right, run, weight, sum, value, row.
 -- t is a minute, z a mark, h a half width; ts are the minutes of the readings and vs their values.
 use Prim.Native.Nat.{ℕ, zero, suc, _+_, _-_, _*_, _/_, _%_, _≤_}
+use mathlib.Core.Path.{_≡_}
 use mathlib.Core.List.{List, [], _∷_, _++_}
 use lib.Dec.{ltb, leb, eqb}
 use lib.ListN.{length, getD}
 use lib.Seq.{slice}
 use Rattle.meanings.specs.declared.Estimate.{Estimate}
-use Rattle.meanings.specs.Lists.{pick, count, total, distance}
+use Rattle.meanings.specs.Lists.{pick, count, total, distance, AtMost}
+use Rattle.meanings.specs.Limits.{full, max-u16, max-bandwidth}
+
+-- readings and a half width within their ranges and limits
+pub record Fit (ts vs : List ℕ) (h : ℕ) : Type 0 where
+  pub even : length ts ≡ length vs
+  pub few : length ts ≤ full .samples
+  pub values : AtMost max-u16 vs
+  pub bandwidth : h ≤ max-bandwidth
 
 -- the minute lies in the closed window from z − h to z + h
 abbrev pub Inside : ℕ → ℕ → ℕ → Type 0
 Inside z h t = (z ≤ t + h) × (t ≤ z + h)
 
 -- left: how many readings have minute + h < z
-abbrev pub left-of : List ℕ → ℕ → ℕ → ℕ
+unfoldable pub left-of : List ℕ → ℕ → ℕ → ℕ
 left-of ts z h = count (λ t. ltb (t + h) z) ts
 
 -- right: how many have minute ≤ z + h
-abbrev pub right-of : List ℕ → ℕ → ℕ → ℕ
+unfoldable pub right-of : List ℕ → ℕ → ℕ → ℕ
 right-of ts z h = count (λ t. leb t (z + h)) ts
 
 -- the run's values: positions left up to but without right
@@ -25,7 +34,7 @@ abbrev pub run-of : List ℕ → List ℕ → ℕ → ℕ → List ℕ
 run-of ts vs z h = slice (left-of ts z h) (right-of ts z h) vs
 
 -- h² − (minute − z)²; the law kernel-exact says that inside the window nothing is cut off at 0
-abbrev pub kernel : ℕ → ℕ → ℕ → ℕ
+unfoldable pub kernel : ℕ → ℕ → ℕ → ℕ
 kernel z h t = h * h - distance t z * distance t z
 
 -- the sum of g over the positions of the run

@@ -31,7 +31,7 @@ total g a zero = 0
 total g a (suc n) = total g a n + g (a + n)
 
 -- the distance between two numbers
-abbrev pub distance : ℕ → ℕ → ℕ
+unfoldable pub distance : ℕ → ℕ → ℕ
 distance a b = (a - b) + (b - a)
 
 -- the elements never fall from one to the next
@@ -41,3 +41,9 @@ Ordered xs = (i j : ℕ) → i ≤ j → j < length xs → getD xs i 0 ≤ getD 
 -- every element is at most m
 abbrev pub AtMost : ℕ → List ℕ → Type 0
 AtMost m xs = (i : ℕ) → i < length xs → getD xs i 0 ≤ m
+
+-- each element is above the one before, the first above low, and none is above high
+pub record Rising (low high : ℕ) (xs : List ℕ) : Type 0 where
+  pub above : (i : ℕ) → i < length xs → low < getD xs i 0
+  pub below : (i : ℕ) → i < length xs → getD xs i 0 ≤ high
+  pub steps : (i : ℕ) → suc i < length xs → getD xs i 0 < getD xs (suc i) 0

@@ -1,6 +1,5 @@
 -- Document 01, "One whole sheet": what the program writes, as a function from any list of bytes to a list of bytes.
 use Prim.Native.Nat.{ℕ, zero, suc, _+_, _/_, _%_}
-use mathlib.Core.Bool.{true, false}
 use mathlib.Core.List.{List, [], _∷_, _++_}
 use lib.Dec.{ltb, eqb}
 use lib.ListN.{length, getD}
@@ -18,7 +17,8 @@ use Rattle.meanings.specs.Sheet.{Contents, Outcome, read-sheet}
 unfoldable pub decimal-with : ℕ → ℕ → List ℕ
 decimal-with zero n = []
 decimal-with (suc f) n =
-    elim (ltb n 10) [ true ↦ (zero-digit + n) ∷ [] | false ↦ decimal-with f (n / 10) ++ (zero-digit + n % 10) ∷ [] ]
+    let more = decimal-with f (n / 10) ++ (zero-digit + n % 10) ∷ [] in
+    pick (ltb n 10) ((zero-digit + n) ∷ []) more
 
 -- a number in decimal, with no leading zero
 unfoldable pub decimal : ℕ → List ℕ

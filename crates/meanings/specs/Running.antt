@@ -6,6 +6,7 @@ use lib.ListN.{length, getD}
 use Rattle.meanings.specs.declared.PowerSums.{PowerSums}
 use Rattle.meanings.specs.declared.RunningSums.{RunningSums}
 use Rattle.meanings.specs.Lists.{first, total}
+use Rattle.meanings.specs.Estimate.{over-run}
 use Rattle.meanings.specs.Limits.{full}
 use Rattle.meanings.specs.Moves.{Move}
 use Rattle.meanings.specs.Reports.{Answer, given, refused, unless, first-of, advance-checks}
@@ -31,9 +32,12 @@ sum-at s zero (suc q) = s .s01
 sum-at s (suc zero) (suc q) = s .s11
 sum-at s (suc (suc p)) (suc q) = s .s21
 
--- the six running sums, as direct sums over n readings from position a on
-abbrev pub power-sums : List ℕ → List ℕ → ℕ → ℕ → PowerSums
-power-sums ts vs a n = six (power-sum ts vs a n)
+-- the six running sums over the run of a mark's window
+abbrev pub window-sum : List ℕ → List ℕ → ℕ → ℕ → ℕ → ℕ → ℕ
+window-sum ts vs z h p q = over-run (term p q ts vs) ts z h
+
+abbrev pub window-sums : List ℕ → List ℕ → ℕ → ℕ → PowerSums
+window-sums ts vs z h = six (window-sum ts vs z h)
 
 -- sum and difference modulo 2^w
 abbrev pub plus : ℕ → ℕ → ℕ → ℕ

@@ -1,0 +1,90 @@
+-- What an accepted call has shown: no check of its list holds, so minutes and marks are ordered, half widths are in range, and no edge falls.
+use Prim.Native.Nat.{ℕ, zero, suc, _+_, _≤_, _<_}
+use mathlib.Core.Path.{_≡_, refl, sym, _∙_}
+use mathlib.Core.Logic.{_⊎_, inl, inr}
+use mathlib.Core.Bool.{Bool, true, false, _||_}
+use mathlib.Core.List.{List, [], _∷_}
+use mathlib.Core.Option.{Option, none, some}
+use native.Mathlib.Nat.{not-suc-le-zero, le-refl, le-trans, eq-or-lt-of-le, le-of-suc-le-suc}
+use native.Mathlib.Omega.{arith}
+use borrow.Author.Tests.{ltb-false, eqb-false}
+use lib.Dec.{ltb, eqb}
+use lib.ListN.{length, getD}
+use Rattle.meanings.specs.Lists.{pick, lowest, Ordered, AtMost}
+use Rattle.meanings.specs.Limits.{full, max-bandwidth, max-u16}
+use Rattle.meanings.specs.Reports.{Fault, Answer, given, refused, unless, Check, at, or-later, first-of, differ, decreases, bad-bandwidth, uneven-samples, evaluate-checks}
+use Rattle.meanings.specs.Estimate.{Fit, estimate}
+use Rattle.meanings.specs.Calls.{evaluate, evaluate-refusal}
+use Rattle.meanings.proofs.Search.{lowest-none}
+
+-- no check of the list holds
+abbrev pub NoneHolds : List Check → Type 0
+NoneHolds [] = Unit {0}
+NoneHolds (c ∷ cs) = (c .place ≡ none) × NoneHolds cs
+
+pub none-holds : (cs : List Check) → first-of cs ≡ none → NoneHolds cs
+none-holds [] e = tt
+none-holds (c ∷ cs) e = by (c .place) refl e (none-holds cs)
+  where
+    by : (p : Option ℕ) → c .place ≡ p → or-later (c .report) p (first-of cs) ≡ none → (first-of cs ≡ none → NoneHolds cs)
+        → (c .place ≡ none) × NoneHolds cs
+    by none q e k = (q, k e)
+    by (some n) q e k = let z : _≡_ {A = ℕ} 0 1 = cc in absurd (omega arith)
+
+pub at-none : (p : ℕ) (b : Bool) → at p b ≡ none → b ≡ false
+at-none p true e = let z : _≡_ {A = ℕ} 0 1 = cc in absurd (omega arith)
+at-none p false e = refl
+
+pub or-false : (a b : Bool) → (a || b) ≡ false → (a ≡ false) × (b ≡ false)
+or-false true b e = let z : _≡_ {A = ℕ} 0 1 = cc in absurd (omega arith)
+or-false false b e = (refl, e)
+
+pub differ-false : (m n : ℕ) → differ m n ≡ false → m ≡ n
+differ-false m n e =
+    let o = or-false (ltb m n) (ltb n m) e in
+    let a = ltb-false m n (o .0) in
+    let b = ltb-false n m (o .1) in
+    omega arith
+
+pub bandwidth-in-range : (h : ℕ) → bad-bandwidth h ≡ false → (0 < h) × (h ≤ max-bandwidth)
+bandwidth-in-range h e =
+    let o = or-false (eqb h 0) (ltb max-bandwidth h) e in
+    (let n : h ≡ 0 → ⊥ = eqb-false h 0 (o .0) in omega arith, ltb-false max-bandwidth h (o .1))
+
+-- no element is below the one before: the list is ordered
+pub steps-ordered : (xs : List ℕ) → ((k : ℕ) → suc k < length xs → getD xs k 0 ≤ getD xs (suc k) 0) → Ordered xs
+steps-ordered xs f i zero a l = let e : i ≡ 0 = omega arith in rw e (le-refl _)
+steps-ordered xs f i (suc j) a l = by (eq-or-lt-of-le a) (steps-ordered xs f i j)
+  where
+    by : (i ≡ suc j) ⊎ (i < suc j) → (i ≤ j → j < length xs → getD xs i 0 ≤ getD xs j 0) → getD xs i 0 ≤ getD xs (suc j) 0
+    by (inl e) k = rw e (le-refl _)
+    by (inr m) k = le-trans (k (le-of-suc-le-suc m) (omega arith)) (f j l)
+
+pub no-decrease-ordered : (xs : List ℕ) → lowest (decreases xs) (length xs) ≡ none → Ordered xs
+no-decrease-ordered xs e =
+    steps-ordered xs (λ k l. ltb-false (getD xs (suc k) 0) (getD xs k 0) (lowest-none (decreases xs) (length xs) e (suc k) l))
+
+-- what the question at one mark accepts
+pub record Accepted (ts vs : List ℕ) (h : ℕ) : Type 0 where
+  pub even : length ts ≡ length vs
+  pub few : length ts ≤ full .samples
+  pub ordered : Ordered ts
+  pub positive : 0 < h
+  pub bandwidth : h ≤ max-bandwidth
+
+pub evaluate-accepts : (ts vs : List ℕ) (h : ℕ) → evaluate-refusal full ts vs h ≡ none → Accepted ts vs h
+evaluate-accepts ts vs h e =
+    let a = none-holds (evaluate-checks full ts vs h) e in
+    let r = bandwidth-in-range h (at-none 0 (bad-bandwidth h) (a .1 .1 .1 .0)) in
+    record {
+      even = differ-false (length ts) (length vs) (at-none 0 (uneven-samples ts vs) (a .0));
+      few = ltb-false (full .samples) (length ts) (at-none 0 _ (a .1 .0));
+      ordered = no-decrease-ordered ts (a .1 .1 .0);
+      positive = r .0;
+      bandwidth = r .1;
+    }
+
+-- an answer that is given was not refused
+pub given-accepted : {A : Type 0} (f : Option Fault) (a b : A) → unless f a ≡ given b → (f ≡ none) × (a ≡ b)
+given-accepted none a b e = (refl, cc)
+given-accepted (some r) a b e = let z : _≡_ {A = ℕ} 0 1 = cc in absurd (omega arith)
