@@ -1,18 +1,21 @@
 -- The enums of the calls say what document 01 says: the thirteen reports have their numbers, and each answer its values or its report.
 use Prim.Native.Nat.{ℕ}
 use mathlib.Core.Path.{_≡_, refl}
+use mathlib.Core.Option.{none, some}
 use mathlib.Core.List.{List, [], _∷_, map}
 use Rattle.meanings.specs.declared.Report.{Report}
 use Rattle.meanings.specs.declared.Report.the-variants.{TooLong, BadHeader, MalformedLine, SampleOutOfOrder, PointOutOfOrder, TooMany, NoPoints, LengthMismatch, BandwidthOutOfRange, EdgeDecreases, InvalidRecord, UnknownPreset, GridOverflow}
 use Rattle.meanings.specs.declared.Refusal.{Refusal}
 use Rattle.meanings.specs.declared.Estimate.{Estimate}
 use Rattle.meanings.specs.declared.RunningSums.{RunningSums}
+use Rattle.meanings.specs.declared.Verdict.the-variants.{Fit, Faulty}
+use Rattle.meanings.specs.declared.Found.the-variants.{At, Nothing}
 use Rattle.meanings.specs.declared.Evaluation.the-variants.{Row, Unfit}
 use Rattle.meanings.specs.declared.Advance.the-variants.{Moved, Stayed}
 use Rattle.meanings.specs.declared.Smoothing.the-variants.{Passes, Unswept}
 use Rattle.meanings.specs.declared.Filling.the-variants.{Filled, Unfilled}
 use Rattle.meanings.specs.declared.Reading.the-variants.{Used, Unread}
-use Rattle.meanings.specs.Reports.{number, given, refused}
+use Rattle.meanings.specs.Reports.{number, told-verdict, told-found, given, refused}
 use Rattle.meanings.specs.Calls.{told-evaluation, told-advance, told-smoothing, told-filling, told-reading}
 
 -- overlong, heading, torn line, early reading, early mark, crowded, no marks, uneven, half width, edge back, foreign record, knob, past the clock
@@ -40,18 +43,22 @@ abbrev crowded : Refusal
 crowded = record { report = TooMany; place = 7 }
 
 pub refusals-are-told :
-    (told-evaluation (Unfit crowded) ≡ refused (record { number = 6; place = 7 }))
+    (told-verdict (Faulty crowded) ≡ some (record { number = 6; place = 7 }))
+    × (told-evaluation (Unfit crowded) ≡ refused (record { number = 6; place = 7 }))
     × (told-advance (Stayed crowded) ≡ refused (record { number = 6; place = 7 }))
     × (told-smoothing (Unswept crowded) ≡ refused (record { number = 6; place = 7 }))
     × (told-filling (Unfilled crowded) ≡ refused (record { number = 6; place = 7 }))
     × (told-reading (Unread crowded) ≡ refused (record { number = 6; place = 7 }))
-refusals-are-told = (refl, refl, refl, refl, refl)
+refusals-are-told = (refl, refl, refl, refl, refl, refl)
 
 -- and what each gives
 pub values-are-told : (e : Estimate) (r : RunningSums) (n m : ℕ)
-    → (told-evaluation (Row e) ≡ given e)
+    → (told-verdict Fit ≡ none)
+    × (told-found Nothing ≡ none)
+    × (told-found (At n) ≡ some n)
+    × (told-evaluation (Row e) ≡ given e)
     × (told-advance (Moved r) ≡ given r)
     × (told-smoothing (Passes n) ≡ given n)
     × (told-filling Filled ≡ given tt)
     × (told-reading (Used n m) ≡ given (record { samples = n; points = m }))
-values-are-told e r n m = (refl, refl, refl, refl, refl)
+values-are-told e r n m = (refl, refl, refl, refl, refl, refl, refl, refl)

@@ -16,7 +16,7 @@ use Rattle.meanings.specs.declared.Filling.{Filling}
 use Rattle.meanings.specs.declared.Filling.the-variants.{Filled, Unfilled}
 use Rattle.meanings.specs.declared.Reading.{Reading}
 use Rattle.meanings.specs.declared.Reading.the-variants.{Used, Unread}
-use Rattle.meanings.specs.Limits.{Limits}
+use Rattle.meanings.specs.declared.Limits.{Limits}
 use Rattle.meanings.specs.Moves.{moves}
 use Rattle.meanings.specs.Reports.{Fault, Answer, given, refused, unless, accepted-or, told, first-of, evaluate-checks, smooth-checks, fill-checks, read-checks}
 use Rattle.meanings.specs.Estimate.{estimate, left-of, run-of, rows}

@@ -6,7 +6,8 @@ use mathlib.Core.List.{List, [], _∷_, map}
 use Rattle.meanings.specs.declared.Estimate.{Estimate}
 use Rattle.meanings.specs.declared.PowerSums.{PowerSums}
 use Rattle.meanings.specs.declared.RunningSums.{RunningSums}
-use Rattle.meanings.specs.Limits.{Limits, full}
+use Rattle.meanings.specs.declared.Limits.{Limits}
+use Rattle.meanings.specs.Limits.{full}
 use Rattle.meanings.specs.Bytes.{ascii}
 use Rattle.meanings.specs.Moves.{Move}
 use Rattle.meanings.specs.Reports.{Answer, given, refused}

@@ -1,5 +1,6 @@
 -- Document 01, "Readings and marks": the ranges and limits.
 use Prim.Native.Nat.{ℕ}
+use Rattle.meanings.specs.declared.Limits.{Limits}
 
 -- the greatest minute, value, mark and spacing, and the greatest count of injections
 abbrev pub max-u16 : ℕ
@@ -10,11 +11,6 @@ abbrev pub max-bandwidth : ℕ
 max-bandwidth = 65536
 
 -- how many kept readings and how many marks there may be
-pub record Limits : Type 0 where
-  pub samples : ℕ
-  pub points : ℕ
-
--- the limits of document 01
 abbrev pub full : Limits
 full = record { samples = 1024; points = 512 }
 

@@ -4,7 +4,8 @@ use Prim.Native.Nat.{ℕ, _^_, _-_}
 use mathlib.Core.List.{List, [], _∷_, _++_}
 use lib.ListN.{replicate}
 use Rattle.meanings.specs.declared.RunningSums.{RunningSums}
-use Rattle.meanings.specs.Limits.{Limits, full}
+use Rattle.meanings.specs.declared.Limits.{Limits}
+use Rattle.meanings.specs.Limits.{full}
 use Rattle.meanings.specs.Bytes.{ascii}
 use Rattle.meanings.specs.Moves.{Move}
 use Rattle.meanings.specs.Reports.{given}

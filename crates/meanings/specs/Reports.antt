@@ -9,8 +9,13 @@ use lib.ListN.{length, getD}
 use Rattle.meanings.specs.declared.Report.{Report}
 use Rattle.meanings.specs.declared.Report.the-variants.{TooLong, BadHeader, MalformedLine, SampleOutOfOrder, PointOutOfOrder, TooMany, NoPoints, LengthMismatch, BandwidthOutOfRange, EdgeDecreases, InvalidRecord, UnknownPreset, GridOverflow}
 use Rattle.meanings.specs.declared.Refusal.{Refusal}
+use Rattle.meanings.specs.declared.Verdict.{Verdict}
+use Rattle.meanings.specs.declared.Verdict.the-variants.{Fit, Faulty}
+use Rattle.meanings.specs.declared.Found.{Found}
+use Rattle.meanings.specs.declared.Found.the-variants.{At, Nothing}
 use Rattle.meanings.specs.Lists.{pick, lowest}
-use Rattle.meanings.specs.Limits.{Limits, max-u16, max-bandwidth}
+use Rattle.meanings.specs.declared.Limits.{Limits}
+use Rattle.meanings.specs.Limits.{max-u16, max-bandwidth}
 
 -- the report's number in document 01
 abbrev pub number : Report → ℕ
@@ -36,6 +41,15 @@ pub record Fault : Type 0 where
 -- a refusal of the code in document 01's numbers
 abbrev pub told : Refusal → Fault
 told r = record { number = number (r .report); place = r .place }
+
+-- what a check of the code finds, in those numbers
+abbrev pub told-verdict : Verdict → Option Fault
+told-verdict Fit = none
+told-verdict (Faulty r) = some (told r)
+
+abbrev pub told-found : Found → Option ℕ
+told-found Nothing = none
+told-found (At i) = some i
 
 -- what a call answers: a value, or a report
 pub data Answer (A : Type 0) : Type 0 where

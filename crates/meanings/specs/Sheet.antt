@@ -7,7 +7,8 @@ use mathlib.Core.Option.{Option, none, some}
 use lib.Dec.{ltb, leb, eqb}
 use lib.ListN.{length, getD}
 use Rattle.meanings.specs.Lists.{pick}
-use Rattle.meanings.specs.Limits.{Limits, max-u16, max-sheet}
+use Rattle.meanings.specs.declared.Limits.{Limits}
+use Rattle.meanings.specs.Limits.{max-u16, max-sheet}
 use Rattle.meanings.specs.Moves.{Move}
 use Rattle.meanings.specs.Bytes.{line-feed, comma, zero-digit, nine-digit, point-header, sample-header}
 use Rattle.meanings.specs.Reports.{Fault, Answer, given, refused, Check, report, at, first-of, decreases, bad-bandwidth, edge-decreases}

@@ -7,7 +7,8 @@ use mathlib.Core.List.{List, [], _∷_, _++_, map}
 use lib.Dec.{ltb}
 use lib.ListN.{length}
 use Rattle.meanings.specs.Lists.{pick}
-use Rattle.meanings.specs.Limits.{Limits, max-u16, max-bandwidth, max-sheet}
+use Rattle.meanings.specs.declared.Limits.{Limits}
+use Rattle.meanings.specs.Limits.{max-u16, max-bandwidth, max-sheet}
 use Rattle.meanings.specs.Bytes.{line-feed, point-header, sample-header}
 use Rattle.meanings.specs.Moves.{Move}
 use Rattle.meanings.specs.Sheet.{Injection, Contents}

@@ -24,6 +24,24 @@ pub struct Refusal {
     pub place: usize,
 }
 
+// How many kept readings and how many marks there may be.
+pub struct Limits {
+    pub samples: usize,
+    pub points: usize,
+}
+
+// What a check finds: nothing, or the report.
+pub enum Verdict {
+    Fit,
+    Faulty(Refusal),
+}
+
+// What a search for a position finds.
+pub enum Found {
+    At(usize),
+    Nothing,
+}
+
 // The row of a mark.
 pub struct Estimate {
     pub left: u64,
