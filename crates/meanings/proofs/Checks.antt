@@ -1,5 +1,5 @@
 -- What an accepted call has shown: no check of its list holds, so minutes and marks are ordered, half widths are in range, and no edge falls.
-use Prim.Native.Nat.{ℕ, zero, suc, _+_, _≤_, _<_}
+use Prim.Native.Nat.{ℕ, zero, suc, _-_, _≤_, _<_}
 use mathlib.Core.Path.{_≡_, refl, sym, _∙_}
 use mathlib.Core.Logic.{_⊎_, inl, inr}
 use mathlib.Core.Bool.{Bool, true, false, _||_}
@@ -7,7 +7,7 @@ use mathlib.Core.List.{List, [], _∷_}
 use mathlib.Core.Option.{Option, none, some}
 use native.Mathlib.Nat.{not-suc-le-zero, le-refl, le-trans, eq-or-lt-of-le, le-of-suc-le-suc}
 use native.Mathlib.Omega.{arith}
-use borrow.Author.Tests.{ltb-false, eqb-false}
+use borrow.Author.Tests.{ltb-false, le-ltb, eqb-false}
 use lib.Dec.{ltb, eqb}
 use lib.ListN.{length, getD}
 use Rattle.meanings.specs.Lists.{pick, lowest, Ordered, AtMost}
@@ -46,10 +46,26 @@ differ-false m n e =
     let b = ltb-false n m (o .1) in
     omega arith
 
+pub differ-true : (m n : ℕ) → (m ≡ n → ⊥) → differ m n ≡ true
+differ-true m n d = by (ltb m n) (ltb n m) refl refl
+  where
+    by : (a b : Bool) → ltb m n ≡ a → ltb n m ≡ b → (a || b) ≡ true
+    by true b e f = refl
+    by false true e f = refl
+    by false false e f = let l = ltb-false m n e in let g = ltb-false n m f in absurd (d (omega arith))
+
+pub differ-same : (m n : ℕ) → m ≡ n → differ m n ≡ false
+differ-same m n e = rw (e, le-ltb n n (le-refl n))
+
 pub bandwidth-in-range : (h : ℕ) → bad-bandwidth h ≡ false → (0 < h) × (h ≤ max-bandwidth)
 bandwidth-in-range h e =
     let o = or-false (eqb h 0) (ltb max-bandwidth h) e in
     (let n : h ≡ 0 → ⊥ = eqb-false h 0 (o .0) in omega arith, ltb-false max-bandwidth h (o .1))
+
+-- what is compared at a position above 0
+pub decreases-at : (xs : List ℕ) (k : ℕ) → 1 ≤ k → decreases xs k ≡ ltb (getD xs k 0) (getD xs (k - 1) 0)
+decreases-at xs zero l = absurd (not-suc-le-zero l)
+decreases-at xs (suc k) l = let e : suc k - 1 ≡ k = omega arith in rw e
 
 -- no element is below the one before: the list is ordered
 pub steps-ordered : (xs : List ℕ) → ((k : ℕ) → suc k < length xs → getD xs k 0 ≤ getD xs (suc k) 0) → Ordered xs

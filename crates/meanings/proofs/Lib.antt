@@ -5,10 +5,12 @@ pub mod Cases
 pub mod Checks
 pub mod Decimal
 pub mod Kernel
+pub mod Modulo
 pub mod Moments
 pub mod Presets
 pub mod Published
 pub mod Rounding
 pub mod Search
+pub mod Steps
 pub mod Totals
 pub mod Window

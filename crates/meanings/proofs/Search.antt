@@ -58,8 +58,19 @@ first-unique p i n r s a b =
     not-below r s a b l =
         true≢false (sym (a .there (let u = b .upto in omega arith)) ∙ b .before r (a .from) l)
 
+-- the test fails at every position below i
+abbrev pub NoneBelow : (ℕ → Bool) → ℕ → Type 0
+NoneBelow p i = (j : ℕ) → j < i → p j ≡ false
+
+pub one-more-below : (p : ℕ → Bool) (i : ℕ) → NoneBelow p i → p i ≡ false → NoneBelow p (i + 1)
+one-more-below p i f e j l = by (eq-or-lt-of-le (let m : j ≤ i = omega arith in m))
+  where
+    by : (j ≡ i) ⊎ (j < i) → p j ≡ false
+    by (inl q) = rw q e
+    by (inr m) = f j m
+
 -- no lowest position: the test fails at all of them
-pub lowest-none : (p : ℕ → Bool) (n : ℕ) → lowest p n ≡ none → (j : ℕ) → j < n → p j ≡ false
+pub lowest-none : (p : ℕ → Bool) (n : ℕ) → lowest p n ≡ none → NoneBelow p n
 lowest-none p n e j l = by (ltb (first p 0 n) n) refl e
   where
     by : (b : Bool) → ltb (first p 0 n) n ≡ b → pick b (some (first p 0 n)) none ≡ none → p j ≡ false
@@ -67,7 +78,7 @@ lowest-none p n e j l = by (ltb (first p 0 n) n) refl e
     by false t q = first-is-first p 0 n .before j zero-le (let m = ltb-false (first p 0 n) n t in omega arith)
 
 -- the test fails everywhere: there is no lowest position
-pub none-lowest : (p : ℕ → Bool) (n : ℕ) → ((j : ℕ) → j < n → p j ≡ false) → lowest p n ≡ none
+pub none-lowest : (p : ℕ → Bool) (n : ℕ) → NoneBelow p n → lowest p n ≡ none
 none-lowest p n f = by (ltb (first p 0 n) n) refl
   where
     by : (b : Bool) → ltb (first p 0 n) n ≡ b → pick b (some (first p 0 n)) none ≡ none
@@ -77,7 +88,7 @@ none-lowest p n f = by (ltb (first p 0 n) n) refl
     by false t = refl
 
 -- a position that passes with none before it is the lowest
-pub lowest-at : (p : ℕ → Bool) (n k : ℕ) → k < n → p k ≡ true → ((j : ℕ) → j < k → p j ≡ false) → lowest p n ≡ some k
+pub lowest-at : (p : ℕ → Bool) (n k : ℕ) → k < n → p k ≡ true → NoneBelow p k → lowest p n ≡ some k
 lowest-at p n k l e f = rw (here, lt-ltb k n l)
   where
     here : first p 0 n ≡ k

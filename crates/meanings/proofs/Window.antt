@@ -77,34 +77,29 @@ pub right-at-most-length : (ts : List ℕ) (z h : ℕ) → right-of ts z h ≤ l
 unfolding right-of
 right-at-most-length ts z h = count-at-most-length (λ t. leb t (z + h)) ts
 
--- the run is exactly the readings inside the closed window
-pub run-is-inside : (ts : List ℕ) (z h : ℕ) → Ordered ts → (i : ℕ) → i < length ts
-    → ((left-of ts z h ≤ i) × (i < right-of ts z h)) ↔ Inside z h (getD ts i 0)
-unfolding left-of right-of
-run-is-inside ts z h o i l = (
-  λ w. (from-left (w .0), leb-true t (z + h) (in-right .0 (w .1))),
-  λ w. (to-left (w .0), in-right .1 (le-leb t (z + h) (w .1))),
-)
-  where
-    t : ℕ
-    t = getD ts i 0
+module _ (ts : List ℕ) (z h : ℕ) (o : Ordered ts) (i : ℕ) (l : i < length ts) where
+  -- left passes the readings below the window
+  pub before-left : (i < left-of ts z h) ↔ (getD ts i 0 + h < z)
+  unfolding left-of
+  before-left = (λ m. ltb-true _ z (counted .0 m), λ m. counted .1 (lt-ltb _ z m))
+    where
+      counted : (i < left-of ts z h) ↔ (ltb (getD ts i 0 + h) z ≡ true)
+      counted = front-is-counted (λ t. ltb (t + h) z) (λ a b m e. lt-ltb (a + h) z (omega (arith, ltb-true (b + h) z e))) ts o i l
 
-    in-left : (i < left-of ts z h) ↔ (ltb (t + h) z ≡ true)
-    in-left = front-is-counted (λ t. ltb (t + h) z) (λ a b m e. lt-ltb (a + h) z (omega (arith, ltb-true (b + h) z e))) ts o i l
+  -- right passes those below it and inside it
+  pub before-right : (i < right-of ts z h) ↔ (getD ts i 0 ≤ z + h)
+  unfolding right-of
+  before-right = (λ m. leb-true _ (z + h) (counted .0 m), λ m. counted .1 (le-leb _ (z + h) m))
+    where
+      counted : (i < right-of ts z h) ↔ (leb (getD ts i 0) (z + h) ≡ true)
+      counted = front-is-counted (λ t. leb t (z + h)) (λ a b m e. le-leb a (z + h) (omega (arith, leb-true b (z + h) e))) ts o i l
 
-    in-right : (i < right-of ts z h) ↔ (leb t (z + h) ≡ true)
-    in-right = front-is-counted (λ t. leb t (z + h)) (λ a b m e. le-leb a (z + h) (omega (arith, leb-true b (z + h) e))) ts o i l
-
-    from-left : left-of ts z h ≤ i → z ≤ t + h
-    from-left w = by (ltb (t + h) z) refl
-      where
-        by : (b : Bool) → ltb (t + h) z ≡ b → z ≤ t + h
-        by true e = let m = in-left .1 e in omega arith
-        by false e = ltb-false (t + h) z e
-
-    to-left : z ≤ t + h → left-of ts z h ≤ i
-    to-left w = by (ltb i (left-of ts z h)) refl
-      where
-        by : (b : Bool) → ltb i (left-of ts z h) ≡ b → left-of ts z h ≤ i
-        by true e = let m = ltb-true (t + h) z (in-left .0 (ltb-true i (left-of ts z h) e)) in omega arith
-        by false e = ltb-false i (left-of ts z h) e
+  -- the run is exactly the readings inside the closed window
+  pub run-is-inside : ((left-of ts z h ≤ i) × (i < right-of ts z h)) ↔ Inside z h (getD ts i 0)
+  run-is-inside = (
+    λ w. (not-above (λ m. omega (arith, before-left .1 m)), before-right .0 (w .1)),
+    λ w. (not-above (λ m. omega (arith, before-left .0 m)), before-right .1 (w .1)),
+  )
+    where
+      not-above : {a b : ℕ} → ¬ (a < b) → b ≤ a
+      not-above n = omega arith

@@ -1,6 +1,6 @@
 -- Cases of our own: the closed right edge, which C1 to C12 leave open, and each report of each call that can give it, with its place and
 -- with the reports that are looked at before and after it.
-use Prim.Native.Nat.{ℕ, _^_, _-_}
+use Prim.Native.Nat.{ℕ, _+_, _-_, _^_}
 use mathlib.Core.List.{List, [], _∷_, _++_}
 use lib.ListN.{replicate}
 use Rattle.meanings.specs.declared.RunningSums.{RunningSums}
@@ -55,6 +55,9 @@ step-cases =
     -- sums of any record, modulo 2^64: readings 1 and 2 are taken in at positions 2 and 3, reading 1 is let go
     step (1 ∷ 2 ∷ 3 ∷ 5 ∷ 9 ∷ []) (1 ∷ 1 ∷ 2 ∷ 1 ∷ 1 ∷ []) any-record 5 2
     ⇒ stepped (given (is-record 2 4 (is-sums 1 7 35 1 9 46)))
+    -- a reading let go from sums below and above it
+    ∷ step (1 ∷ []) (2 ∷ []) (is-record 0 1 (is-sums 0 0 0 (2 ^ 63 + 5) 9 1)) 9 1
+    ⇒ stepped (given (is-record 1 1 (is-sums (2 ^ 64 - 1) (2 ^ 64 - 1) (2 ^ 64 - 1) (2 ^ 63 + 3) 7 (2 ^ 64 - 1))))
     -- new right first: left runs up to it (C9)
     ∷ step (50 ∷ []) (9 ∷ []) (is-record 0 0 (is-sums 0 0 0 0 0 0)) 100 1
     ⇒ stepped (given (is-record 1 1 (is-sums 0 0 0 0 0 0)))
@@ -84,7 +87,12 @@ step-cases =
     ∷ steps (1 ∷ []) [] (move 1 1 ∷ move 2 1 ∷ []) ⇒ logged (is-record 0 0 (is-sums 0 0 0 0 0 0)) (log [] [])
     ∷ steps (replicate 1025 0) (replicate 1025 0) (move 0 1 ∷ [])
     ⇒ logged (is-record 0 0 (is-sums 0 0 0 0 0 0)) (log [] [])
-    -- the book goes by minutes, not by positions, and adds the lowest position first
+    -- both edges are closed, in the book too
+    ∷ steps (9 ∷ 10 ∷ 30 ∷ 31 ∷ []) (1 ∷ 1 ∷ 1 ∷ 1 ∷ []) (move 20 10 ∷ []) ⇒ logged (is-record 1 3 (is-sums 2 40 1000 2 40 1000)) (log (0 ∷ 1 ∷ 2 ∷ []) (0 ∷ []))
+    -- the book goes by minutes, and adds to both lists the lowest position first, each once
+    ∷ steps (1 ∷ 1 ∷ 2 ∷ 2 ∷ []) (1 ∷ 1 ∷ 1 ∷ 1 ∷ []) (move 1 1 ∷ move 2 1 ∷ move 3 1 ∷ move 4 1 ∷ [])
+    ⇒ logged (is-record 4 4 (is-sums 0 0 0 0 0 0)) (log (0 ∷ 1 ∷ 2 ∷ 3 ∷ []) (0 ∷ 1 ∷ 2 ∷ 3 ∷ []))
+    ∷ steps (5 ∷ 1 ∷ []) (1 ∷ 1 ∷ []) (move 1 1 ∷ move 5 1 ∷ []) ⇒ logged (is-record 0 2 (is-sums 2 6 26 2 6 26)) (log (1 ∷ 0 ∷ []) (1 ∷ []))
     ∷ []
 
 abbrev pub sweep-cases : List Case
