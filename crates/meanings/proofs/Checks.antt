@@ -10,9 +10,10 @@ use native.Mathlib.Omega.{arith}
 use borrow.Author.Tests.{ltb-false, le-ltb, eqb-false}
 use lib.Dec.{ltb, eqb}
 use lib.ListN.{length, getD}
+use Rattle.meanings.specs.declared.Limits.{Limits}
 use Rattle.meanings.specs.Lists.{pick, lowest, Ordered, AtMost}
 use Rattle.meanings.specs.Limits.{full, max-bandwidth, max-u16}
-use Rattle.meanings.specs.Reports.{Fault, Answer, given, refused, unless, Check, at, or-later, first-of, differ, decreases, bad-bandwidth, uneven-samples, evaluate-checks}
+use Rattle.meanings.specs.Reports.{Fault, Answer, given, refused, unless, Check, at, or-later, first-of, differ, decreases, bad-bandwidth, uneven-samples, evaluate-checks, advance-checks, log-checks}
 use Rattle.meanings.specs.Estimate.{Fit, estimate}
 use Rattle.meanings.specs.Calls.{evaluate, evaluate-refusal}
 use Rattle.meanings.proofs.Search.{lowest-none}
@@ -104,3 +105,8 @@ evaluate-accepts ts vs h e =
 pub given-accepted : {A : Type 0} (f : Option Fault) (a b : A) → unless f a ≡ given b → (f ≡ none) × (a ≡ b)
 given-accepted none a b e = (refl, cc)
 given-accepted (some r) a b e = let z : _≡_ {A = ℕ} 0 1 = cc in absurd (omega arith)
+
+-- a step on a record whose edges lie within the readings is refused as the book refuses it, never with 11
+pub advance-refused-as-logged : (L : Limits) (ts vs : List ℕ) (left right h : ℕ) → left ≤ right → right ≤ length ts
+    → first-of (advance-checks L ts vs left right h) ≡ first-of (log-checks L ts vs h)
+advance-refused-as-logged L ts vs left right h a b = rw (le-ltb right left a, le-ltb (length ts) right b)

@@ -4,7 +4,7 @@ use Prim.Native.Nat.{ℕ, zero, suc, _+_, _-_, _*_, _%_, _^_, _≤_, _<_, zero-l
 use mathlib.Core.Path.{_≡_, refl, sym, _∙_, ap}
 use mathlib.Core.Bool.{true, false}
 use mathlib.Core.List.{List}
-use native.Mathlib.Nat.{mod-eq-of-lt, add-mod-right, le-trans, mul-le-mul, pow-le-pow-left, pow-le-pow-right}
+use native.Mathlib.Nat.{mod-eq-of-lt, add-mod-right, le-trans, mul-le-mul, mul-le-mul-left, mul-le-mul-right, pow-le-pow-left, pow-le-pow-right}
 use native.Mathlib.Omega.{arith}
 use borrow.Author.Tests.{lt-ltb, le-ltb, le-leb, lt-leb}
 use lib.Dec.{ltb, leb}
@@ -100,9 +100,8 @@ pub record Small (ts vs : List ℕ) : Type 0 where
   pub values : AtMost max-u16 vs
 
 module _ (ts vs : List ℕ) (s : Small ts vs) where
-  term-bound : (p q i : ℕ) → p ≤ 2 → q ≤ 1 → i < length ts → term p q ts vs i ≤ 2 ^ 48
-  term-bound p q i a b l =
-      mul-le-mul (le-trans (pow-le-pow-left t p) (pow-le-pow-right (omega arith) a)) (le-trans (pow-le-pow-left v q) (pow-le-pow-right (omega arith) b))
+  term-at-most : (p q i : ℕ) → i < length ts → term p q ts vs i ≤ 65536 ^ p * 65536 ^ q
+  term-at-most p q i l = mul-le-mul (pow-le-pow-left t p) (pow-le-pow-left v q)
     where
       t : getD ts i 0 ≤ 65536
       t = omega (arith, s .minutes i l)
@@ -110,11 +109,16 @@ module _ (ts vs : List ℕ) (s : Small ts vs) where
       v : getD vs i 0 ≤ 65536
       v = omega (arith, s .values i (omega arith))
 
-  -- no power sum of them reaches 2^59
+  pub power-sum-at-most : (a n p q : ℕ) → a + n ≤ length ts → power-sum ts vs a n p q ≤ 1024 * (65536 ^ p * 65536 ^ q)
+  power-sum-at-most a n p q l =
+      le-trans (total-at-most (term p q ts vs) (65536 ^ p * 65536 ^ q) a n (λ i m. term-at-most p q (a + i) (omega arith)))
+      (mul-le-mul-right (65536 ^ p * 65536 ^ q) (omega (arith, s .few)))
+
+  -- none of the six comes near 2^64
   pub power-sum-bound : (a n p q : ℕ) → p ≤ 2 → q ≤ 1 → a + n ≤ length ts → power-sum ts vs a n p q ≤ 2 ^ 58
   power-sum-bound a n p q x y l =
-      le-trans (total-at-most (term p q ts vs) (2 ^ 48) a n (λ i m. term-bound p q (a + i) x y (omega arith)))
-      (omega (arith, s .few))
+      le-trans (power-sum-at-most a n p q l)
+      (mul-le-mul-left 1024 (mul-le-mul (pow-le-pow-right (omega arith) x) (pow-le-pow-right (omega arith) y)))
 
   -- a record whose sums are direct sums over its run, moved to later edges
   pub sums-move : (r : RunningSums) (l′ r′ : ℕ) → r .left ≤ r .right → r .right ≤ r′ → r′ ≤ length ts → r .left ≤ l′ → l′ ≤ r′

@@ -24,8 +24,8 @@ pub data Call : Type 0 where
   step : List ℕ → List ℕ → RunningSums → ℕ → ℕ → Call
   -- a list of steps from a fresh record: minutes, values, steps
   steps : List ℕ → List ℕ → List Move → Call
-  -- the sweep: minutes, values, marks, half widths, rows at entry
-  sweep : List ℕ → List ℕ → List ℕ → List ℕ → List ℕ → Call
+  -- the sweep under any limits: minutes, values, marks, half widths, rows at entry
+  sweep : Limits → List ℕ → List ℕ → List ℕ → List ℕ → List ℕ → Call
   -- the filler: first mark, spacing, position, both lists at entry
   filler : ℕ → ℕ → ℕ → List ℕ → List ℕ → Call
   -- what the reader makes of a sheet, under any limits
@@ -58,7 +58,7 @@ result (run ts vs z h) = part (window full ts vs z h) (window-start full ts vs z
 result (sums ts vs z h) = powers (window-sums ts vs z h)
 result (step ts vs r z h) = stepped (advance ts vs r z h)
 result (steps ts vs ms) = logged (after ts vs fresh ms) (log-after ts vs empty-log ms)
-result (sweep ts vs zs hs rs) = swept (smooth full ts vs zs hs rs) (smooth-rows full ts vs zs hs rs)
+result (sweep L ts vs zs hs rs) = swept (smooth L ts vs zs hs rs) (smooth-rows L ts vs zs hs rs)
 result (filler z₀ d k zs hs) = filled (fill full z₀ d k zs hs) (fill-points full z₀ d k zs hs) (fill-bandwidths full z₀ d k zs hs)
 result (sheet L s) = outcome (read-sheet L s)
 result (reader L s ts vs zs hs) =

@@ -73,6 +73,8 @@ step-cases =
     ∷ step (1 ∷ []) [] (is-record 1 0 (is-sums 0 0 0 0 0 0)) 0 0 ⇒ stepped (is-report 8 0)
     ∷ step (replicate 1025 0) (replicate 1025 0) (is-record 1 0 (is-sums 0 0 0 0 0 0)) 0 0
     ⇒ stepped (is-report 6 0)
+    ∷ step (replicate 1024 1) (replicate 1024 1) (is-record 1024 1024 (is-sums 0 0 0 0 0 0)) 1 1
+    ⇒ stepped (given (is-record 1024 1024 (is-sums 0 0 0 0 0 0)))
     ∷ step (1 ∷ []) (1 ∷ []) (is-record 1 0 (is-sums 0 0 0 0 0 0)) 0 0 ⇒ stepped (is-report 11 0)
     ∷ step (1 ∷ []) (1 ∷ []) (is-record 0 2 (is-sums 0 0 0 0 0 0)) 0 0 ⇒ stepped (is-report 11 0)
     ∷ step (1 ∷ []) (1 ∷ []) (is-record 1 1 (is-sums 0 0 0 0 0 0)) 0 0 ⇒ stepped (is-report 9 0)
@@ -98,24 +100,26 @@ step-cases =
 abbrev pub sweep-cases : List Case
 sweep-cases =
     -- 8, 6, 7, 4, 5, 9, 10
-    sweep (1 ∷ []) [] [] [] [] ⇒ swept (is-report 8 0) []
-    ∷ sweep [] [] (1 ∷ []) [] (fives 5) ⇒ swept (is-report 8 0) (fives 5)
-    ∷ sweep [] [] (1 ∷ []) (1 ∷ []) (fives 4) ⇒ swept (is-report 8 0) (fives 4)
-    ∷ sweep [] [] (1 ∷ []) (1 ∷ []) (fives 6) ⇒ swept (is-report 8 0) (fives 6)
-    ∷ sweep (replicate 1025 0) (replicate 1025 0) [] [] [] ⇒ swept (is-report 6 0) []
-    ∷ sweep (1 ∷ 0 ∷ []) (0 ∷ 0 ∷ []) (replicate 513 0) (replicate 513 0) (fives 2565)
+    sweep full (1 ∷ []) [] [] [] [] ⇒ swept (is-report 8 0) []
+    ∷ sweep full [] [] (1 ∷ []) [] (fives 5) ⇒ swept (is-report 8 0) (fives 5)
+    ∷ sweep full [] [] (1 ∷ []) (1 ∷ []) (fives 4) ⇒ swept (is-report 8 0) (fives 4)
+    ∷ sweep full [] [] (1 ∷ []) (1 ∷ []) (fives 6) ⇒ swept (is-report 8 0) (fives 6)
+    ∷ sweep full (replicate 1025 0) (replicate 1025 0) [] [] [] ⇒ swept (is-report 6 0) []
+    ∷ sweep full (1 ∷ 0 ∷ []) (0 ∷ 0 ∷ []) (replicate 513 0) (replicate 513 0) (fives 2565)
     ⇒ swept (is-report 6 0) (fives 2565)
-    ∷ sweep (1 ∷ 0 ∷ []) (0 ∷ 0 ∷ []) [] [] [] ⇒ swept (is-report 7 0) []
-    ∷ sweep (1 ∷ 2 ∷ 1 ∷ 0 ∷ []) (0 ∷ 0 ∷ 0 ∷ 0 ∷ []) (1 ∷ 0 ∷ []) (1 ∷ 1 ∷ []) (fives 10)
+    ∷ sweep full (1 ∷ 0 ∷ []) (0 ∷ 0 ∷ []) [] [] [] ⇒ swept (is-report 7 0) []
+    ∷ sweep full (1 ∷ 2 ∷ 1 ∷ 0 ∷ []) (0 ∷ 0 ∷ 0 ∷ 0 ∷ []) (1 ∷ 0 ∷ []) (1 ∷ 1 ∷ []) (fives 10)
     ⇒ swept (is-report 4 2) (fives 10)
-    ∷ sweep [] [] (1 ∷ 1 ∷ 0 ∷ []) (0 ∷ 1 ∷ 1 ∷ []) (fives 15) ⇒ swept (is-report 5 2) (fives 15)
-    ∷ sweep [] [] (0 ∷ 0 ∷ 0 ∷ []) (3 ∷ 2 ∷ 0 ∷ []) (fives 15) ⇒ swept (is-report 9 2) (fives 15)
-    ∷ sweep [] [] (0 ∷ 0 ∷ []) (65537 ∷ 65536 ∷ []) (fives 10) ⇒ swept (is-report 9 0) (fives 10)
-    ∷ sweep [] [] (5 ∷ 5 ∷ 6 ∷ []) (9 ∷ 9 ∷ 7 ∷ []) (fives 15) ⇒ swept (is-report 10 2) (fives 15)
-    ∷ sweep [] [] (5 ∷ 6 ∷ []) (9 ∷ 8 ∷ []) (fives 10)
+    ∷ sweep full [] [] (1 ∷ 1 ∷ 0 ∷ []) (0 ∷ 1 ∷ 1 ∷ []) (fives 15) ⇒ swept (is-report 5 2) (fives 15)
+    ∷ sweep full [] [] (0 ∷ 0 ∷ 0 ∷ []) (3 ∷ 2 ∷ 0 ∷ []) (fives 15) ⇒ swept (is-report 9 2) (fives 15)
+    ∷ sweep full [] [] (0 ∷ 0 ∷ []) (65537 ∷ 65536 ∷ []) (fives 10) ⇒ swept (is-report 9 0) (fives 10)
+    ∷ sweep full [] [] (5 ∷ 5 ∷ 6 ∷ []) (9 ∷ 9 ∷ 7 ∷ []) (fives 15) ⇒ swept (is-report 10 2) (fives 15)
+    ∷ sweep full [] [] (5 ∷ 6 ∷ []) (9 ∷ 8 ∷ []) (fives 10)
     ⇒ swept (given 0) (0 ∷ 0 ∷ 0 ∷ 0 ∷ 65536 ∷ 0 ∷ 0 ∷ 0 ∷ 0 ∷ 65536 ∷ [])
+    -- as many readings and marks as there may be
+    ∷ sweep small (1 ∷ 1 ∷ []) (2 ∷ 2 ∷ []) (1 ∷ 1 ∷ []) (1 ∷ 1 ∷ []) (fives 10) ⇒ swept (given 2) (0 ∷ 2 ∷ 2 ∷ 4 ∷ 2 ∷ 0 ∷ 2 ∷ 2 ∷ 4 ∷ 2 ∷ [])
     -- a reading taken in and let go, one jumped over, one left
-    ∷ sweep (1 ∷ 5 ∷ 9 ∷ []) (1 ∷ 2 ∷ 3 ∷ []) (2 ∷ 9 ∷ []) (2 ∷ 2 ∷ []) (fives 10)
+    ∷ sweep full (1 ∷ 5 ∷ 9 ∷ []) (1 ∷ 2 ∷ 3 ∷ []) (2 ∷ 9 ∷ []) (2 ∷ 2 ∷ []) (fives 10)
     ⇒ swept (given 5) (0 ∷ 1 ∷ 3 ∷ 3 ∷ 1 ∷ 2 ∷ 3 ∷ 4 ∷ 12 ∷ 3 ∷ [])
     ∷ []
 
@@ -131,6 +135,7 @@ fill-cases =
     ⇒ filled (is-report 13 0) (7 ∷ 7 ∷ 7 ∷ []) (7 ∷ 7 ∷ 7 ∷ [])
     ∷ filler 65533 1 11 (7 ∷ 7 ∷ 7 ∷ []) (7 ∷ 7 ∷ 7 ∷ [])
     ⇒ filled (given tt) (65533 ∷ 65534 ∷ 65535 ∷ []) (1440 ∷ 1440 ∷ 1440 ∷ [])
+    ∷ filler 9 0 0 (fives 512) (fives 512) ⇒ filled (given tt) (replicate 512 9) (replicate 512 30)
     ∷ filler 100 30 2 (7 ∷ 7 ∷ 7 ∷ []) (7 ∷ 7 ∷ 7 ∷ [])
     ⇒ filled (given tt) (100 ∷ 130 ∷ 160 ∷ []) (60 ∷ 60 ∷ 60 ∷ [])
     ∷ []
