@@ -6,8 +6,40 @@ use meanings::Report;
 use meanings::Verdict;
 ghost use mathlib.Core.Path.{_≡_};
 ghost use lib.ListN.{length};
+ghost use Rattle.meanings.specs.Limits.{full as full-limits};
 ghost use Rattle.meanings.specs.Lists.{lowest};
-ghost use Rattle.meanings.specs.Reports.{told-verdict, told-found, first-of, decreases, bad-bandwidth, evaluate-checks};
+ghost use Rattle.meanings.specs.Reports.{number, told-verdict, told-found, first-of, decreases, bad-bandwidth, size-checks, bandwidth-checks, evaluate-checks, advance-checks};
+
+// Document 01's limits: 1,024 kept readings and 512 marks.
+pub fn full() -> Limits
+    ensures { λ r. ⌜ r ≡ full-limits ⌝ }
+{
+    Limits {
+        samples: 1024,
+        points: 512,
+    }
+}
+
+// A report's number in document 01.
+pub fn report_number(report: Report) -> u64
+    ensures { λ r. ⌜ r ≡ number report ⌝ }
+{
+    match report {
+        Report::TooLong => 1,
+        Report::BadHeader => 2,
+        Report::MalformedLine => 3,
+        Report::SampleOutOfOrder => 4,
+        Report::PointOutOfOrder => 5,
+        Report::TooMany => 6,
+        Report::NoPoints => 7,
+        Report::LengthMismatch => 8,
+        Report::BandwidthOutOfRange => 9,
+        Report::EdgeDecreases => 10,
+        Report::InvalidRecord => 11,
+        Report::UnknownPreset => 12,
+        Report::GridOverflow => 13,
+    }
+}
 
 // The lowest position whose element is below the one before.
 pub fn first_decrease(xs: &[u16]) -> Found
@@ -33,9 +65,9 @@ pub fn out_of_range(bandwidth: u32) -> bool
     65536 < bandwidth
 }
 
-// What the question at one mark is refused for: 8, 6, 4, 9.
-pub fn evaluate_fault(minutes: &[u16], values: &[u16], bandwidth: u32, limits: Limits) -> Verdict
-    ensures { λ r. ⌜ told-verdict r ≡ first-of (evaluate-checks limits (now (minutes .entry)) (now (values .entry)) bandwidth) ⌝ }
+// What is looked at first wherever readings come alone: 8, 6.
+pub fn size_fault(minutes: &[u16], values: &[u16], limits: Limits) -> Verdict
+    ensures { λ r. ⌜ told-verdict r ≡ first-of (size-checks limits (now (minutes .entry)) (now (values .entry))) ⌝ }
 {
     if minutes.len() != values.len() {
         return Verdict::Faulty(Refusal {
@@ -49,20 +81,65 @@ pub fn evaluate_fault(minutes: &[u16], values: &[u16], bandwidth: u32, limits: L
             place: 0,
         });
     }
-    match first_decrease(minutes) {
-        Found::At(i) => Verdict::Faulty(Refusal {
-            report: Report::SampleOutOfOrder,
-            place: i,
-        }),
-        Found::Nothing => {
-            if out_of_range(bandwidth) {
-                Verdict::Faulty(Refusal {
-                    report: Report::BandwidthOutOfRange,
+    Verdict::Fit
+}
+
+// What is looked at last wherever one half width is given: 9.
+pub fn bandwidth_fault(bandwidth: u32) -> Verdict
+    ensures { λ r. ⌜ told-verdict r ≡ first-of (bandwidth-checks bandwidth) ⌝ }
+{
+    if out_of_range(bandwidth) {
+        return Verdict::Faulty(Refusal {
+            report: Report::BandwidthOutOfRange,
+            place: 0,
+        });
+    }
+    Verdict::Fit
+}
+
+// What the question at one mark is refused for: 8, 6, 4, 9.
+pub fn evaluate_fault(minutes: &[u16], values: &[u16], bandwidth: u32, limits: Limits) -> Verdict
+    ensures { λ r. ⌜ told-verdict r ≡ first-of (evaluate-checks limits (now (minutes .entry)) (now (values .entry)) bandwidth) ⌝ }
+{
+    match size_fault(minutes, values, limits) {
+        Verdict::Faulty(refusal) => Verdict::Faulty(refusal),
+        Verdict::Fit => match first_decrease(minutes) {
+            Found::At(i) => Verdict::Faulty(Refusal {
+                report: Report::SampleOutOfOrder,
+                place: i,
+            }),
+            Found::Nothing => bandwidth_fault(bandwidth),
+        },
+    }
+}
+
+// What a step is refused for, on a record with these edges: 8, 6, 11, 9.
+pub fn advance_fault(
+    minutes: &[u16],
+    values: &[u16],
+    left: usize,
+    right: usize,
+    bandwidth: u32,
+    limits: Limits,
+) -> Verdict
+    ensures { λ r. ⌜ told-verdict r ≡ first-of (advance-checks limits (now (minutes .entry)) (now (values .entry)) left right bandwidth) ⌝ }
+{
+    match size_fault(minutes, values, limits) {
+        Verdict::Faulty(refusal) => Verdict::Faulty(refusal),
+        Verdict::Fit => {
+            if right < left {
+                return Verdict::Faulty(Refusal {
+                    report: Report::InvalidRecord,
                     place: 0,
-                })
-            } else {
-                Verdict::Fit
+                });
             }
+            if minutes.len() < right {
+                return Verdict::Faulty(Refusal {
+                    report: Report::InvalidRecord,
+                    place: 0,
+                });
+            }
+            bandwidth_fault(bandwidth)
         }
     }
 }

@@ -1,9 +1,9 @@
 -- What an accepted call has shown: no check of its list holds, so minutes and marks are ordered, half widths are in range, and no edge falls.
 use Prim.Native.Nat.{ℕ, zero, suc, _-_, _≤_, _<_}
-use mathlib.Core.Path.{_≡_, refl, sym, _∙_}
+use mathlib.Core.Path.{_≡_, refl, sym, ap, _∙_}
 use mathlib.Core.Logic.{_⊎_, inl, inr}
 use mathlib.Core.Bool.{Bool, true, false, _||_}
-use mathlib.Core.List.{List, [], _∷_}
+use mathlib.Core.List.{List, [], _∷_, _++_}
 use mathlib.Core.Option.{Option, none, some}
 use native.Mathlib.Nat.{not-suc-le-zero, le-refl, le-trans, eq-or-lt-of-le, le-of-suc-le-suc}
 use native.Mathlib.Omega.{arith}
@@ -11,9 +11,12 @@ use borrow.Author.Tests.{ltb-false, le-ltb, eqb-false}
 use lib.Dec.{ltb, eqb}
 use lib.ListN.{length, getD}
 use Rattle.meanings.specs.declared.Limits.{Limits}
+use Rattle.meanings.specs.declared.Refusal.{Refusal}
+use Rattle.meanings.specs.declared.Verdict.{Verdict}
+use Rattle.meanings.specs.declared.Verdict.the-variants.{Faulty}
 use Rattle.meanings.specs.Lists.{pick, lowest, Ordered, AtMost}
 use Rattle.meanings.specs.Limits.{full, max-bandwidth, max-u16}
-use Rattle.meanings.specs.Reports.{Fault, Answer, given, refused, unless, Check, at, or-later, first-of, differ, decreases, bad-bandwidth, uneven-samples, evaluate-checks, advance-checks, log-checks}
+use Rattle.meanings.specs.Reports.{Fault, told, told-verdict, Answer, given, refused, unless, Check, at, or-later, first-of, differ, decreases, bad-bandwidth, uneven-samples, evaluate-checks, advance-checks, log-checks}
 use Rattle.meanings.specs.Estimate.{Fit, estimate}
 use Rattle.meanings.specs.Calls.{evaluate, evaluate-refusal}
 use Rattle.meanings.proofs.Search.{lowest-none}
@@ -31,6 +34,33 @@ none-holds (c ∷ cs) e = by (c .place) refl e (none-holds cs)
         → (c .place ≡ none) × NoneHolds cs
     by none q e k = (q, k e)
     by (some n) q e k = let z : _≡_ {A = ℕ} 0 1 = cc in absurd (omega arith)
+
+-- checks after others: looked at where none of those holds
+pub first-of-front : (cs ds : List Check) (e : Fault) → first-of cs ≡ some e → first-of (cs ++ ds) ≡ some e
+first-of-front [] ds e q = let z : _≡_ {A = ℕ} 0 1 = cc in absurd (omega arith)
+first-of-front (c ∷ cs) ds e q = by (c .place) q (first-of-front cs ds e)
+  where
+    by : (p : Option ℕ) → or-later (c .report) p (first-of cs) ≡ some e → (first-of cs ≡ some e → first-of (cs ++ ds) ≡ some e)
+        → or-later (c .report) p (first-of (cs ++ ds)) ≡ some e
+    by none q k = k q
+    by (some n) q k = q
+
+pub first-of-rest : (cs ds : List Check) → first-of cs ≡ none → first-of (cs ++ ds) ≡ first-of ds
+first-of-rest [] ds q = refl
+first-of-rest (c ∷ cs) ds q = by (c .place) q (first-of-rest cs ds)
+  where
+    by : (p : Option ℕ) → or-later (c .report) p (first-of cs) ≡ none → (first-of cs ≡ none → first-of (cs ++ ds) ≡ first-of ds)
+        → or-later (c .report) p (first-of (cs ++ ds)) ≡ first-of ds
+    by none q k = k q
+    by (some n) q k = let z : _≡_ {A = ℕ} 0 1 = cc in absurd (omega arith)
+
+-- the same of what a check of the code found
+pub found-in-front : (cs ds : List Check) (v : Verdict) (r : Refusal) → told-verdict v ≡ first-of cs → v ≡ Faulty r
+    → some (told r) ≡ first-of (cs ++ ds)
+found-in-front cs ds v r e q = sym (first-of-front cs ds (told r) (sym e ∙ ap told-verdict q))
+
+pub found-none-in-front : (cs ds : List Check) (v : Verdict) → told-verdict v ≡ first-of cs → v ≡ Verdict.Fit → first-of (cs ++ ds) ≡ first-of ds
+found-none-in-front cs ds v e q = first-of-rest cs ds (sym e ∙ ap told-verdict q)
 
 pub at-none : (p : ℕ) (b : Bool) → at p b ≡ none → b ≡ false
 at-none p true e = let z : _≡_ {A = ℕ} 0 1 = cc in absurd (omega arith)
@@ -97,6 +127,30 @@ evaluate-accepts ts vs h e =
       even = differ-false (length ts) (length vs) (at-none 0 (uneven-samples ts vs) (a .0));
       few = ltb-false (full .samples) (length ts) (at-none 0 _ (a .1 .0));
       ordered = no-decrease-ordered ts (a .1 .1 .0);
+      positive = r .0;
+      bandwidth = r .1;
+    }
+
+-- what a step accepts, of a record with these edges
+pub record StepAccepted (ts vs : List ℕ) (left right h : ℕ) : Type 0 where
+  pub even : length ts ≡ length vs
+  pub few : length ts ≤ full .samples
+  pub edges : left ≤ right
+  pub inside : right ≤ length ts
+  pub positive : 0 < h
+  pub bandwidth : h ≤ max-bandwidth
+
+pub advance-accepts : (ts vs : List ℕ) (left right h : ℕ) → first-of (advance-checks full ts vs left right h) ≡ none
+    → StepAccepted ts vs left right h
+advance-accepts ts vs left right h e =
+    let a = none-holds (advance-checks full ts vs left right h) e in
+    let o = or-false (ltb right left) (ltb (length ts) right) (at-none 0 _ (a .1 .1 .0)) in
+    let r = bandwidth-in-range h (at-none 0 (bad-bandwidth h) (a .1 .1 .1 .0)) in
+    record {
+      even = differ-false (length ts) (length vs) (at-none 0 (uneven-samples ts vs) (a .0));
+      few = ltb-false (full .samples) (length ts) (at-none 0 _ (a .1 .0));
+      edges = ltb-false right left (o .0);
+      inside = ltb-false (length ts) right (o .1);
       positive = r .0;
       bandwidth = r .1;
     }

@@ -1,4 +1,5 @@
 pub mod Accepted
+pub mod Agreement
 pub mod Answers
 pub mod Bounds
 pub mod Cases
@@ -14,3 +15,4 @@ pub mod Search
 pub mod Steps
 pub mod Totals
 pub mod Window
+pub mod WrongAnswers

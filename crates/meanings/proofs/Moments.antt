@@ -20,10 +20,10 @@ totals-balance f g₀ g₁ g₂ A B C a zero k = omega arith
 totals-balance f g₀ g₁ g₂ A B C a (suc n) k =
     omega (arith, totals-balance f g₀ g₁ g₂ A B C a n (λ i l. k i (omega arith)), k n (omega arith))
 
-power-one : (x : ℕ) → x ^ 1 ≡ x
+pub power-one : (x : ℕ) → x ^ 1 ≡ x
 power-one x = pow-suc x 0 ∙ rw (pow-zero x) (one-mul x)
 
-power-two : (x : ℕ) → x ^ 2 ≡ x * x
+pub power-two : (x : ℕ) → x ^ 2 ≡ x * x
 power-two x = pow-suc x 1 ∙ rw (power-one x)
 
 times : (k a b c d v : ℕ) → k + a + b ≡ c + d → k * v + a * v + b * v ≡ c * v + d * v

@@ -4,8 +4,7 @@ use Prim.Native.Nat.{ℕ, zero, suc, _+_, _-_, _*_, _/_, _%_, _≤_}
 use mathlib.Core.Path.{_≡_}
 use mathlib.Core.List.{List, [], _∷_, _++_}
 use lib.Dec.{ltb, leb, eqb}
-use lib.ListN.{length, getD}
-use lib.Seq.{slice}
+use lib.ListN.{length, getD, take, drop}
 use Rattle.meanings.specs.declared.Estimate.{Estimate}
 use Rattle.meanings.specs.Lists.{pick, count, total, distance, AtMost}
 use Rattle.meanings.specs.Limits.{full, max-u16, max-bandwidth}
@@ -31,7 +30,7 @@ right-of ts z h = count (λ t. leb t (z + h)) ts
 
 -- the run's values: positions left up to but without right
 abbrev pub run-of : List ℕ → List ℕ → ℕ → ℕ → List ℕ
-run-of ts vs z h = slice (left-of ts z h) (right-of ts z h) vs
+run-of ts vs z h = take (right-of ts z h - left-of ts z h) (drop (left-of ts z h) vs)
 
 -- h² − (minute − z)²; the law kernel-exact says that inside the window nothing is cut off at 0
 unfoldable pub kernel : ℕ → ℕ → ℕ → ℕ

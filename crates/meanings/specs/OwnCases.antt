@@ -123,10 +123,27 @@ sweep-cases =
     ⇒ swept (given 5) (0 ∷ 1 ∷ 3 ∷ 3 ∷ 1 ∷ 2 ∷ 3 ∷ 4 ∷ 12 ∷ 3 ∷ [])
     ∷ []
 
+-- one mark, with the half width of a position
+abbrev at-preset : ℕ → ℕ → Case
+at-preset k h = filler 0 0 k (7 ∷ []) (7 ∷ []) ⇒ filled (given tt) (0 ∷ []) (h ∷ [])
+
 abbrev pub fill-cases : List Case
 fill-cases =
+    -- the knob's positions
+    at-preset 0 30
+    ∷ at-preset 1 45
+    ∷ at-preset 2 60
+    ∷ at-preset 3 90
+    ∷ at-preset 4 120
+    ∷ at-preset 5 180
+    ∷ at-preset 6 240
+    ∷ at-preset 7 360
+    ∷ at-preset 8 480
+    ∷ at-preset 9 720
+    ∷ at-preset 10 1080
+    ∷ at-preset 11 1440
     -- 8, 7, 6, 12, 13
-    filler 0 0 12 [] (7 ∷ []) ⇒ filled (is-report 8 0) [] (7 ∷ [])
+    ∷ filler 0 0 12 [] (7 ∷ []) ⇒ filled (is-report 8 0) [] (7 ∷ [])
     ∷ filler 0 0 12 (7 ∷ 7 ∷ []) (7 ∷ []) ⇒ filled (is-report 8 0) (7 ∷ 7 ∷ []) (7 ∷ [])
     ∷ filler 0 0 12 [] [] ⇒ filled (is-report 7 0) [] []
     ∷ filler 0 0 12 (fives 513) (fives 513) ⇒ filled (is-report 6 0) (fives 513) (fives 513)

@@ -120,6 +120,14 @@ edge-decreases zs hs (suc k) = edge-below (getD zs (suc k) 0) (getD hs (suc k) 0
 abbrev pub uneven-samples : List ℕ → List ℕ → Bool
 uneven-samples ts vs = differ (length ts) (length vs)
 
+-- what is looked at first wherever readings come alone: 8, 6
+abbrev pub size-checks : Limits → List ℕ → List ℕ → List Check
+size-checks L ts vs = report 8 (at 0 (uneven-samples ts vs)) ∷ report 6 (at 0 (ltb (L .samples) (length ts))) ∷ []
+
+-- and what is looked at last wherever one half width is given: 9
+abbrev pub bandwidth-checks : ℕ → List Check
+bandwidth-checks h = report 9 (at 0 (bad-bandwidth h)) ∷ []
+
 -- the sweep: 8 (minutes with values, marks with half widths, rows exactly five times marks), 6, 7, 4, 5, 9, 10, lowest position each
 abbrev pub smooth-checks : Limits → List ℕ → List ℕ → List ℕ → List ℕ → List ℕ → List Check
 smooth-checks L ts vs zs hs rs =

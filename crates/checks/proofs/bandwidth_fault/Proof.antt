@@ -1,0 +1,17 @@
+-- The one test decides.
+use mathlib.Core.Path.{sym, _∙_}
+use borrow.Author.Needs.{needs}
+use Rattle.checks.proofs.bandwidth_fault.Statement.{statement}
+use Rattle.checks.proofs.bandwidth_fault.Tie as tie
+
+out-of-range-requires : tie.Need-out-of-range-requires
+out-of-range-requires c κs = search needs
+
+returns : tie.Need-returns
+returns c = rw (sym (c .before .out-of-range .ensures) ∙ c .if1 .taken)
+
+returns-2 : tie.Need-returns-2
+returns-2 c = rw (sym (c .before .out-of-range .ensures) ∙ c .if1 .left)
+
+pub bandwidth-fault-spec : {M : Type 1} → statement M
+bandwidth-fault-spec = tie.close (tie.spec out-of-range-requires returns returns-2)

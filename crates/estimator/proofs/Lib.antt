@@ -1,0 +1,5 @@
+pub mod Laws
+pub mod Moves
+pub mod Rows
+pub mod Searches
+pub mod Verdicts

@@ -1,0 +1,62 @@
+-- A row that is made of the direct sums over a window's run is the meaning's row: the formula over six sums fixes weight and sum.
+use Prim.Native.Nat.{ℕ, _+_, _-_, _*_, _^_, _≤_, _<_}
+use mathlib.Core.Path.{_≡_, refl, sym, ap, _∙_}
+use mathlib.Core.List.{List}
+use native.Mathlib.Nat.{le-trans, zero-add, mod-eq-of-lt}
+use native.Mathlib.Omega.{arith}
+use lib.ListN.{length, getD}
+use Rattle.meanings.specs.declared.Estimate.{Estimate}
+use Rattle.meanings.specs.declared.PowerSums.{PowerSums}
+use Rattle.meanings.specs.Lists.{Ordered}
+use Rattle.meanings.specs.Limits.{max-bandwidth}
+use Rattle.meanings.specs.Estimate.{left-of, right-of, weight-of, sum-of, value-of, estimate}
+use Rattle.meanings.specs.Running.{six, sum-at, plus, power-sum, window-sum, window-sums}
+use Rattle.meanings.proofs.Moments.{weight-formula, sum-formula}
+use Rattle.meanings.proofs.Steps.{Small, power-sum-at-most, power-sum-bound, six-agree, six-at}
+use Rattle.meanings.proofs.Window.{left-at-most-right, right-at-most-length}
+use Rattle.estimator.specs.Rows.{Combines, SumsFit, RowOf}
+
+-- what is taken in from zero at a window's edges is the window's sums
+pub taken-from-zero : (ts vs : List ℕ) (z h : ℕ) → Small ts vs → (z₀ r : PowerSums) (a b : ℕ) → z₀ ≡ six (λ p q. 0)
+    → a ≡ left-of ts z h → b ≡ right-of ts z h
+    → r ≡ six (λ p q. plus 64 (sum-at z₀ p q) (power-sum ts vs a (b - a) p q))
+    → r ≡ window-sums ts vs z h
+taken-from-zero ts vs z h s z₀ r a b e l m q =
+    q
+    ∙ rw (e, l, m)
+    (six-agree (λ i j. plus 64 (sum-at (six (λ p q. 0)) i j) (window-sum ts vs z h i j)) (window-sum ts vs z h)
+    (λ i j x y. rw (six-at (λ p q. 0) i j x y, zero-add) (mod-eq-of-lt (below i j x y))))
+  where
+    below : (i j : ℕ) → i ≤ 2 → j ≤ 1 → window-sum ts vs z h i j < 2 ^ 64
+    below i j x y =
+        let n = power-sum-bound ts vs s (left-of ts z h) (right-of ts z h - left-of ts z h) i j x y (omega (arith, left-at-most-right ts z h, right-at-most-length ts z h)) in
+        omega arith
+
+module _ (ts vs : List ℕ) (z h : ℕ) (o : Ordered ts) where
+  pub window-sums-fit : Small ts vs → h ≤ max-bandwidth → SumsFit (window-sums ts vs z h) z h
+  window-sums-fit s b = record {
+    counts = record { small0 = most 0 0 (omega arith); small1 = most 1 0 (omega arith); small2 = most 2 0 (omega arith); narrow = b; positive = omega (arith, weight-formula ts vs z h o) };
+    values = record { small0 = most 0 1 (omega arith); small1 = most 1 1 (omega arith); small2 = most 2 1 (omega arith); narrow = b; positive = omega (arith, sum-formula ts vs z h o) };
+  }
+    where
+      most : (p q : ℕ) {m : ℕ} → 1024 * (65536 ^ p * 65536 ^ q) ≤ m → window-sum ts vs z h p q ≤ m
+      most p q =
+          le-trans
+          (power-sum-at-most ts vs s (left-of ts z h) (right-of ts z h - left-of ts z h) p q
+          (omega (arith, left-at-most-right ts z h, right-at-most-length ts z h)))
+
+  pub row-of-window : (e : Estimate) → RowOf (left-of ts z h) (right-of ts z h) (window-sums ts vs z h) z h e → e ≡ estimate ts vs z h
+  unfolding estimate
+  row-of-window e r = λ i. record {
+    left = r .left-is i;
+    right = r .right-is i;
+    weight = weight-same i;
+    sum = sum-same i;
+    value = (r .value-is ∙ ap (λ (s : ℕ). value-of s (e .weight)) sum-same ∙ ap (λ (w : ℕ). value-of (sum-of ts vs z h) w) weight-same) i;
+  }
+    where
+      weight-same : e .weight ≡ weight-of ts z h
+      weight-same = omega (arith, r .weight-is, weight-formula ts vs z h o)
+
+      sum-same : e .sum ≡ sum-of ts vs z h
+      sum-same = omega (arith, r .sum-is, sum-formula ts vs z h o)

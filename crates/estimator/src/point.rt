@@ -1,0 +1,45 @@
+// The edges and the row of one mark's window, for ordered minutes.
+use crate::edges::first_from;
+use crate::row::row_of;
+use crate::sums::with_run;
+use crate::sums::zero_sums;
+use meanings::Estimate;
+ghost use mathlib.Core.Path.{_≡_};
+ghost use Prim.Native.Nat.{_-_};
+ghost use Rattle.meanings.specs.Lists.{Ordered};
+ghost use Rattle.meanings.specs.Estimate.{left-of, right-of, estimate};
+ghost use Rattle.meanings.proofs.Checks.{Accepted};
+
+// A window's run: positions left up to but without right.
+pub(crate) struct Span {
+    pub(crate) left: usize,
+    pub(crate) right: usize,
+}
+
+// The least minute that is not under the left edge: z − h, or 0 where that is negative.
+pub(crate) fn lowest_minute(point: u16, bandwidth: u32) -> u64
+    ensures { λ r. ⌜ r ≡ point - bandwidth ⌝ }
+{
+    let z = point as u64;
+    let h = bandwidth as u64;
+    if h < z { z - h } else { 0 }
+}
+
+pub(crate) fn span_at(minutes: &[u16], point: u16, bandwidth: u32) -> Span
+    requires { ⌜ Ordered (now minutes) ⌝ }
+    ensures { λ r. ⌜ (r .left ≡ left-of (now (minutes .entry)) point bandwidth) × (r .right ≡ right-of (now (minutes .entry)) point bandwidth) ⌝ }
+{
+    let over = point as u64 + bandwidth as u64 + 1;
+    let right = first_from(minutes, 0, minutes.len(), over);
+    let left = first_from(minutes, 0, right, lowest_minute(point, bandwidth));
+    Span { left, right }
+}
+
+pub(crate) fn row_at(minutes: &[u16], values: &[u16], point: u16, bandwidth: u32) -> Estimate
+    requires { ⌜ Accepted (now minutes) (now values) bandwidth ⌝ }
+    ensures { λ r. ⌜ r ≡ estimate (now (minutes .entry)) (now (values .entry)) point bandwidth ⌝ }
+{
+    let span = span_at(minutes, point, bandwidth);
+    let sums = with_run(zero_sums(), minutes, values, span.left, span.right);
+    row_of(span.left, span.right, sums, point, bandwidth)
+}

@@ -1,0 +1,34 @@
+// One step of a running record: the right edge moves on, then the left one, up to the new right.
+use crate::edges::first_from;
+use crate::point::lowest_minute;
+use crate::sums::with_run;
+use crate::sums::without_run;
+use meanings::RunningSums;
+ghost use mathlib.Core.Path.{_≡_};
+ghost use Prim.Native.Nat.{_≤_};
+ghost use lib.ListN.{length};
+ghost use Rattle.meanings.specs.Running.{moved as moved-meaning};
+
+pub(crate) fn moved(
+    running: RunningSums,
+    minutes: &[u16],
+    values: &[u16],
+    point: u16,
+    bandwidth: u32,
+) -> RunningSums
+    requires { ⌜ (length (now minutes) ≡ length (now values)) × (running .left ≤ running .right) × (running .right ≤ length (now minutes)) ⌝ }
+    ensures { λ r. ⌜ r ≡ moved-meaning (now (minutes .entry)) (now (values .entry)) running point bandwidth ⌝ }
+{
+    let over = point as u64 + bandwidth as u64 + 1;
+    let right = first_from(minutes, running.right, minutes.len(), over);
+    let left = first_from(
+        minutes,
+        running.left,
+        right,
+        lowest_minute(point, bandwidth),
+    );
+    let sums = running.sums;
+    let taken = with_run(sums, minutes, values, running.right, right);
+    let sums = without_run(taken, minutes, values, running.left, left);
+    RunningSums { left, right, sums }
+}
