@@ -31,7 +31,8 @@ pub(crate) fn span_at(minutes: &[u16], point: u16, bandwidth: u32) -> Span
 {
     let over = point as u64 + bandwidth as u64 + 1;
     let right = first_from(minutes, 0, minutes.len(), over);
-    let left = first_from(minutes, 0, right, lowest_minute(point, bandwidth));
+    let low = lowest_minute(point, bandwidth);
+    let left = first_from(minutes, 0, right, low);
     Span { left, right }
 }
 

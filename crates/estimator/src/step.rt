@@ -21,12 +21,8 @@ pub(crate) fn moved(
 {
     let over = point as u64 + bandwidth as u64 + 1;
     let right = first_from(minutes, running.right, minutes.len(), over);
-    let left = first_from(
-        minutes,
-        running.left,
-        right,
-        lowest_minute(point, bandwidth),
-    );
+    let low = lowest_minute(point, bandwidth);
+    let left = first_from(minutes, running.left, right, low);
     let sums = running.sums;
     let taken = with_run(sums, minutes, values, running.right, right);
     let sums = without_run(taken, minutes, values, running.left, left);

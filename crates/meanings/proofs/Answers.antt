@@ -16,6 +16,9 @@ use Rattle.meanings.specs.declared.Smoothing.the-variants.{Passes, Unswe
 use Rattle.meanings.specs.declared.Filling.the-variants.{Filled, Unfilled}
 use Rattle.meanings.specs.declared.Reading.the-variants.{Used, Unread}
 use Rattle.meanings.specs.Reports.{number, told-verdict, told-found, given, refused}
+use Rattle.meanings.specs.EventLog.{takings, lettings}
+use Rattle.meanings.specs.Output.{program, outcome-text}
+use Rattle.meanings.specs.Sheet.{read-sheet}
 use Rattle.meanings.specs.Calls.{told-evaluation, told-advance, told-smoothing, told-filling, told-reading}
 
 -- overlong, heading, torn line, early reading, early mark, crowded, no marks, uneven, half width, edge back, foreign record, knob, past the clock
@@ -62,3 +65,13 @@ pub values-are-told : (e : Estimate) (r : RunningSums) (n m : ℕ)
     × (told-filling Filled ≡ given tt)
     × (told-reading (Used n m) ≡ given (record { samples = n; points = m }))
 values-are-told e r n m = (refl, refl, refl, refl, refl, refl, refl, refl)
+
+-- the book's takings and lettings are the lengths of its two lists
+pub log-is-counted : (takings (record { inserted = 0 ∷ 1 ∷ []; evicted = 0 ∷ [] }) ≡ 2)
+    × (lettings (record { inserted = 0 ∷ 1 ∷ []; evicted = 0 ∷ [] }) ≡ 1)
+log-is-counted = (refl, refl)
+
+-- the program reads under document 01's limits
+pub program-limits : (s : List ℕ) → program s ≡ outcome-text (read-sheet (record { samples = 1024; points = 512 }) s)
+unfolding program
+program-limits s = refl

@@ -1,5 +1,5 @@
 -- What an accepted call has shown: no check of its list holds, so minutes and marks are ordered, half widths are in range, and no edge falls.
-use Prim.Native.Nat.{ℕ, zero, suc, _-_, _≤_, _<_}
+use Prim.Native.Nat.{ℕ, zero, suc, _-_, _*_, _≤_, _<_}
 use mathlib.Core.Path.{_≡_, refl, sym, ap, _∙_}
 use mathlib.Core.Logic.{_⊎_, inl, inr}
 use mathlib.Core.Bool.{Bool, true, false, _||_}
@@ -16,7 +16,7 @@ use Rattle.meanings.specs.declared.Verdict.{Verdict}
 use Rattle.meanings.specs.declared.Verdict.the-variants.{Faulty}
 use Rattle.meanings.specs.Lists.{pick, lowest, Ordered, AtMost}
 use Rattle.meanings.specs.Limits.{full, max-bandwidth, max-u16}
-use Rattle.meanings.specs.Reports.{Fault, told, told-verdict, Answer, given, refused, unless, Check, at, or-later, first-of, differ, decreases, bad-bandwidth, uneven-samples, evaluate-checks, advance-checks, log-checks}
+use Rattle.meanings.specs.Reports.{Fault, told, told-verdict, Answer, given, refused, unless, Check, at, or-later, first-of, differ, decreases, bad-bandwidth, edge-below, edge-decreases, uneven-samples, smooth-size-checks, evaluate-checks, advance-checks, log-checks}
 use Rattle.meanings.specs.Estimate.{Fit, estimate}
 use Rattle.meanings.specs.Calls.{evaluate, evaluate-refusal}
 use Rattle.meanings.proofs.Search.{lowest-none}
@@ -98,6 +98,11 @@ pub decreases-at : (xs : List ℕ) (k : ℕ) → 1 ≤ k → decreases xs k ≡ 
 decreases-at xs zero l = absurd (not-suc-le-zero l)
 decreases-at xs (suc k) l = let e : suc k - 1 ≡ k = omega arith in rw e
 
+pub edge-decreases-at : (zs hs : List ℕ) (k : ℕ) → 1 ≤ k
+    → edge-decreases zs hs k ≡ edge-below (getD zs k 0) (getD hs k 0) (getD zs (k - 1) 0) (getD hs (k - 1) 0)
+edge-decreases-at zs hs zero l = absurd (not-suc-le-zero l)
+edge-decreases-at zs hs (suc k) l = let e : suc k - 1 ≡ k = omega arith in rw e
+
 -- no element is below the one before: the list is ordered
 pub steps-ordered : (xs : List ℕ) → ((k : ℕ) → suc k < length xs → getD xs k 0 ≤ getD xs (suc k) 0) → Ordered xs
 steps-ordered xs f i zero a l = let e : i ≡ 0 = omega arith in rw e (le-refl _)
@@ -153,6 +158,32 @@ advance-accepts ts vs left right h e =
       inside = ltb-false (length ts) right (o .1);
       positive = r .0;
       bandwidth = r .1;
+    }
+
+-- what the lengths of a sweep's lists have to be
+pub record SizesAccepted (L : Limits) (ts vs zs hs : List ℕ) (rows : ℕ) : Type 0 where
+  pub even : length ts ≡ length vs
+  pub even-points : length zs ≡ length hs
+  pub rows-five : rows ≡ 5 * length zs
+  pub few : length ts ≤ L .samples
+  pub few-points : length zs ≤ L .points
+  pub some-point : 0 < length zs
+
+pub smooth-sizes-accept : (L : Limits) (ts vs zs hs : List ℕ) (rows : ℕ) → first-of (smooth-size-checks L ts vs zs hs rows) ≡ none
+    → SizesAccepted L ts vs zs hs rows
+smooth-sizes-accept L ts vs zs hs rows e =
+    let a = none-holds (smooth-size-checks L ts vs zs hs rows) e in
+    let o = or-false (uneven-samples ts vs || differ (length zs) (length hs)) (differ rows (5 * length zs)) (at-none 0 _ (a .0)) in
+    let u = or-false (uneven-samples ts vs) (differ (length zs) (length hs)) (o .0) in
+    let f = or-false (ltb (L .samples) (length ts)) (ltb (L .points) (length zs)) (at-none 0 _ (a .1 .0)) in
+    let n : length zs ≡ 0 → ⊥ = eqb-false (length zs) 0 (at-none 0 _ (a .1 .1 .0)) in
+    record {
+      even = differ-false (length ts) (length vs) (u .0);
+      even-points = differ-false (length zs) (length hs) (u .1);
+      rows-five = differ-false rows (5 * length zs) (o .1);
+      few = ltb-false (L .samples) (length ts) (f .0);
+      few-points = ltb-false (L .points) (length zs) (f .1);
+      some-point = omega arith;
     }
 
 -- an answer that is given was not refused

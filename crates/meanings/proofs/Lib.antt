@@ -12,6 +12,7 @@ pub mod Presets
 pub mod Published
 pub mod Rounding
 pub mod Search
+pub mod SheetForms
 pub mod Steps
 pub mod Totals
 pub mod Window

@@ -48,13 +48,13 @@ abbrev pub told-advance : Advance → Answer RunningSums
 told-advance (Moved r) = given r
 told-advance (Stayed r) = refused (told r)
 
--- the whole sweep: its passes or the report
+-- the whole sweep, under limits at most document 01's: its passes or the report
 abbrev pub told-smoothing : Smoothing → Answer ℕ
 told-smoothing (Passes n) = given n
 told-smoothing (Unswept r) = refused (told r)
 
 abbrev pub smooth-refusal : Limits → List ℕ → List ℕ → List ℕ → List ℕ → List ℕ → Option Fault
-smooth-refusal L ts vs zs hs rs = first-of (smooth-checks L ts vs zs hs rs)
+smooth-refusal L ts vs zs hs rs = first-of (smooth-checks L ts vs zs hs (length rs))
 
 unfoldable pub smooth : Limits → List ℕ → List ℕ → List ℕ → List ℕ → List ℕ → Answer ℕ
 smooth L ts vs zs hs rs = unless (smooth-refusal L ts vs zs hs rs) (passes ts vs fresh (moves zs hs))
@@ -104,3 +104,16 @@ counts (given c) = given (record { samples = length (c .minutes); points = lengt
 abbrev pub filled-front : Outcome → (Contents → List ℕ) → List ℕ → List ℕ
 filled-front (refused e) part xs = xs
 filled-front (given c) part xs = part c ++ drop (length (part c)) xs
+
+-- the four lent lists at exit
+abbrev pub read-minutes : Outcome → List ℕ → List ℕ
+read-minutes o ts = filled-front o (λ c. c .minutes) ts
+
+abbrev pub read-values : Outcome → List ℕ → List ℕ
+read-values o vs = filled-front o (λ c. c .values) vs
+
+abbrev pub read-marks : Outcome → List ℕ → List ℕ
+read-marks o zs = filled-front o (λ c. c .points) zs
+
+abbrev pub read-bandwidths : Outcome → List ℕ → List ℕ
+read-bandwidths o hs = filled-front o (λ c. c .bandwidths) hs

@@ -14,7 +14,7 @@ use Rattle.meanings.specs.Reports.{Answer, given, refused}
 use Rattle.meanings.specs.Running.{window-sums, advance, after, fresh}
 use Rattle.meanings.specs.EventLog.{EventLog, empty-log, log-after}
 use Rattle.meanings.specs.Sheet.{Contents, read-sheet}
-use Rattle.meanings.specs.Calls.{evaluate, window, window-start, smooth, smooth-rows, fill, fill-points, fill-bandwidths, read, counts, filled-front, Counts}
+use Rattle.meanings.specs.Calls.{evaluate, window, window-start, smooth, smooth-rows, fill, fill-points, fill-bandwidths, read, counts, read-minutes, read-values, read-marks, read-bandwidths, Counts}
 use Rattle.meanings.specs.Output.{program}
 
 pub data Call : Type 0 where
@@ -24,7 +24,7 @@ pub data Call : Type 0 where
   step : List ℕ → List ℕ → RunningSums → ℕ → ℕ → Call
   -- a list of steps from a fresh record: minutes, values, steps
   steps : List ℕ → List ℕ → List Move → Call
-  -- the sweep under any limits: minutes, values, marks, half widths, rows at entry
+  -- the sweep under limits at most document 01's: minutes, values, marks, half widths, rows at entry
   sweep : Limits → List ℕ → List ℕ → List ℕ → List ℕ → List ℕ → Call
   -- the filler: first mark, spacing, position, both lists at entry
   filler : ℕ → ℕ → ℕ → List ℕ → List ℕ → Call
@@ -64,12 +64,7 @@ result (sheet L s) = outcome (read-sheet L s)
 result (reader L s ts vs zs hs) =
     let o = read L s ts vs zs hs in
     read-into (counts o)
-    (record {
-      minutes = filled-front o (λ c. c .minutes) ts;
-      values = filled-front o (λ c. c .values) vs;
-      points = filled-front o (λ c. c .points) zs;
-      bandwidths = filled-front o (λ c. c .bandwidths) hs;
-    })
+    (record { minutes = read-minutes o ts; values = read-values o vs; points = read-marks o zs; bandwidths = read-bandwidths o hs })
 result (output s) = written (program (ascii s))
 
 pub record Case : Type 0 where

@@ -1,5 +1,5 @@
 -- Cases of our own: the closed right edge, which C1 to C12 leave open, and each report of each call that can give it, with its place and
--- with the reports that are looked at before and after it.
+-- where a later report of the call's order holds too.
 use Prim.Native.Nat.{ℕ, _+_, _-_, _^_}
 use mathlib.Core.List.{List, [], _∷_, _++_}
 use lib.ListN.{replicate}
@@ -17,6 +17,16 @@ fives n = replicate n 5
 
 abbrev small : Limits
 small = record { samples = 2; points = 2 }
+
+abbrev three-one : Limits
+three-one = record { samples = 3; points = 1 }
+
+-- lists of those lengths
+abbrev sevens : List ℕ
+sevens = 7 ∷ 7 ∷ 7 ∷ []
+
+abbrev one : List ℕ
+one = 7 ∷ []
 
 abbrev move : ℕ → ℕ → Move
 move z h = record { point = z; bandwidth = h }
@@ -38,9 +48,13 @@ one-point-cases =
     ∷ row (9 ∷ 31 ∷ []) (1 ∷ 2 ∷ []) 20 10 ⇒ estimated (is-row 1 1 0 0 65536)
     ∷ run (1 ∷ 10 ∷ 20 ∷ 31 ∷ []) (4 ∷ 5 ∷ 6 ∷ 7 ∷ []) 20 10 ⇒ part (5 ∷ 6 ∷ []) 1
     ∷ row (0 ∷ 0 ∷ 0 ∷ []) (2 ∷ 2 ∷ 3 ∷ []) 0 1 ⇒ estimated (is-row 0 3 3 7 2)
+    -- a weight above 0 with a sum of 0 is not missing; the greatest weight and sum
+    ∷ row (0 ∷ []) (0 ∷ []) 0 1 ⇒ estimated (is-row 0 1 1 0 0)
+    ∷ row (replicate 1024 65535) (replicate 1024 65535) 65535 65536 ⇒ estimated (is-row 0 1024 (2 ^ 42) (2 ^ 58 - 2 ^ 42) 65535)
     -- 8, 6, 4, 9
     ∷ row (1 ∷ 0 ∷ []) (1 ∷ []) 0 0 ⇒ estimated (is-report 8 0)
     ∷ row (1 ∷ []) (1 ∷ 2 ∷ []) 0 1 ⇒ estimated (is-report 8 0)
+    ∷ row (replicate 1025 0) [] 0 1 ⇒ estimated (is-report 8 0)
     ∷ row (1 ∷ replicate 1024 0) (replicate 1025 0) 0 0 ⇒ estimated (is-report 6 0)
     ∷ row (replicate 1024 3) (replicate 1024 4) 3 1 ⇒ estimated (is-row 0 1024 1024 4096 4)
     ∷ row (1 ∷ 2 ∷ 1 ∷ 0 ∷ []) (1 ∷ 1 ∷ 1 ∷ 1 ∷ []) 0 0 ⇒ estimated (is-report 4 2)
@@ -48,16 +62,22 @@ one-point-cases =
     ∷ row [] [] 0 65537 ⇒ estimated (is-report 9 0)
     ∷ row [] [] 0 65536 ⇒ estimated (is-row 0 0 0 0 65536)
     ∷ run (2 ∷ 1 ∷ []) (1 ∷ 1 ∷ []) 0 9 ⇒ part [] 0
+    ∷ run (2 ∷ []) [] 0 9 ⇒ part [] 0
+    ∷ run (replicate 1025 0) (replicate 1025 0) 0 9 ⇒ part [] 0
+    ∷ run (2 ∷ []) (1 ∷ []) 2 0 ⇒ part [] 0
     ∷ []
 
 abbrev pub step-cases : List Case
 step-cases =
-    -- sums of any record, modulo 2^64: readings 1 and 2 are taken in at positions 2 and 3, reading 1 is let go
+    -- sums of any record, modulo 2^64: positions 2 and 3 are taken in, position 1 is let go
     step (1 ∷ 2 ∷ 3 ∷ 5 ∷ 9 ∷ []) (1 ∷ 1 ∷ 2 ∷ 1 ∷ 1 ∷ []) any-record 5 2
     ⇒ stepped (given (is-record 2 4 (is-sums 1 7 35 1 9 46)))
     -- a reading let go from sums below and above it
     ∷ step (1 ∷ []) (2 ∷ []) (is-record 0 1 (is-sums 0 0 0 (2 ^ 63 + 5) 9 1)) 9 1
     ⇒ stepped (given (is-record 1 1 (is-sums (2 ^ 64 - 1) (2 ^ 64 - 1) (2 ^ 64 - 1) (2 ^ 63 + 3) 7 (2 ^ 64 - 1))))
+    -- neither edge goes back
+    ∷ step (1 ∷ 2 ∷ 3 ∷ []) (1 ∷ 1 ∷ 1 ∷ []) (is-record 2 3 (is-sums 1 3 9 1 3 9)) 1 1
+    ⇒ stepped (given (is-record 2 3 (is-sums 1 3 9 1 3 9)))
     -- new right first: left runs up to it (C9)
     ∷ step (50 ∷ []) (9 ∷ []) (is-record 0 0 (is-sums 0 0 0 0 0 0)) 100 1
     ⇒ stepped (given (is-record 1 1 (is-sums 0 0 0 0 0 0)))
@@ -70,6 +90,9 @@ step-cases =
     ∷ step (0 ∷ 9 ∷ 0 ∷ []) (1 ∷ 1 ∷ 1 ∷ []) (is-record 0 3 (is-sums 3 9 81 3 9 81)) 9 1
     ⇒ stepped (given (is-record 1 3 (is-sums 2 9 81 2 9 81)))
     -- 8, 6, 11, 9
+    ∷ step [] (1 ∷ []) (is-record 0 0 (is-sums 0 0 0 0 0 0)) 0 1 ⇒ stepped (is-report 8 0)
+    ∷ step (replicate 1025 0) [] (is-record 0 0 (is-sums 0 0 0 0 0 0)) 0 1 ⇒ stepped (is-report 8 0)
+    ∷ step [] [] (is-record 0 0 (is-sums 0 0 0 0 0 0)) 0 65536 ⇒ stepped (given (is-record 0 0 (is-sums 0 0 0 0 0 0)))
     ∷ step (1 ∷ []) [] (is-record 1 0 (is-sums 0 0 0 0 0 0)) 0 0 ⇒ stepped (is-report 8 0)
     ∷ step (replicate 1025 0) (replicate 1025 0) (is-record 1 0 (is-sums 0 0 0 0 0 0)) 0 0
     ⇒ stepped (is-report 6 0)
@@ -100,7 +123,16 @@ step-cases =
 abbrev pub sweep-cases : List Case
 sweep-cases =
     -- 8, 6, 7, 4, 5, 9, 10
-    sweep full (1 ∷ []) [] [] [] [] ⇒ swept (is-report 8 0) []
+    sweep full (replicate 1025 0) [] [] [] [] ⇒ swept (is-report 8 0) []
+    ∷ sweep full [] (1 ∷ []) (1 ∷ []) (1 ∷ []) (fives 5) ⇒ swept (is-report 8 0) (fives 5)
+    ∷ sweep full [] [] (1 ∷ []) (1 ∷ 1 ∷ []) (fives 5) ⇒ swept (is-report 8 0) (fives 5)
+    -- edges below 0
+    ∷ sweep full [] [] (0 ∷ 1 ∷ []) (10 ∷ 12 ∷ []) (fives 10) ⇒ swept (is-report 10 1) (fives 10)
+    ∷ sweep full [] [] (0 ∷ 1 ∷ []) (10 ∷ 11 ∷ []) (fives 10) ⇒ swept (given 0) (0 ∷ 0 ∷ 0 ∷ 0 ∷ 65536 ∷ 0 ∷ 0 ∷ 0 ∷ 0 ∷ 65536 ∷ [])
+    -- each mark has its own half width
+    ∷ sweep full (1 ∷ 5 ∷ 9 ∷ []) (1 ∷ 2 ∷ 3 ∷ []) (2 ∷ 6 ∷ []) (1 ∷ 3 ∷ []) (fives 10)
+    ⇒ swept (given 4) (0 ∷ 1 ∷ 0 ∷ 0 ∷ 65536 ∷ 1 ∷ 3 ∷ 8 ∷ 16 ∷ 2 ∷ [])
+    ∷ sweep full (1 ∷ []) [] [] [] [] ⇒ swept (is-report 8 0) []
     ∷ sweep full [] [] (1 ∷ []) [] (fives 5) ⇒ swept (is-report 8 0) (fives 5)
     ∷ sweep full [] [] (1 ∷ []) (1 ∷ []) (fives 4) ⇒ swept (is-report 8 0) (fives 4)
     ∷ sweep full [] [] (1 ∷ []) (1 ∷ []) (fives 6) ⇒ swept (is-report 8 0) (fives 6)
@@ -143,6 +175,7 @@ fill-cases =
     ∷ at-preset 10 1080
     ∷ at-preset 11 1440
     -- 8, 7, 6, 12, 13
+    ∷ filler 0 0 0 (fives 513) (fives 512) ⇒ filled (is-report 8 0) (fives 513) (fives 512)
     ∷ filler 0 0 12 [] (7 ∷ []) ⇒ filled (is-report 8 0) [] (7 ∷ [])
     ∷ filler 0 0 12 (7 ∷ 7 ∷ []) (7 ∷ []) ⇒ filled (is-report 8 0) (7 ∷ 7 ∷ []) (7 ∷ [])
     ∷ filler 0 0 12 [] [] ⇒ filled (is-report 7 0) [] []
@@ -174,6 +207,7 @@ sheet-cases =
     ∷ sheet full (ascii "mark,half\n0,1\n\nminute,inj,vdk") ⇒ outcome (is-report 2 15)
     ∷ sheet full (ascii "mark,half\n0,1\n\nminute,inj,vdl\n1\n") ⇒ outcome (is-report 2 15)
     -- 3, mark lines
+    ∷ sheet full (ascii "mark,half\n5,1\n4,0") ⇒ outcome (is-report 3 14)
     ∷ sheet full (ascii "mark,half\n") ⇒ outcome (is-report 3 10)
     ∷ sheet full (ascii "mark,half\n0,1\n") ⇒ outcome (is-report 3 14)
     ∷ sheet full (ascii "mark,half\n0,1") ⇒ outcome (is-report 3 10)
@@ -187,6 +221,14 @@ sheet-cases =
     ∷ sheet full (ascii "mark,half\n0,100000\n") ⇒ outcome (is-report 3 10)
     ∷ sheet full (ascii "mark,half\n0,1 \n") ⇒ outcome (is-report 3 10)
     -- 3, reading lines
+    ∷ sheet full (readings (ascii "9,3,0\n8,3,0")) ⇒ outcome (is-report 3 36)
+    ∷ sheet full (readings (ascii "0,1,65536\n")) ⇒ outcome (is-report 3 30)
+    -- a carriage return is a wrong byte
+    ∷ sheet full (ascii "mark,half\r\n0,1\n") ⇒ outcome (is-report 2 0)
+    ∷ sheet full (ascii "mark,half\n0,1\r\n") ⇒ outcome (is-report 3 10)
+    ∷ sheet full (ascii "mark,half\n0,1\n\r\n") ⇒ outcome (is-report 3 14)
+    ∷ sheet full (ascii "mark,half\n0,1\n\nminute,inj,vdk\r\n") ⇒ outcome (is-report 2 15)
+    ∷ sheet full (readings (ascii "0,3,1\r\n")) ⇒ outcome (is-report 3 30)
     ∷ sheet full (readings (ascii "0,3,1")) ⇒ outcome (is-report 3 30)
     ∷ sheet full (readings (ascii "\n")) ⇒ outcome (is-report 3 30)
     ∷ sheet full (readings (ascii "0,3\n")) ⇒ outcome (is-report 3 30)
@@ -199,9 +241,14 @@ sheet-cases =
     ∷ sheet full (readings (ascii ",3,1\n")) ⇒ outcome (is-report 3 30)
     ∷ sheet full (readings (ascii "0,03,1\n")) ⇒ outcome (is-report 3 30)
     ∷ sheet full (readings (ascii "0,3,\n")) ⇒ outcome (is-report 3 30)
-    -- 4: against a dropped line too
+    -- 4: against a dropped line too, and of one
+    ∷ sheet full (readings (ascii "9,3,0\n8,1,0\n")) ⇒ outcome (is-report 4 36)
     ∷ sheet full (readings (ascii "9,1,0\n8,3,0\n")) ⇒ outcome (is-report 4 36)
     -- 5, 9, 10, 6 of a mark line
+    ∷ sheet full (ascii "mark,half\n0,0\n") ⇒ outcome (is-report 9 10)
+    ∷ sheet full (ascii "mark,half\n0,10\n1,12\n") ⇒ outcome (is-report 10 15)
+    ∷ sheet full (ascii "mark,half\n0,10\n1,11\n\nminute,inj,vdk\n") ⇒ outcome (given (contents [] [] (0 ∷ 1 ∷ []) (10 ∷ 11 ∷ [])))
+    ∷ sheet three-one (ascii "mark,half\n5,1\n5,1\n") ⇒ outcome (is-report 6 14)
     ∷ sheet small (ascii "mark,half\n5,1\n4,0\n") ⇒ outcome (is-report 5 14)
     ∷ sheet small (ascii "mark,half\n5,9\n5,0\n") ⇒ outcome (is-report 9 14)
     ∷ sheet small (ascii "mark,half\n5,99999\n") ⇒ outcome (is-report 9 10)
@@ -210,6 +257,7 @@ sheet-cases =
     ∷ sheet small (ascii "mark,half\n5,2\n5,1\n") ⇒ outcome (is-report 10 14)
     ∷ sheet small (ascii "mark,half\n5,1\n5,1\n5,1\n") ⇒ outcome (is-report 6 18)
     -- 4, 6 of a reading line; dropped lines don't count
+    ∷ sheet three-one (readings (ascii "1,3,0\n1,3,0\n1,3,0\n1,1,0\n1,3,0\n")) ⇒ outcome (is-report 6 54)
     ∷ sheet small (readings (ascii "1,3,0\n1,3,0\n0,3,0\n")) ⇒ outcome (is-report 4 42)
     ∷ sheet small (readings (ascii "1,3,0\n1,3,0\n1,3,0\n")) ⇒ outcome (is-report 6 42)
     ∷ sheet small (readings (ascii "1,3,5\n1,2,6\n1,1,7\n1,4,8\n1,2,9\n"))
@@ -222,20 +270,25 @@ sheet-cases =
     -- no readings
     ∷ sheet full (readings []) ⇒ outcome (given (contents [] [] (0 ∷ []) (1 ∷ [])))
     -- 8 (its four lengths) before all else, and the lists at exit
-    ∷ reader small [] (7 ∷ []) (7 ∷ 7 ∷ []) (7 ∷ 7 ∷ []) (7 ∷ 7 ∷ [])
-    ⇒ read-into (is-report 8 0) (contents (7 ∷ []) (7 ∷ 7 ∷ []) (7 ∷ 7 ∷ []) (7 ∷ 7 ∷ []))
-    ∷ reader small [] (7 ∷ 7 ∷ []) (7 ∷ 7 ∷ 7 ∷ []) (7 ∷ 7 ∷ []) (7 ∷ 7 ∷ [])
-    ⇒ read-into (is-report 8 0) (contents (7 ∷ 7 ∷ []) (7 ∷ 7 ∷ 7 ∷ []) (7 ∷ 7 ∷ []) (7 ∷ 7 ∷ []))
-    ∷ reader small [] (7 ∷ 7 ∷ []) (7 ∷ 7 ∷ []) (7 ∷ []) (7 ∷ 7 ∷ [])
-    ⇒ read-into (is-report 8 0) (contents (7 ∷ 7 ∷ []) (7 ∷ 7 ∷ []) (7 ∷ []) (7 ∷ 7 ∷ []))
-    ∷ reader small [] (7 ∷ 7 ∷ []) (7 ∷ 7 ∷ []) (7 ∷ 7 ∷ []) []
-    ⇒ read-into (is-report 8 0) (contents (7 ∷ 7 ∷ []) (7 ∷ 7 ∷ []) (7 ∷ 7 ∷ []) [])
-    ∷ reader small (ascii "mark,half\n0,1\n") (7 ∷ 7 ∷ []) (7 ∷ 7 ∷ []) (7 ∷ 7 ∷ []) (7 ∷ 7 ∷ [])
-    ⇒ read-into (is-report 3 14) (contents (7 ∷ 7 ∷ []) (7 ∷ 7 ∷ []) (7 ∷ 7 ∷ []) (7 ∷ 7 ∷ []))
+    ∷ reader three-one (replicate 32769 10) [] sevens one one ⇒ read-into (is-report 8 0) (contents [] sevens one one)
+    ∷ reader three-one [] (7 ∷ sevens) sevens one one ⇒ read-into (is-report 8 0) (contents (7 ∷ sevens) sevens one one)
+    ∷ reader three-one [] sevens [] one one ⇒ read-into (is-report 8 0) (contents sevens [] one one)
+    ∷ reader three-one [] sevens (7 ∷ sevens) one one ⇒ read-into (is-report 8 0) (contents sevens (7 ∷ sevens) one one)
+    ∷ reader three-one [] sevens sevens [] one ⇒ read-into (is-report 8 0) (contents sevens sevens [] one)
+    ∷ reader three-one [] sevens sevens sevens one ⇒ read-into (is-report 8 0) (contents sevens sevens sevens one)
+    ∷ reader three-one [] sevens sevens one [] ⇒ read-into (is-report 8 0) (contents sevens sevens one [])
+    ∷ reader three-one [] sevens sevens one sevens ⇒ read-into (is-report 8 0) (contents sevens sevens one sevens)
+    ∷ reader three-one (ascii "mark,half\n0,1\n") sevens sevens one one ⇒ read-into (is-report 3 14) (contents sevens sevens one one)
+    ∷ reader three-one (readings (ascii "4,3,5\n6,3,7\n")) (1 ∷ 2 ∷ 3 ∷ []) (4 ∷ 5 ∷ 6 ∷ []) (8 ∷ []) (9 ∷ [])
+    ⇒ read-into (given (record { samples = 2; points = 1 })) (contents (4 ∷ 6 ∷ 3 ∷ []) (5 ∷ 7 ∷ 6 ∷ []) (0 ∷ []) (1 ∷ []))
     ∷ reader small (readings (ascii "4,3,5\n")) (6 ∷ 6 ∷ []) (7 ∷ 7 ∷ []) (8 ∷ 8 ∷ []) (9 ∷ 9 ∷ [])
     ⇒ read-into (given (record { samples = 1; points = 1 })) (contents (4 ∷ 6 ∷ []) (5 ∷ 7 ∷ []) (0 ∷ 8 ∷ []) (1 ∷ 9 ∷ []))
     -- what the program writes of a refusal
     ∷ output "mark,half\n20,10\n21,12\n" ⇒ written (ascii "refused,place\n10,16\n")
+    -- and of the greatest numbers, and of 0
+    ∷ output "mark,half\n65535,65536\n\nminute,inj,vdk\n65535,65535,65535\n"
+    ⇒ written (ascii "mark,half,left,right,weight,sum,vdk\n65535,65536,0,1,4294967296,281470681743360,65535\n\nkept,passes\n1,1\n")
+    ∷ output "mark,half\n0,1\n\nminute,inj,vdk\n0,3,0\n" ⇒ written (ascii "mark,half,left,right,weight,sum,vdk\n0,1,0,1,1,0,0\n\nkept,passes\n1,1\n")
     ∷ []
 
 abbrev pub own-cases : List Case

@@ -2,7 +2,7 @@
 -- they are looked at. A call is refused with the first check of its list that holds.
 use Prim.Native.Nat.{ℕ, zero, suc, _+_, _-_, _*_}
 use mathlib.Core.Bool.{Bool, true, false, _||_}
-use mathlib.Core.List.{List, [], _∷_}
+use mathlib.Core.List.{List, [], _∷_, _++_}
 use mathlib.Core.Option.{Option, none, some}
 use lib.Dec.{ltb, leb, eqb}
 use lib.ListN.{length, getD}
@@ -128,17 +128,25 @@ size-checks L ts vs = report 8 (at 0 (uneven-samples ts vs)) ∷ report 6 (at 0 
 abbrev pub bandwidth-checks : ℕ → List Check
 bandwidth-checks h = report 9 (at 0 (bad-bandwidth h)) ∷ []
 
--- the sweep: 8 (minutes with values, marks with half widths, rows exactly five times marks), 6, 7, 4, 5, 9, 10, lowest position each
-abbrev pub smooth-checks : Limits → List ℕ → List ℕ → List ℕ → List ℕ → List ℕ → List Check
-smooth-checks L ts vs zs hs rs =
-    report 8 (at 0 (uneven-samples ts vs || differ (length zs) (length hs) || differ (length rs) (5 * length zs)))
+-- the sweep with a list of so many numbers for its rows: 8 (minutes with values, marks with half widths, rows exactly five times marks), 6,
+-- 7, 4, 5, 9, 10, lowest position each
+abbrev pub smooth-size-checks : Limits → List ℕ → List ℕ → List ℕ → List ℕ → ℕ → List Check
+smooth-size-checks L ts vs zs hs rows =
+    report 8 (at 0 (uneven-samples ts vs || differ (length zs) (length hs) || differ rows (5 * length zs)))
     ∷ report 6 (at 0 (ltb (L .samples) (length ts) || ltb (L .points) (length zs)))
     ∷ report 7 (at 0 (eqb (length zs) 0))
-    ∷ report 4 (lowest (decreases ts) (length ts))
+    ∷ []
+
+abbrev pub smooth-order-checks : List ℕ → List ℕ → List ℕ → List Check
+smooth-order-checks ts zs hs =
+    report 4 (lowest (decreases ts) (length ts))
     ∷ report 5 (lowest (decreases zs) (length zs))
     ∷ report 9 (lowest (λ k. bad-bandwidth (getD hs k 0)) (length hs))
     ∷ report 10 (lowest (edge-decreases zs hs) (length zs))
     ∷ []
+
+abbrev pub smooth-checks : Limits → List ℕ → List ℕ → List ℕ → List ℕ → ℕ → List Check
+smooth-checks L ts vs zs hs rows = smooth-size-checks L ts vs zs hs rows ++ smooth-order-checks ts zs hs
 
 -- one mark: 8, 6, 4, 9
 abbrev pub evaluate-checks : Limits → List ℕ → List ℕ → ℕ → List Check
