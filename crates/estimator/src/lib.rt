@@ -1,23 +1,26 @@
-// The Epanechnikov estimator over readings: the question at one mark, and the single step.
+// The Epanechnikov estimator over readings: the question at one mark, the single step and the whole sweep.
 mod edges;
 mod point;
 mod row;
 mod step;
 mod sums;
+mod sweep;
 
 use checks::advance_fault;
 use checks::evaluate_fault;
 use checks::full;
+use checks::sweep::smooth_fault;
 use meanings::Advance;
 use meanings::Evaluation;
 use meanings::RunningSums;
+use meanings::Smoothing;
 use meanings::Verdict;
 ghost use mathlib.Core.Path.{_≡_};
 ghost use Prim.Native.Nat.{_+_, _*_};
 ghost use denote.Ref.{ptr};
 ghost use Rattle.meanings.specs.Limits.{full as full-limits};
 ghost use Rattle.meanings.specs.Running.{advance as advance-meaning};
-ghost use Rattle.meanings.specs.Calls.{told-evaluation, told-advance, evaluate as evaluate-meaning, window as window-meaning, window-start};
+ghost use Rattle.meanings.specs.Calls.{told-evaluation, told-advance, told-smoothing, evaluate as evaluate-meaning, window as window-meaning, window-start, smooth as smooth-meaning, smooth-rows};
 
 // The question at one mark: the row, or the report.
 pub fn evaluate(minutes: &[u16], values: &[u16], point: u16, bandwidth: u32) -> Evaluation
@@ -65,5 +68,22 @@ pub fn advance(
     ) {
         Verdict::Faulty(refusal) => Advance::Stayed(refusal),
         Verdict::Fit => Advance::Moved(step::moved(running, minutes, values, point, bandwidth)),
+    }
+}
+
+// The whole sweep: rows receives five numbers a mark, and the answer is the passes, or the report, with rows as it was.
+pub fn smooth(
+    minutes: &[u16],
+    values: &[u16],
+    points: &[u16],
+    bandwidths: &[u32],
+    rows: &mut [u64],
+) -> Smoothing
+    ensures { λ r. ⌜ told-smoothing r ≡ smooth-meaning full-limits (now (minutes .entry)) (now (values .entry)) (now (points .entry)) (now (bandwidths .entry)) (now (rows .entry)) ⌝ }
+    ensures { λ _. ⌜ now (rows .exit) ≡ smooth-rows full-limits (now (minutes .entry)) (now (values .entry)) (now (points .entry)) (now (bandwidths .entry)) (now (rows .entry)) ⌝ }
+{
+    match smooth_fault(minutes, values, points, bandwidths, rows.len(), full()) {
+        Verdict::Faulty(refusal) => Smoothing::Unswept(refusal),
+        Verdict::Fit => Smoothing::Passes(sweep::sweep(minutes, values, points, bandwidths, rows)),
     }
 }

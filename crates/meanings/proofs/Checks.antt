@@ -54,6 +54,13 @@ first-of-rest (c ∷ cs) ds q = by (c .place) q (first-of-rest cs ds)
     by none q k = k q
     by (some n) q k = let z : _≡_ {A = ℕ} 0 1 = cc in absurd (omega arith)
 
+pub none-of-both : (cs ds : List Check) → first-of (cs ++ ds) ≡ none → (first-of cs ≡ none) × (first-of ds ≡ none)
+none-of-both cs ds q = by (first-of cs) refl
+  where
+    by : (f : Option Fault) → first-of cs ≡ f → (first-of cs ≡ none) × (first-of ds ≡ none)
+    by none e = (e, sym (first-of-rest cs ds e) ∙ q)
+    by (some f) e = let t = first-of-front cs ds f e in let z : _≡_ {A = ℕ} 0 1 = cc in absurd (omega arith)
+
 -- the same of what a check of the code found
 pub found-in-front : (cs ds : List Check) (v : Verdict) (r : Refusal) → told-verdict v ≡ first-of cs → v ≡ Faulty r
     → some (told r) ≡ first-of (cs ++ ds)

@@ -1,6 +1,7 @@
 pub mod Bytes
 pub mod Calls
 pub mod Cases
+pub mod Claim
 pub mod Document
 pub mod Estimate
 pub mod EventLog

@@ -5,8 +5,8 @@ use borrow.Author.Tests.{lt-ltb, le-ltb, eq-eqb, ne-eqb}
 use lib.ListN.{length}
 use Rattle.meanings.proofs.Checks.{differ-true, differ-same}
 use Rattle.checks.proofs.Orders.{rows-five, rows-torn, rows-other}
-use Rattle.checks.proofs.smooth_size_fault.Statement.{statement}
-use Rattle.checks.proofs.smooth_size_fault.Tie as tie
+use Rattle.checks.proofs.sweep.smooth_size_fault.Statement.{statement}
+use Rattle.checks.proofs.sweep.smooth_size_fault.Tie as tie
 
 returns : tie.Need-returns
 returns c = rw (differ-true _ _ (c .if1 .taken))

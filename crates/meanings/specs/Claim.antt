@@ -1,0 +1,94 @@
+-- Demand 3 of document 01: the single claim about a whole list of steps over the same readings, with the plain book kept beside it.
+-- It has no condition on lengths: where minutes and values are uneven or crowded, call and book refuse every step alike.
+use Prim.Native.Nat.{ℕ, zero, suc, _+_, _-_, _≤_}
+use mathlib.Core.Path.{_≡_}
+use mathlib.Core.List.{List, [], _∷_, _++_}
+use mathlib.Core.Option.{Option, none, some}
+use Rattle.meanings.specs.declared.PowerSums.{PowerSums}
+use Rattle.meanings.specs.declared.RunningSums.{RunningSums}
+use Rattle.meanings.specs.Lists.{Ordered, AtMost}
+use Rattle.meanings.specs.Limits.{max-u16}
+use Rattle.meanings.specs.Moves.{Move}
+use Rattle.meanings.specs.Reports.{Fault, Answer, given, refused, accepted-or}
+use Rattle.meanings.specs.Published.{range-sum}
+use Rattle.meanings.specs.Running.{six, fresh, advance, after}
+use Rattle.meanings.specs.EventLog.{EventLog, empty-log, log-refusal, log-after, takings, lettings}
+
+-- the last accepted step once m is done, where o was the last one before: m itself, unless the book refuses it
+abbrev pub accepted-next : List ℕ → List ℕ → Option Move → Move → Option Move
+accepted-next ts vs o m = accepted-or (log-refusal ts vs m) (some m) o
+
+-- the same once a list of steps is done
+abbrev pub accepted-after : List ℕ → List ℕ → Option Move → List Move → Option Move
+accepted-after ts vs o [] = o
+accepted-after ts vs o (m ∷ ms) = accepted-after ts vs (accepted-next ts vs o m) ms
+
+-- the last accepted step of a list, if there is one
+abbrev pub last-accepted : List ℕ → List ℕ → List Move → Option Move
+last-accepted ts vs ms = accepted-after ts vs none ms
+
+-- neither edge of m lies below that of o: not the left one z − h, compared without negative numbers, nor the right one z + h
+abbrev pub NotBelow : Option Move → Move → Type 0
+NotBelow none m = Unit {0}
+NotBelow (some o) m = (o .point + m .bandwidth ≤ m .point + o .bandwidth) × (o .point + o .bandwidth ≤ m .point + m .bandwidth)
+
+-- no accepted step has an edge below that of the accepted one before, where o was accepted last before the list
+abbrev pub NoEdgeBackAfter : List ℕ → List ℕ → Option Move → List Move → Type 0
+NoEdgeBackAfter ts vs o [] = Unit {0}
+NoEdgeBackAfter ts vs o (m ∷ ms) = (log-refusal ts vs m ≡ none → NotBelow o m) × NoEdgeBackAfter ts vs (accepted-next ts vs o m) ms
+
+-- no accepted step has an edge below that of the accepted one before; refused ones may stand anywhere
+abbrev pub NoEdgeBack : List ℕ → List ℕ → List Move → Type 0
+NoEdgeBack ts vs ms = NoEdgeBackAfter ts vs none ms
+
+-- the n positions from a on
+abbrev pub positions-from : ℕ → ℕ → List ℕ
+positions-from a zero = []
+positions-from a (suc n) = positions-from a n ++ (a + n) ∷ []
+
+-- the positions from a up to but without b, lowest first
+abbrev pub between : ℕ → ℕ → List ℕ
+between a b = positions-from a (b - a)
+
+-- the six direct sums over all readings with z − h ≤ minute ≤ z + h, for z and h of the last accepted step; before any they are 0
+abbrev pub window-direct : List ℕ → List ℕ → Option Move → PowerSums
+window-direct ts vs none = six (λ p q. 0)
+window-direct ts vs (some m) = six (λ p q. range-sum p q ts vs (m .point) (m .bandwidth))
+
+-- what a call was refused with, if it was
+abbrev pub refusal : {A : Type 0} → Answer A → Option Fault
+refusal (given a) = none
+refusal (refused e) = some e
+
+-- the record after a list of steps, of which the first gets a fresh one, and the book beside it, empty at first
+abbrev pub record-after : List ℕ → List ℕ → List Move → RunningSums
+record-after ts vs ms = after ts vs fresh ms
+
+abbrev pub book-after : List ℕ → List ℕ → List Move → EventLog
+book-after ts vs ms = log-after ts vs empty-log ms
+
+-- what holds of the step m after the steps before
+pub record StepHolds (ts vs : List ℕ) (before : List Move) (m : Move) : Type 0 where
+  -- the call has refused exactly if the book did, with the same report and place
+  pub refused-alike : refusal (advance ts vs (record-after ts vs before) (m .point) (m .bandwidth)) ≡ log-refusal ts vs m
+  -- the record's right = takings and its left = lettings
+  pub right-is-takings : record-after ts vs (before ++ m ∷ []) .right ≡ takings (book-after ts vs (before ++ m ∷ []))
+  pub left-is-lettings : record-after ts vs (before ++ m ∷ []) .left ≡ lettings (book-after ts vs (before ++ m ∷ []))
+  -- the positions its right edge passed are those the book added to taken at this step, in the same order
+  pub taken-in : book-after ts vs (before ++ m ∷ []) .inserted
+      ≡ book-after ts vs before .inserted ++ between (record-after ts vs before .right) (record-after ts vs (before ++ m ∷ []) .right)
+  -- and likewise for its left edge and let go
+  pub let-go : book-after ts vs (before ++ m ∷ []) .evicted
+      ≡ book-after ts vs before .evicted ++ between (record-after ts vs before .left) (record-after ts vs (before ++ m ∷ []) .left)
+  -- the six sums are the direct sums
+  pub sums-are-direct : record-after ts vs (before ++ m ∷ []) .sums ≡ window-direct ts vs (last-accepted ts vs (before ++ m ∷ []))
+
+-- what holds of a whole list of steps: before any the record is fresh and the book empty, and after each step the above
+pub record StepsHold (ts vs : List ℕ) (ms : List Move) : Type 0 where
+  pub record-at-first : record-after ts vs [] ≡ fresh
+  pub book-at-first : book-after ts vs [] ≡ empty-log
+  pub each : (before rest : List Move) (m : Move) → ms ≡ before ++ m ∷ rest → StepHolds ts vs before m
+
+-- for all readings of 16 bits whose minutes never fall, and every list of steps over them with no edge back
+abbrev pub Demand3 : Type 0
+Demand3 = (ts vs : List ℕ) (ms : List Move) → AtMost max-u16 ts → AtMost max-u16 vs → Ordered ts → NoEdgeBack ts vs ms → StepsHold ts vs ms
