@@ -12,13 +12,10 @@ use Rattle.meanings.specs.Estimate.{estimate, fields, rows}
 use Rattle.meanings.specs.Moves.{moves}
 use Rattle.meanings.specs.Running.{fresh, moved, passes}
 use Rattle.meanings.proofs.Steps.{Small}
+use Rattle.meanings.proofs.SweepRows.{rows-length}
 use Rattle.meanings.proofs.Sweeps.{SweepAccepted, running-at, step-lands, running-within, passes-are-edges}
 use Rattle.estimator.specs.Rows.{SumsFit, RowOf}
 use Rattle.estimator.proofs.Rows.{window-sums-fit, row-of-window}
-
-pub rows-length : (ts vs zs hs : List ℕ) (k : ℕ) → length (rows ts vs zs hs k) ≡ 5 * k
-rows-length ts vs zs hs zero = refl
-rows-length ts vs zs hs (suc k) = length-append (rows ts vs zs hs k) _ ∙ (let l = rows-length ts vs zs hs k in omega arith)
 
 -- values stored behind a front of n
 store-behind : (M R vs : List ℕ) (n : ℕ) → length M ≡ n → n + length vs ≤ length R

@@ -18,6 +18,7 @@ pub mod Search
 pub mod SheetForms
 pub mod Steps
 pub mod SweepBook
+pub mod SweepRows
 pub mod Sweeps
 pub mod Totals
 pub mod Window

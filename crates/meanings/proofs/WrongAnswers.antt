@@ -3,13 +3,13 @@ use Prim.Native.Nat.{ℕ}
 use mathlib.Core.Path.{_≡_, ap}
 use mathlib.Core.List.{List, [], _∷_}
 use native.Mathlib.Omega.{arith}
-use lib.ListN.{length}
+use lib.ListN.{length, getD}
 use Rattle.meanings.specs.declared.Estimate.{Estimate}
 use Rattle.meanings.specs.Lists.{distance}
 use Rattle.meanings.specs.Limits.{full}
 use Rattle.meanings.specs.Reports.{Answer, given, refused}
 use Rattle.meanings.specs.Estimate.{estimate, left-of, right-of, kernel, weight-of, sum-of, value-of, rounded}
-use Rattle.meanings.specs.Calls.{evaluate, window}
+use Rattle.meanings.specs.Calls.{evaluate, window, smooth, smooth-rows}
 
 -- one number of an answer: the row's right or the report's number
 seen : Answer Estimate → ℕ
@@ -33,3 +33,25 @@ nine-not-before-four e = let n : _≡_ {A = ℕ} 4 9 = ap seen e in omega arith
 pub no-run-one-short : ¬ (window full (10 ∷ 20 ∷ []) (4 ∷ 5 ∷ []) 15 5 ≡ 4 ∷ [])
 unfolding window left-of right-of
 no-run-one-short e = let n : _≡_ {A = ℕ} 2 1 = ap length e in omega arith
+
+-- one number of a sweep's answer: its passes or the report's number
+told-number : Answer ℕ → ℕ
+told-number (given n) = n
+told-number (refused f) = f .number
+
+-- a sweep that leaves its rows as they were
+pub no-rows-untouched : ¬ ((ts vs zs hs rs : List ℕ) → smooth-rows full ts vs zs hs rs ≡ rs)
+unfolding smooth-rows estimate left-of right-of kernel distance weight-of sum-of value-of rounded
+no-rows-untouched f = let n : _≡_ {A = ℕ} 65536 7 = ap (λ (r : List ℕ). getD r 4 0) (f [] [] (5 ∷ []) (1 ∷ []) (7 ∷ 7 ∷ 7 ∷ 7 ∷ 7 ∷ [])) in omega arith
+
+-- a refusal that has written a row
+pub no-row-written-on-refusal : ¬ (smooth-rows full [] [] (100 ∷ 101 ∷ []) (10 ∷ 12 ∷ []) (7 ∷ 7 ∷ 7 ∷ 7 ∷ 7 ∷ 7 ∷ 7 ∷ 7 ∷ 7 ∷ 7 ∷ [])
+    ≡ 0 ∷ 0 ∷ 0 ∷ 0 ∷ 65536 ∷ 7 ∷ 7 ∷ 7 ∷ 7 ∷ 7 ∷ [])
+unfolding smooth-rows
+no-row-written-on-refusal e = let n : _≡_ {A = ℕ} 7 65536 = ap (λ (r : List ℕ). getD r 4 0) e in omega arith
+
+-- report 5 looked at before report 4
+pub five-not-before-four : ¬ (smooth full (5 ∷ 4 ∷ []) (1 ∷ 2 ∷ []) (1 ∷ 0 ∷ []) (1 ∷ 1 ∷ []) (7 ∷ 7 ∷ 7 ∷ 7 ∷ 7 ∷ 7 ∷ 7 ∷ 7 ∷ 7 ∷ 7 ∷ [])
+    ≡ refused (record { number = 5; place = 1 }))
+unfolding smooth told-number
+five-not-before-four e = let n : _≡_ {A = ℕ} 4 5 = ap told-number e in omega arith
