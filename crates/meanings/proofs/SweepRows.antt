@@ -55,12 +55,13 @@ sweep-row-is-the-question ts vs zs hs rs n k q l =
     let f = given-accepted (smooth-refusal full ts vs zs hs rs) (passes ts vs fresh (moves zs hs)) n q .0 in
     let a = smooth-accepts ts vs zs hs (length rs) f in
     let o =
-        none-holds (smooth-order-checks ts zs hs)
-        (none-of-both (smooth-size-checks full ts vs zs hs (length rs)) (smooth-order-checks ts zs hs) f .1) in
-    let b = a .bandwidths k l in
-    (rw
-    (differ-same _ _ (a .even), le-ltb _ _ (a .few), o .0, ne-eqb _ 0 (λ (e : getD hs k 0 ≡ 0). omega arith), le-ltb _ _ (b .1)),
-    rw f (row-at-mark ts vs zs hs (length zs) k l))
+    none-holds (smooth-order-checks ts zs hs)
+    (none-of-both (smooth-size-checks full ts vs zs hs (length rs)) (smooth-order-checks ts zs hs) f .1) in
+    let b = a .bandwidths k l in (
+      rw
+          (differ-same _ _ (a .even), le-ltb _ _ (a .few), o .0, ne-eqb _ 0 (λ (e : getD hs k 0 ≡ 0). omega arith), le-ltb _ _ (b .1)),
+      rw f (row-at-mark ts vs zs hs (length zs) k l),
+    )
 
 -- one step more in front of the rest
 moves-suc : (zs hs : List ℕ) (k : ℕ) → k < length zs → k < length hs
