@@ -9,7 +9,7 @@ use Rattle.meanings.specs.Lists.{distance}
 use Rattle.meanings.specs.Limits.{full}
 use Rattle.meanings.specs.Reports.{Answer, given, refused}
 use Rattle.meanings.specs.Estimate.{estimate, left-of, right-of, kernel, weight-of, sum-of, value-of, rounded}
-use Rattle.meanings.specs.Calls.{evaluate, window, smooth, smooth-rows}
+use Rattle.meanings.specs.Calls.{evaluate, window, smooth, smooth-rows, fill-points}
 
 -- one number of an answer: the row's right or the report's number
 seen : Answer Estimate → ℕ
@@ -55,3 +55,8 @@ pub five-not-before-four : ¬ (smooth full (5 ∷ 4 ∷ []) (1 ∷ 2 ∷ []) (1 
     ≡ refused (record { number = 5; place = 1 }))
 unfolding smooth told-number
 five-not-before-four e = let n : _≡_ {A = ℕ} 4 5 = ap told-number e in omega arith
+
+-- a refusal that has filled the first mark
+pub no-mark-filled-on-refusal : ¬ (fill-points full 65535 1 0 (7 ∷ 7 ∷ []) (7 ∷ 7 ∷ []) ≡ 65535 ∷ 7 ∷ [])
+unfolding fill-points
+no-mark-filled-on-refusal e = let n : _≡_ {A = ℕ} 7 65535 = ap (λ (r : List ℕ). getD r 0 0) e in omega arith

@@ -1,0 +1,106 @@
+// The bandwidth presets and the evaluation grid: document 01's knob and mark filler.
+use checks::full;
+use meanings::Filling;
+use meanings::Refusal;
+use meanings::Report;
+use meanings::Verdict;
+ghost use mathlib.Core.Path.{_≡_};
+ghost use Prim.Native.Nat.{_+_, _-_, _*_, _≤_, _<_};
+ghost use lib.ListN.{length, getD, replicate};
+ghost use Rattle.meanings.specs.Limits.{full as full-limits, max-u16};
+ghost use Rattle.meanings.specs.Reports.{told-verdict, first-of, fill-checks};
+ghost use Rattle.meanings.specs.Grid.{presets, grid};
+ghost use Rattle.meanings.specs.Calls.{told-filling, fill, fill-points, fill-bandwidths};
+
+// The knob's half widths, by position.
+const PRESETS: [u32; 12] = [30, 45, 60, 90, 120, 180, 240, 360, 480, 720, 1080, 1440];
+
+// The half width of a position.
+pub(crate) fn preset_bandwidth(preset: u32) -> u32
+    requires { ⌜ preset < 12 ⌝ }
+    ensures { λ r. ⌜ r ≡ getD presets preset 0 ⌝ }
+{
+    PRESETS[preset as usize]
+}
+
+// What the filler is refused for, with n marks and m half widths: 8, 7, 6, 12, 13.
+pub fn fill_fault(first: u16, spacing: u16, preset: u32, n: usize, m: usize) -> Verdict
+    ensures { λ r. ⌜ told-verdict r ≡ first-of (fill-checks full-limits (length presets) first spacing preset n m) ⌝ }
+{
+    if n != m {
+        return Verdict::Faulty(Refusal {
+            report: Report::LengthMismatch,
+            place: 0,
+        });
+    }
+    if n == 0 {
+        return Verdict::Faulty(Refusal {
+            report: Report::NoPoints,
+            place: 0,
+        });
+    }
+    if 512 < n {
+        return Verdict::Faulty(Refusal {
+            report: Report::TooMany,
+            place: 0,
+        });
+    }
+    if 12 <= preset {
+        return Verdict::Faulty(Refusal {
+            report: Report::UnknownPreset,
+            place: 0,
+        });
+    }
+    if 65535 < first as usize + (n - 1) * spacing as usize {
+        return Verdict::Faulty(Refusal {
+            report: Report::GridOverflow,
+            place: 0,
+        });
+    }
+    Verdict::Fit
+}
+
+// Stores mark k as first + k × spacing, for every k.
+pub(crate) fn put_points(points: &mut [u16], first: u16, spacing: u16)
+    requires { ⌜ (length (now points) ≤ 512) × (first + (length (now points) - 1) * spacing ≤ max-u16) ⌝ }
+    ensures { λ _. ⌜ now (points .exit) ≡ grid first spacing (length (now (points .entry))) ⌝ }
+{
+    let mut k = 0;
+    while k < points.len() {
+        points[k] = (first as usize + k * spacing as usize) as u16;
+        k += 1;
+    }
+}
+
+// Stores one half width everywhere.
+pub(crate) fn put_bandwidths(bandwidths: &mut [u32], bandwidth: u32)
+    ensures { λ _. ⌜ now (bandwidths .exit) ≡ replicate (length (now (bandwidths .entry))) bandwidth ⌝ }
+{
+    let mut k = 0;
+    while k < bandwidths.len() {
+        bandwidths[k] = bandwidth;
+        k += 1;
+    }
+}
+
+// The mark filler.
+pub fn fill_grid(
+    first: u16,
+    spacing: u16,
+    preset: u32,
+    points: &mut [u16],
+    bandwidths: &mut [u32],
+) -> Filling
+    ensures { λ r. ⌜ told-filling r ≡ fill full-limits first spacing preset (now (points .entry)) (now (bandwidths .entry)) ⌝ }
+    ensures { λ _. ⌜ now (points .exit) ≡ fill-points full-limits first spacing preset (now (points .entry)) (now (bandwidths .entry)) ⌝ }
+    ensures { λ _. ⌜ now (bandwidths .exit) ≡ fill-bandwidths full-limits first spacing preset (now (points .entry)) (now (bandwidths .entry)) ⌝ }
+{
+    match fill_fault(first, spacing, preset, points.len(), bandwidths.len()) {
+        Verdict::Faulty(refusal) => Filling::Unfilled(refusal),
+        Verdict::Fit => {
+            put_points(points, first, spacing);
+            put_bandwidths(bandwidths, preset_bandwidth(preset));
+            Filling::Filled
+        }
+    }
+}
