@@ -23,8 +23,8 @@ module _ (rows n : ℕ) where
   pub rows-five : rows % 5 ≡ 0 → rows / 5 ≡ n → differ rows (5 * n) ≡ false
   rows-five r q = differ-same rows (5 * n) (omega arith)
 
-  pub rows-torn : (rows % 5 ≡ 0 → ⊥) → differ rows (5 * n) ≡ true
-  rows-torn r = differ-true rows (5 * n) (λ e. r (omega arith))
+  pub rows-remainder : (rows % 5 ≡ 0 → ⊥) → differ rows (5 * n) ≡ true
+  rows-remainder r = differ-true rows (5 * n) (λ e. r (omega arith))
 
   pub rows-other : (rows / 5 ≡ n → ⊥) → differ rows (5 * n) ≡ true
   rows-other q = differ-true rows (5 * n) (λ e. q (omega arith))

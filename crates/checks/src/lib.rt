@@ -1,5 +1,5 @@
 // The refusals of document 01 over lists of numbers, for any pair of limits. Every function takes every input.
-pub mod sweep;
+pub mod smoothing;
 
 use meanings::Found;
 use meanings::Limits;

@@ -12,8 +12,8 @@ use Rattle.meanings.specs.Estimate.{estimate, fields, rows}
 use Rattle.meanings.specs.Moves.{moves}
 use Rattle.meanings.specs.Running.{fresh, moved, passes}
 use Rattle.meanings.proofs.Steps.{Small}
-use Rattle.meanings.proofs.SweepRows.{rows-length}
-use Rattle.meanings.proofs.Sweeps.{SweepAccepted, running-at, step-lands, running-within, passes-are-edges}
+use Rattle.meanings.proofs.SmoothRows.{rows-length}
+use Rattle.meanings.proofs.SmoothSteps.{SmoothAccepted, running-at, step-lands, running-within, passes-are-edges}
 use Rattle.estimator.specs.Rows.{SumsFit, RowOf}
 use Rattle.estimator.proofs.Rows.{window-sums-fit, row-of-window}
 
@@ -29,16 +29,16 @@ store-behind M R vs n e l =
     room : n + length vs ≤ length (M ++ drop n R)
     room = let a = length-append M (drop n R) in let d = length-drop n R in omega arith
 
-pub record Swept (ts vs zs hs R₀ : List ℕ) (k : ℕ) (R : List ℕ) (r : RunningSums) : Type 0 where
+pub record SmoothedTo (ts vs zs hs R₀ : List ℕ) (k : ℕ) (R : List ℕ) (r : RunningSums) : Type 0 where
   pub upto : k ≤ length zs
   pub stored : R ≡ rows ts vs zs hs k ++ drop (5 * k) R₀
   pub running : r ≡ running-at ts vs zs hs k
 
-module _ (ts vs zs hs R₀ : List ℕ) (s : Small ts vs) (a : SweepAccepted ts vs zs hs (length R₀)) where
-  pub swept-begins : (r : RunningSums) → r ≡ fresh → Swept ts vs zs hs R₀ 0 R₀ r
-  swept-begins r e = record { upto = zero-le; stored = refl; running = e }
+module _ (ts vs zs hs R₀ : List ℕ) (s : Small ts vs) (a : SmoothAccepted ts vs zs hs (length R₀)) where
+  pub smoothed-begins : (r : RunningSums) → r ≡ fresh → SmoothedTo ts vs zs hs R₀ 0 R₀ r
+  smoothed-begins r e = record { upto = zero-le; stored = refl; running = e }
 
-  module _ (k : ℕ) (R : List ℕ) (r : RunningSums) (w : Swept ts vs zs hs R₀ k R r) where
+  module _ (k : ℕ) (R : List ℕ) (r : RunningSums) (w : SmoothedTo ts vs zs hs R₀ k R r) where
     pub stored-length : length R ≡ length R₀
     stored-length =
         ap length (w .stored)
@@ -46,8 +46,8 @@ module _ (ts vs zs hs R₀ : List ℕ) (s : Small ts vs) (a : SweepAccepted ts v
         ∙ (let l = rows-length ts vs zs hs k in let d = length-drop (5 * k) R₀ in let u = w .upto in let f = a .rows-five in omega arith)
 
     -- the record's edges lie within the readings
-    pub swept-within : (r .left ≤ r .right) × (r .right ≤ length ts)
-    swept-within = rw (w .running) (running-within ts vs zs hs (length R₀) s a k)
+    pub smoothed-within : (r .left ≤ r .right) × (r .right ≤ length ts)
+    smoothed-within = rw (w .running) (running-within ts vs zs hs (length R₀) s a k)
 
     module _ (l : k < length zs) where
       -- the step's record is the next window's
@@ -66,9 +66,9 @@ module _ (ts vs zs hs R₀ : List ℕ) (s : Small ts vs) (a : SweepAccepted ts v
       next-row r′ e q o = row-of-window ts vs (getD zs k 0) (getD hs k 0) (a .ordered) e (rw q at o)
 
       -- and stored it stands behind those before
-      pub swept-goes-on : (R′ : List ℕ) (r′ : RunningSums) (e : Estimate) → r′ ≡ running-at ts vs zs hs (suc k)
-          → e ≡ estimate ts vs (getD zs k 0) (getD hs k 0) → R′ ≡ sets R (5 * k) (fields e) → Swept ts vs zs hs R₀ (k + 1) R′ r′
-      swept-goes-on R′ r′ e q i t = rw (add-one k) (record { upto = l; stored = one-more; running = q })
+      pub smoothed-goes-on : (R′ : List ℕ) (r′ : RunningSums) (e : Estimate) → r′ ≡ running-at ts vs zs hs (suc k)
+          → e ≡ estimate ts vs (getD zs k 0) (getD hs k 0) → R′ ≡ sets R (5 * k) (fields e) → SmoothedTo ts vs zs hs R₀ (k + 1) R′ r′
+      smoothed-goes-on R′ r′ e q i t = rw (add-one k) (record { upto = l; stored = one-more; running = q })
         where
           M : List ℕ
           M = rows ts vs zs hs k
@@ -83,9 +83,9 @@ module _ (ts vs zs hs R₀ : List ℕ) (s : Small ts vs) (a : SweepAccepted ts v
               five : 5 * k + 5 ≡ 5 * suc k
               five = omega arith
 
-  pub swept-ends : (k : ℕ) (R : List ℕ) (r : RunningSums) → Swept ts vs zs hs R₀ k R r → length zs ≤ k
+  pub smoothed-ends : (k : ℕ) (R : List ℕ) (r : RunningSums) → SmoothedTo ts vs zs hs R₀ k R r → length zs ≤ k
       → (R ≡ rows ts vs zs hs (length zs)) × (r .right + r .left ≡ passes ts vs fresh (moves zs hs))
-  swept-ends k R r w l = (
+  smoothed-ends k R r w l = (
     w .stored
         ∙ rw (last, drop-of-length-le R₀ {i = 5 * length zs} (let f = a .rows-five in omega arith)) (append-nil (rows ts vs zs hs (length zs))),
     ap (λ (q : RunningSums). q .right + q .left) (w .running ∙ ap (running-at ts vs zs hs) last)

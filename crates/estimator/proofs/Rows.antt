@@ -17,11 +17,11 @@ use Rattle.meanings.proofs.Window.{left-at-most-right, right-at-most-length}
 use Rattle.estimator.specs.Rows.{Combines, SumsFit, RowOf}
 
 -- what is taken in from zero at a window's edges is the window's sums
-pub taken-from-zero : (ts vs : List ℕ) (z h : ℕ) → Small ts vs → (z₀ r : PowerSums) (a b : ℕ) → z₀ ≡ six (λ p q. 0)
+pub inserted-from-zero : (ts vs : List ℕ) (z h : ℕ) → Small ts vs → (z₀ r : PowerSums) (a b : ℕ) → z₀ ≡ six (λ p q. 0)
     → a ≡ left-of ts z h → b ≡ right-of ts z h
     → r ≡ six (λ p q. plus 64 (sum-at z₀ p q) (power-sum ts vs a (b - a) p q))
     → r ≡ window-sums ts vs z h
-taken-from-zero ts vs z h s z₀ r a b e l m q =
+inserted-from-zero ts vs z h s z₀ r a b e l m q =
     q
     ∙ rw (e, l, m)
     (six-agree (λ i j. plus 64 (sum-at (six (λ p q. 0)) i j) (window-sum ts vs z h i j)) (window-sum ts vs z h)

@@ -2,14 +2,14 @@
 mod edges;
 mod point;
 mod row;
+mod smoothing;
 mod step;
 mod sums;
-mod sweep;
 
 use checks::advance_fault;
 use checks::evaluate_fault;
 use checks::full;
-use checks::sweep::smooth_fault;
+use checks::smoothing::smooth_fault;
 use meanings::Advance;
 use meanings::Evaluation;
 use meanings::RunningSums;
@@ -84,6 +84,12 @@ pub fn smooth(
 {
     match smooth_fault(minutes, values, points, bandwidths, rows.len(), full()) {
         Verdict::Faulty(refusal) => Smoothing::Unswept(refusal),
-        Verdict::Fit => Smoothing::Passes(sweep::sweep(minutes, values, points, bandwidths, rows)),
+        Verdict::Fit => Smoothing::Passes(smoothing::smooth_rows(
+            minutes,
+            values,
+            points,
+            bandwidths,
+            rows,
+        )),
     }
 }

@@ -41,9 +41,9 @@ pub replicate-one-more : (h k : ℕ) → replicate (suc k) h ≡ replicate k h +
 replicate-one-more h k = ap (λ (n : ℕ). replicate n h) (sym (add-one k)) ∙ sym (replicate-append-replicate k 1 h)
 
 -- mark k is at most the last mark
-pub mark-at-most : (z d k n m : ℕ) → k < n → z + (n - 1) * d ≤ m → z + k * d ≤ m
-mark-at-most z d k n m l u = let p = mul-le-mul-right {m = k} {n = n - 1} d (omega arith) in omega arith
+pub point-at-most : (z d k n m : ℕ) → k < n → z + (n - 1) * d ≤ m → z + k * d ≤ m
+point-at-most z d k n m l u = let p = mul-le-mul-right {m = k} {n = n - 1} d (omega arith) in omega arith
 
 -- with at most 512 marks the last one lies far below 2^64
-pub last-mark-small : (n d : ℕ) → n ≤ 512 → d ≤ 65536 → (n - 1) * d ≤ 2 ^ 25
-last-mark-small n d a b = mul-le-mul {n₁ = n - 1} {n₂ = 512} (omega arith) b
+pub last-point-small : (n d : ℕ) → n ≤ 512 → d ≤ 65536 → (n - 1) * d ≤ 2 ^ 25
+last-point-small n d a b = mul-le-mul {n₁ = n - 1} {n₂ = 512} (omega arith) b

@@ -60,7 +60,7 @@ fn fill(first: u16, spacing: u16, preset: u32, points: &mut [u16], bandwidths: &
     }
 }
 
-fn sweep(points: &[u16], bandwidths: &[u32], rows: &mut [u64]) {
+fn smooth(points: &[u16], bandwidths: &[u32], rows: &mut [u64]) {
     let minutes: [u16; 6] = [0, 1440, 2880, 4320, 4380, 4440];
     let values: [u16; 6] = [12, 180, 640, 910, 870, 655];
     match estimator::smooth(&minutes, &values, points, bandwidths, rows) {
@@ -80,7 +80,7 @@ fn four(first: u16, spacing: u16, preset: u32) {
     show_points(&points);
     show_bandwidths(&bandwidths);
     let mut rows = [7u64; 20];
-    sweep(&points, &bandwidths, &mut rows);
+    smooth(&points, &bandwidths, &mut rows);
     show_rows(&rows);
 }
 
@@ -96,7 +96,7 @@ fn uneven() {
     fill(0, 0, 12, &mut no_points, &mut no_bandwidths);
 }
 
-fn crowd() {
+fn too_many() {
     let mut points = [7u16; 513];
     let mut bandwidths = [7u32; 513];
     fill(0, 0, 12, &mut points, &mut bandwidths);
@@ -110,5 +110,5 @@ fn main() {
     four(4000, 0, 9);
     four(0, 0, 12);
     uneven();
-    crowd();
+    too_many();
 }

@@ -16,7 +16,7 @@ use Rattle.meanings.specs.declared.Smoothing.the-variants.{Passes, Unswe
 use Rattle.meanings.specs.declared.Filling.the-variants.{Filled, Unfilled}
 use Rattle.meanings.specs.declared.Reading.the-variants.{Used, Unread}
 use Rattle.meanings.specs.Reports.{number, told-verdict, told-found, given, refused}
-use Rattle.meanings.specs.EventLog.{takings, lettings}
+use Rattle.meanings.specs.EventLog.{insertion-count, eviction-count}
 use Rattle.meanings.specs.Output.{program, outcome-text}
 use Rattle.meanings.specs.Sheet.{read-sheet}
 use Rattle.meanings.specs.Calls.{told-evaluation, told-advance, told-smoothing, told-filling, told-reading}
@@ -42,16 +42,16 @@ pub reports-are-numbered :
 reports-are-numbered = refl
 
 -- a refusal, as each call tells it
-abbrev crowded : Refusal
-crowded = record { report = TooMany; place = 7 }
+abbrev too-many : Refusal
+too-many = record { report = TooMany; place = 7 }
 
 pub refusals-are-told :
-    (told-verdict (Faulty crowded) ≡ some (record { number = 6; place = 7 }))
-    × (told-evaluation (Unfit crowded) ≡ refused (record { number = 6; place = 7 }))
-    × (told-advance (Stayed crowded) ≡ refused (record { number = 6; place = 7 }))
-    × (told-smoothing (Unswept crowded) ≡ refused (record { number = 6; place = 7 }))
-    × (told-filling (Unfilled crowded) ≡ refused (record { number = 6; place = 7 }))
-    × (told-reading (Unread crowded) ≡ refused (record { number = 6; place = 7 }))
+    (told-verdict (Faulty too-many) ≡ some (record { number = 6; place = 7 }))
+    × (told-evaluation (Unfit too-many) ≡ refused (record { number = 6; place = 7 }))
+    × (told-advance (Stayed too-many) ≡ refused (record { number = 6; place = 7 }))
+    × (told-smoothing (Unswept too-many) ≡ refused (record { number = 6; place = 7 }))
+    × (told-filling (Unfilled too-many) ≡ refused (record { number = 6; place = 7 }))
+    × (told-reading (Unread too-many) ≡ refused (record { number = 6; place = 7 }))
 refusals-are-told = (refl, refl, refl, refl, refl, refl)
 
 -- and what each gives
@@ -67,8 +67,8 @@ pub values-are-told : (e : Estimate) (r : RunningSums) (n m : ℕ)
 values-are-told e r n m = (refl, refl, refl, refl, refl, refl, refl, refl)
 
 -- the book's takings and lettings are the lengths of its two lists
-pub log-is-counted : (takings (record { inserted = 0 ∷ 1 ∷ []; evicted = 0 ∷ [] }) ≡ 2)
-    × (lettings (record { inserted = 0 ∷ 1 ∷ []; evicted = 0 ∷ [] }) ≡ 1)
+pub log-is-counted : (insertion-count (record { inserted = 0 ∷ 1 ∷ []; evicted = 0 ∷ [] }) ≡ 2)
+    × (eviction-count (record { inserted = 0 ∷ 1 ∷ []; evicted = 0 ∷ [] }) ≡ 1)
 log-is-counted = (refl, refl)
 
 -- the program reads under document 01's limits

@@ -18,8 +18,8 @@ use Rattle.meanings.specs.Moves.{Move, moves}
 use Rattle.meanings.specs.Reports.{Fault, unless, accepted-or, report, at, first-of, bad-bandwidth, uneven-samples, log-checks}
 use Rattle.meanings.specs.Estimate.{left-of, right-of}
 use Rattle.meanings.specs.Running.{power-sum, six, fresh, moved, advance, settled, after-step, after}
-use Rattle.meanings.specs.EventLog.{EventLog, listed, insertions, with-insertions, evictions, log-refusal, log-step, log-after, takings, lettings}
-use Rattle.meanings.specs.Claim.{accepted-next, accepted-after, NotBelow, last-accepted, NoEdgeBackAfter, NoEdgeBack, between, window-direct, refusal, record-after, book-after, StepHolds, Demand3}
+use Rattle.meanings.specs.EventLog.{EventLog, listed, insertions, with-insertions, evictions, log-refusal, log-step, log-after, insertion-count, eviction-count}
+use Rattle.meanings.specs.Claim.{accepted-next, accepted-after, NotBelow, last-accepted, NoEdgeBackAfter, NoEdgeBack, between, window-direct, refusal, record-after, log-after-steps, StepHolds, Demand3}
 use Rattle.meanings.proofs.Checks.{none-holds, at-none, differ-false, no-decrease-ordered, advance-refused-as-logged}
 use Rattle.meanings.proofs.Passes.{Within, Onward, fresh-within, after-onward, later-onward}
 use Rattle.meanings.proofs.Positions.{length-below, between-joins, already-listed, not-yet-listed, positions-between}
@@ -45,19 +45,19 @@ unfolding right-of
 right-rises ts o m e = count-grows _ _ (λ t l. le-leb t (m .point + m .bandwidth) (omega (arith, leb-true t (o .point + o .bandwidth) l))) ts
 
 -- the book that has taken and let go what the record's edges have passed
-abbrev book-of : RunningSums → EventLog
-book-of r = record { inserted = between 0 (r .right); evicted = between 0 (r .left) }
+abbrev log-of : RunningSums → EventLog
+log-of r = record { inserted = between 0 (r .right); evicted = between 0 (r .left) }
 
 -- the book after an accepted step
-abbrev next-book : List ℕ → EventLog → Move → EventLog
-next-book ts b m = record { inserted = with-insertions ts b m; evicted = b .evicted ++ evictions ts b m }
+abbrev next-log : List ℕ → EventLog → Move → EventLog
+next-log ts b m = record { inserted = with-insertions ts b m; evicted = b .evicted ++ evictions ts b m }
 
 -- an accepted step takes and lets go what its edges pass on the way to the row's right and left
 module _ (ts : List ℕ) (ordered : Ordered ts) (m : Move) (r : RunningSums) (l : r .right ≤ right-at ts m) where
-  takes-up-to : with-insertions ts (book-of r) m ≡ between 0 (right-at ts m)
+  takes-up-to : with-insertions ts (log-of r) m ≡ between 0 (right-at ts m)
   takes-up-to = rw insertions-between (between-joins 0 (r .right) _ zero-le l)
     where
-      insertions-between : insertions ts (book-of r) m ≡ between (r .right) (right-at ts m)
+      insertions-between : insertions ts (log-of r) m ≡ between (r .right) (right-at ts m)
       insertions-between =
           positions-between _ (r .right) _ (length ts) (right-at-most-length ts _ _)
           (λ i short. Iff·trans (and-eq-true-iff (not (listed i (between 0 (r .right)))) _) (
@@ -65,7 +65,7 @@ module _ (ts : List ℕ) (ordered : Ordered ts) (m : Move) (r : RunningSums) (l 
             λ w. (not-yet-listed i (r .right) .1 (w .0), le-leb _ _ (before-right ts _ _ ordered i short .0 (w .1))),
           ))
 
-  lets-go-up-to : r .left ≤ left-at ts m → between 0 (r .left) ++ evictions ts (book-of r) m ≡ between 0 (left-at ts m)
+  lets-go-up-to : r .left ≤ left-at ts m → between 0 (r .left) ++ evictions ts (log-of r) m ≡ between 0 (left-at ts m)
   lets-go-up-to k = rw evictions-between (between-joins 0 (r .left) _ zero-le k)
     where
       both : (i : ℕ) → ((listed i (between 0 (right-at ts m)) && not (listed i (between 0 (r .left)))) ≡ true) ↔ ((i < right-at ts m) × (r .left ≤ i))
@@ -74,7 +74,7 @@ module _ (ts : List ℕ) (ordered : Ordered ts) (m : Move) (r : RunningSums) (l 
         λ w. (already-listed i _ .1 (w .0), not-yet-listed i (r .left) .1 (w .1)),
       )
 
-      evictions-between : evictions ts (book-of r) m ≡ between (r .left) (left-at ts m)
+      evictions-between : evictions ts (log-of r) m ≡ between (r .left) (left-at ts m)
       evictions-between =
           let n = left-at-most-right ts (m .point) (m .bandwidth) in
           let e = right-at-most-length ts (m .point) (m .bandwidth) in
@@ -149,12 +149,12 @@ module _ (ts vs : List ℕ) (minutes : AtMost max-u16 ts) (values : AtMost max-u
           (w .right-stays-or-rises) (w .left-stays-or-rises) (sums-are-over-run ts vs o)
       by (some g) q = refl
 
-  book-steps : (o : Option Move) (m : Move) → (log-refusal ts vs m ≡ none → NotBelow o m)
-      → log-step ts vs (book-of (record-at ts vs o)) m ≡ book-of (record-at ts vs (accepted-next ts vs o m))
-  book-steps o m e = by (log-refusal ts vs m) refl
+  log-steps : (o : Option Move) (m : Move) → (log-refusal ts vs m ≡ none → NotBelow o m)
+      → log-step ts vs (log-of (record-at ts vs o)) m ≡ log-of (record-at ts vs (accepted-next ts vs o m))
+  log-steps o m e = by (log-refusal ts vs m) refl
     where
       by : (f : Option Fault) → log-refusal ts vs m ≡ f
-          → accepted-or f (next-book ts (book-of (record-at ts vs o)) m) (book-of (record-at ts vs o)) ≡ book-of (record-at ts vs (accepted-or f (some m) o))
+          → accepted-or f (next-log ts (log-of (record-at ts vs o)) m) (log-of (record-at ts vs o)) ≡ log-of (record-at ts vs (accepted-or f (some m) o))
       by none q =
           let w = record-at-onward ts vs o m (e q) in
           λ i. record {
@@ -168,37 +168,37 @@ module _ (ts vs : List ℕ) (minutes : AtMost max-u16 ts) (values : AtMost max-u
   record-stands o [] e = refl
   record-stands o (m ∷ ms) e = rw (record-steps o m (e .0)) (record-stands (accepted-next ts vs o m) ms (e .1))
 
-  book-stands : (o : Option Move) (ms : List Move) → NoEdgeBackAfter ts vs o ms
-      → log-after ts vs (book-of (record-at ts vs o)) ms ≡ book-of (record-at ts vs (accepted-after ts vs o ms))
-  book-stands o [] e = refl
-  book-stands o (m ∷ ms) e = rw (book-steps o m (e .0)) (book-stands (accepted-next ts vs o m) ms (e .1))
+  log-stands : (o : Option Move) (ms : List Move) → NoEdgeBackAfter ts vs o ms
+      → log-after ts vs (log-of (record-at ts vs o)) ms ≡ log-of (record-at ts vs (accepted-after ts vs o ms))
+  log-stands o [] e = refl
+  log-stands o (m ∷ ms) e = rw (log-steps o m (e .0)) (log-stands (accepted-next ts vs o m) ms (e .1))
 
   -- from fresh: the window of the list's last accepted step, and a book of what the record's edges have passed
   record-follows : (ms : List Move) → NoEdgeBack ts vs ms → record-after ts vs ms ≡ record-at ts vs (last-accepted ts vs ms)
   record-follows ms e = record-stands none ms e
 
-  book-follows : (ms : List Move) → NoEdgeBack ts vs ms → book-after ts vs ms ≡ book-of (record-after ts vs ms)
-  book-follows ms e = book-stands none ms e ∙ ap book-of (sym (record-follows ms e))
+  log-follows : (ms : List Move) → NoEdgeBack ts vs ms → log-after-steps ts vs ms ≡ log-of (record-after ts vs ms)
+  log-follows ms e = log-stands none ms e ∙ ap log-of (sym (record-follows ms e))
 
-  pub right-is-takings : (ms : List Move) → NoEdgeBack ts vs ms → record-after ts vs ms .right ≡ takings (book-after ts vs ms)
-  right-is-takings ms e = rw (book-follows ms e) (sym (length-below _))
+  pub right-counts-insertions : (ms : List Move) → NoEdgeBack ts vs ms → record-after ts vs ms .right ≡ insertion-count (log-after-steps ts vs ms)
+  right-counts-insertions ms e = rw (log-follows ms e) (sym (length-below _))
 
-  pub left-is-lettings : (ms : List Move) → NoEdgeBack ts vs ms → record-after ts vs ms .left ≡ lettings (book-after ts vs ms)
-  left-is-lettings ms e = rw (book-follows ms e) (sym (length-below _))
+  pub left-counts-evictions : (ms : List Move) → NoEdgeBack ts vs ms → record-after ts vs ms .left ≡ eviction-count (log-after-steps ts vs ms)
+  left-counts-evictions ms e = rw (log-follows ms e) (sym (length-below _))
 
   step-holds : (before : List Move) (m : Move) → NoEdgeBack ts vs (before ++ m ∷ []) → StepHolds ts vs before m
   unfolding advance
   step-holds before m e =
       let w = after-onward ts vs fresh before (fresh-within ts) .within in
       let o = later-onward ts vs before (m ∷ []) in
-      let b = book-follows before (front-no-edge-back ts vs none before (m ∷ []) e) in
-      let b′ = book-follows (before ++ m ∷ []) e in
+      let b = log-follows before (front-no-edge-back ts vs none before (m ∷ []) e) in
+      let b′ = log-follows (before ++ m ∷ []) e in
       record {
         refused-alike = refusal-unless _ _ ∙ advance-refused-as-logged full ts vs _ _ (m .bandwidth) (w .edges) (w .inside);
-        right-is-takings = right-is-takings (before ++ m ∷ []) e;
-        left-is-lettings = left-is-lettings (before ++ m ∷ []) e;
-        taken-in = rw (b, b′) (sym (between-joins 0 _ _ zero-le (o .right-stays-or-rises)));
-        let-go = rw (b, b′) (sym (between-joins 0 _ _ zero-le (o .left-stays-or-rises)));
+        right-counts-insertions = right-counts-insertions (before ++ m ∷ []) e;
+        left-counts-evictions = left-counts-evictions (before ++ m ∷ []) e;
+        inserts = rw (b, b′) (sym (between-joins 0 _ _ zero-le (o .right-stays-or-rises)));
+        evicts = rw (b, b′) (sym (between-joins 0 _ _ zero-le (o .left-stays-or-rises)));
         sums-are-direct = rw (record-follows (before ++ m ∷ []) e) (sums-are-window ts vs ordered (last-accepted ts vs (before ++ m ∷ [])));
       }
 
@@ -206,15 +206,15 @@ module _ (ts vs : List ℕ) (minutes : AtMost max-u16 ts) (values : AtMost max-u
 pub demand-3 : Demand3
 demand-3 ts vs ms minutes values ordered e = record {
   record-at-first = refl;
-  book-at-first = refl;
+  log-at-first = refl;
   each = λ before rest m q.
       step-holds ts vs minutes values ordered before m
       (front-no-edge-back ts vs none (before ++ m ∷ []) rest (rw (append-assoc, ← q) e));
 }
 
 -- what call and book are refused with is 8, 6 or 9 at place 0, so never 11
-pub never-foreign : (ts vs : List ℕ) (m : Move) (e : Fault) → log-refusal ts vs m ≡ some e → (e .place ≡ 0) × ¬ (e .number ≡ 11)
-never-foreign ts vs m e = by (uneven-samples ts vs) (ltb (full .samples) (length ts)) (bad-bandwidth (m .bandwidth))
+pub never-invalid-record : (ts vs : List ℕ) (m : Move) (e : Fault) → log-refusal ts vs m ≡ some e → (e .place ≡ 0) × ¬ (e .number ≡ 11)
+never-invalid-record ts vs m e = by (uneven-samples ts vs) (ltb (full .samples) (length ts)) (bad-bandwidth (m .bandwidth))
   where
     known : (n : ℕ) → ¬ (n ≡ 11) → some (record { number = n; place = 0 }) ≡ some e → (e .place ≡ 0) × ¬ (e .number ≡ 11)
     known n o q = let r : record { number = n; place = 0 } ≡ e = cc in rw (← r) (refl, o)
@@ -226,50 +226,50 @@ never-foreign ts vs m e = by (uneven-samples ts vs) (ltb (full .samples) (length
     by false false false q = let z : _≡_ {A = ℕ} 0 1 = cc in absurd (omega arith)
 
 -- position k is taken in, or let go, at the step m after the steps before
-abbrev pub TakenAt : List ℕ → List ℕ → List Move → Move → ℕ → Type 0
-TakenAt ts vs before m k = (record-after ts vs before .right ≤ k) × (k < record-after ts vs (before ++ m ∷ []) .right)
+abbrev pub InsertedAt : List ℕ → List ℕ → List Move → Move → ℕ → Type 0
+InsertedAt ts vs before m k = (record-after ts vs before .right ≤ k) × (k < record-after ts vs (before ++ m ∷ []) .right)
 
-abbrev pub LetGoAt : List ℕ → List ℕ → List Move → Move → ℕ → Type 0
-LetGoAt ts vs before m k = (record-after ts vs before .left ≤ k) × (k < record-after ts vs (before ++ m ∷ []) .left)
+abbrev pub EvictedAt : List ℕ → List ℕ → List Move → Move → ℕ → Type 0
+EvictedAt ts vs before m k = (record-after ts vs before .left ≤ k) × (k < record-after ts vs (before ++ m ∷ []) .left)
 
 -- at one of the steps
-pub record Taken (ts vs : List ℕ) (ms : List Move) (k : ℕ) : Type 0 where
+pub record Inserted (ts vs : List ℕ) (ms : List Move) (k : ℕ) : Type 0 where
   pub before : List Move
   pub step : Move
   pub rest : List Move
   pub split : ms ≡ before ++ step ∷ rest
-  pub taken : TakenAt ts vs before step k
+  pub taken : InsertedAt ts vs before step k
 
 module _ (ts vs : List ℕ) where
   -- not at two steps, m and a later n
-  pub taken-once : (before mid : List Move) (m n : Move) (k : ℕ) → TakenAt ts vs before m k → ¬ TakenAt ts vs (before ++ m ∷ mid) n k
-  taken-once before mid m n k t u =
+  pub inserted-once : (before mid : List Move) (m n : Move) (k : ℕ) → InsertedAt ts vs before m k → ¬ InsertedAt ts vs (before ++ m ∷ mid) n k
+  inserted-once before mid m n k t u =
       let o = rw append-assoc at (later-onward ts vs (before ++ m ∷ []) mid) in
       omega arith
 
-  pub let-go-once : (before mid : List Move) (m n : Move) (k : ℕ) → LetGoAt ts vs before m k → ¬ LetGoAt ts vs (before ++ m ∷ mid) n k
-  let-go-once before mid m n k t u =
+  pub evicted-once : (before mid : List Move) (m n : Move) (k : ℕ) → EvictedAt ts vs before m k → ¬ EvictedAt ts vs (before ++ m ∷ mid) n k
+  evicted-once before mid m n k t u =
       let o = rw append-assoc at (later-onward ts vs (before ++ m ∷ []) mid) in
       omega arith
 
   -- what an edge has passed it has passed at some step
-  taken-somewhere : (before ms : List Move) (k : ℕ) → record-after ts vs before .right ≤ k → k < record-after ts vs (before ++ ms) .right
-      → Taken ts vs (before ++ ms) k
-  taken-somewhere before [] k l t = absurd (let u = rw append-nil at t in omega arith)
-  taken-somewhere before (m ∷ ms) k l t =
-      by (decLt k (record-after ts vs (before ++ m ∷ []) .right)) (taken-somewhere (before ++ m ∷ []) ms k)
+  inserted-somewhere : (before ms : List Move) (k : ℕ) → record-after ts vs before .right ≤ k → k < record-after ts vs (before ++ ms) .right
+      → Inserted ts vs (before ++ ms) k
+  inserted-somewhere before [] k l t = absurd (let u = rw append-nil at t in omega arith)
+  inserted-somewhere before (m ∷ ms) k l t =
+      by (decLt k (record-after ts vs (before ++ m ∷ []) .right)) (inserted-somewhere (before ++ m ∷ []) ms k)
     where
       by : Dec (k < record-after ts vs (before ++ m ∷ []) .right)
-          → (record-after ts vs (before ++ m ∷ []) .right ≤ k → k < record-after ts vs ((before ++ m ∷ []) ++ ms) .right → Taken ts vs ((before ++ m ∷ []) ++ ms) k)
-          → Taken ts vs (before ++ m ∷ ms) k
+          → (record-after ts vs (before ++ m ∷ []) .right ≤ k → k < record-after ts vs ((before ++ m ∷ []) ++ ms) .right → Inserted ts vs ((before ++ m ∷ []) ++ ms) k)
+          → Inserted ts vs (before ++ m ∷ ms) k
       by (yes u) f = record { before = before; step = m; rest = ms; split = refl; taken = (l, u) }
       by (no u) f = let g = rw append-assoc at f in g (omega arith) t
 
   -- what is let go at a step was taken in at that step or an earlier one
-  pub let-go-was-taken : (before : List Move) (m : Move) (k : ℕ) → LetGoAt ts vs before m k → Taken ts vs (before ++ m ∷ []) k
-  let-go-was-taken before m k t =
+  pub evicted-was-inserted : (before : List Move) (m : Move) (k : ℕ) → EvictedAt ts vs before m k → Inserted ts vs (before ++ m ∷ []) k
+  evicted-was-inserted before m k t =
       let w = later-onward ts vs before (m ∷ []) .within in
-      taken-somewhere [] (before ++ m ∷ []) k zero-le (omega arith)
+      inserted-somewhere [] (before ++ m ∷ []) k zero-le (omega arith)
 
 -- the claim speaks of something: three steps, of which the second is refused with 9, over readings that enter and leave
 abbrev some-minutes : List ℕ
@@ -287,9 +287,9 @@ pub record Inhabited : Type 0 where
   pub ordered : Ordered some-minutes
   pub no-edge-back : NoEdgeBack some-minutes some-values some-steps
   pub refusals : map (log-refusal some-minutes some-values) some-steps ≡ none ∷ some (record { number = 9; place = 0 }) ∷ none ∷ []
-  pub after-first : book-after some-minutes some-values (take 1 some-steps) ≡ record { inserted = 0 ∷ []; evicted = [] }
-  pub after-second : book-after some-minutes some-values (take 2 some-steps) ≡ record { inserted = 0 ∷ []; evicted = [] }
-  pub after-third : book-after some-minutes some-values some-steps ≡ record { inserted = 0 ∷ 1 ∷ 2 ∷ []; evicted = 0 ∷ 1 ∷ [] }
+  pub after-first : log-after-steps some-minutes some-values (take 1 some-steps) ≡ record { inserted = 0 ∷ []; evicted = [] }
+  pub after-second : log-after-steps some-minutes some-values (take 2 some-steps) ≡ record { inserted = 0 ∷ []; evicted = [] }
+  pub after-third : log-after-steps some-minutes some-values some-steps ≡ record { inserted = 0 ∷ 1 ∷ 2 ∷ []; evicted = 0 ∷ 1 ∷ [] }
 
 pub inhabited : Inhabited
 inhabited = record {

@@ -57,9 +57,9 @@ grid-at z d (suc n) k l = by (eq-or-lt-of-le (le-of-suc-le-suc l)) (grid-at z d 
 
 module _ (z d n h : ℕ) where
   -- no filled mark is below the one before
-  no-early-mark : (k : ℕ) → k < n → decreases (grid z d n) k ≡ false
-  no-early-mark zero l = refl
-  no-early-mark (suc k) l = rw (grid-at z d n (suc k) l, grid-at z d n k (omega arith)) (le-ltb (z + suc k * d) (z + k * d) (omega arith))
+  no-point-decrease : (k : ℕ) → k < n → decreases (grid z d n) k ≡ false
+  no-point-decrease zero l = refl
+  no-point-decrease (suc k) l = rw (grid-at z d n (suc k) l, grid-at z d n k (omega arith)) (le-ltb (z + suc k * d) (z + k * d) (omega arith))
 
   -- nor an edge of its window
   no-edge-back : (k : ℕ) → k < n → edge-decreases (grid z d n) (replicate n h) k ≡ false
@@ -74,10 +74,10 @@ module _ (z d n h : ℕ) where
       )
 
 -- a sweep over filled lists, with rows of five times their length, is refused exactly with 8, 6 or 4 of the readings
-pub filled-sweep-by-readings : (ts vs : List ℕ) (z d preset n m : ℕ) → FillAccepted z d preset n m
+pub filled-grid-by-samples : (ts vs : List ℕ) (z d preset n m : ℕ) → FillAccepted z d preset n m
     → first-of (smooth-checks full ts vs (grid z d n) (replicate m (getD presets preset 0)) (5 * n))
     ≡ first-of (size-checks full ts vs ++ report 4 (lowest (decreases ts) (length ts)) ∷ [])
-filled-sweep-by-readings ts vs z d preset n m a =
+filled-grid-by-samples ts vs z d preset n m a =
     rw (
       sym (a .even),
       grid-length z d n,
@@ -89,7 +89,7 @@ filled-sweep-by-readings ts vs z d preset n m a =
       le-ltb (full .points) n (a .few-points),
       or-false (ltb (full .samples) (length ts)),
       ne-eqb n 0 (λ (e : n ≡ 0). let p = a .some-point in omega arith),
-      none-lowest (decreases (grid z d n)) n (no-early-mark z d n h),
+      none-lowest (decreases (grid z d n)) n (no-point-decrease z d n h),
       none-lowest (λ k. bad-bandwidth (getD (replicate n h) k 0)) n in-range,
       none-lowest (edge-decreases (grid z d n) (replicate n h)) n (no-edge-back z d n h),
     )
@@ -104,11 +104,11 @@ filled-sweep-by-readings ts vs z d preset n m a =
         rw (getD-replicate n k h 0 l, ne-eqb h 0 (λ (e : h ≡ 0). omega arith), le-ltb max-bandwidth h high)
 
 -- the same of the lists that an accepted filling leaves
-pub panel-sweep-by-readings : (ts vs : List ℕ) (z d preset : ℕ) (zs hs rs : List ℕ) → fill full z d preset zs hs ≡ given tt
+pub fill-then-smooth-by-samples : (ts vs : List ℕ) (z d preset : ℕ) (zs hs rs : List ℕ) → fill full z d preset zs hs ≡ given tt
     → length rs ≡ 5 * length zs
     → smooth-refusal full ts vs (fill-points full z d preset zs hs) (fill-bandwidths full z d preset zs hs) rs
     ≡ first-of (size-checks full ts vs ++ report 4 (lowest (decreases ts) (length ts)) ∷ [])
 unfolding fill fill-points fill-bandwidths
-panel-sweep-by-readings ts vs z d preset zs hs rs e q =
+fill-then-smooth-by-samples ts vs z d preset zs hs rs e q =
     let a = given-accepted (fill-refusal full z d preset zs hs) tt tt e .0 in
-    rw (a, q) (filled-sweep-by-readings ts vs z d preset (length zs) (length hs) (fill-accepts z d preset (length zs) (length hs) a))
+    rw (a, q) (filled-grid-by-samples ts vs z d preset (length zs) (length hs) (fill-accepts z d preset (length zs) (length hs) a))

@@ -17,10 +17,10 @@ pub mod Published
 pub mod Rounding
 pub mod Search
 pub mod SheetForms
+pub mod SmoothLog
+pub mod SmoothRows
+pub mod SmoothSteps
 pub mod Steps
-pub mod SweepBook
-pub mod SweepRows
-pub mod Sweeps
 pub mod Totals
 pub mod Window
 pub mod WrongAnswers

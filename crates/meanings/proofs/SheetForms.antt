@@ -43,8 +43,8 @@ edge-back-is-refused =
     faulty-point (omega arith) (move 20 10 ∷ []) (omega arith) (move 21 12) (omega arith) ([], refl)
     (edge (omega arith) (omega arith) (λ (n : Neighbours Follows (move 20 10 ∷ move 21 12 ∷ [])). omega (arith, n)))
 
-pub no-marks-is-refused : Refused full (ascii "mark,half\n\n") 7 10
-no-marks-is-refused = no-point (omega arith) ([], refl)
+pub no-points-is-refused : Refused full (ascii "mark,half\n\n") 7 10
+no-points-is-refused = no-point (omega arith) ([], refl)
 
 pub no-empty-line-is-refused : Refused full (ascii "mark,half\n0,1\n") 3 14
 unfolding move decimal decimal-with

@@ -57,6 +57,6 @@ unfolding smooth told-number
 five-not-before-four e = let n : _≡_ {A = ℕ} 4 5 = ap told-number e in omega arith
 
 -- a refusal that has filled the first mark
-pub no-mark-filled-on-refusal : ¬ (fill-points full 65535 1 0 (7 ∷ 7 ∷ []) (7 ∷ 7 ∷ []) ≡ 65535 ∷ 7 ∷ [])
+pub no-point-filled-on-refusal : ¬ (fill-points full 65535 1 0 (7 ∷ 7 ∷ []) (7 ∷ 7 ∷ []) ≡ 65535 ∷ 7 ∷ [])
 unfolding fill-points
-no-mark-filled-on-refusal e = let n : _≡_ {A = ℕ} 7 65535 = ap (λ (r : List ℕ). getD r 0 0) e in omega arith
+no-point-filled-on-refusal e = let n : _≡_ {A = ℕ} 7 65535 = ap (λ (r : List ℕ). getD r 0 0) e in omega arith

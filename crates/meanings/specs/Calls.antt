@@ -112,8 +112,8 @@ read-minutes o ts = filled-front o (λ c. c .minutes) ts
 abbrev pub read-values : Outcome → List ℕ → List ℕ
 read-values o vs = filled-front o (λ c. c .values) vs
 
-abbrev pub read-marks : Outcome → List ℕ → List ℕ
-read-marks o zs = filled-front o (λ c. c .points) zs
+abbrev pub read-evaluation-points : Outcome → List ℕ → List ℕ
+read-evaluation-points o zs = filled-front o (λ c. c .points) zs
 
 abbrev pub read-bandwidths : Outcome → List ℕ → List ℕ
 read-bandwidths o hs = filled-front o (λ c. c .bandwidths) hs

@@ -14,7 +14,7 @@ use Rattle.meanings.specs.Reports.{Answer, given, refused}
 use Rattle.meanings.specs.Running.{window-sums, advance, after, fresh}
 use Rattle.meanings.specs.EventLog.{EventLog, empty-log, log-after}
 use Rattle.meanings.specs.Sheet.{Contents, read-sheet}
-use Rattle.meanings.specs.Calls.{evaluate, window, window-start, smooth, smooth-rows, fill, fill-points, fill-bandwidths, read, counts, read-minutes, read-values, read-marks, read-bandwidths, Counts}
+use Rattle.meanings.specs.Calls.{evaluate, window, window-start, smooth, smooth-rows, fill, fill-points, fill-bandwidths, read, counts, read-minutes, read-values, read-evaluation-points, read-bandwidths, Counts}
 use Rattle.meanings.specs.Output.{program}
 
 pub data Call : Type 0 where
@@ -25,7 +25,7 @@ pub data Call : Type 0 where
   -- a list of steps from a fresh record: minutes, values, steps
   steps : List ℕ → List ℕ → List Move → Call
   -- the sweep under limits at most document 01's: minutes, values, marks, half widths, rows at entry
-  sweep : Limits → List ℕ → List ℕ → List ℕ → List ℕ → List ℕ → Call
+  smooth-over : Limits → List ℕ → List ℕ → List ℕ → List ℕ → List ℕ → Call
   -- the filler: first mark, spacing, position, both lists at entry
   filler : ℕ → ℕ → ℕ → List ℕ → List ℕ → Call
   -- what the reader makes of a sheet, under any limits
@@ -44,7 +44,7 @@ pub data Result : Type 0 where
   -- the record and the book after a list of steps
   logged : RunningSums → EventLog → Result
   -- passes, and rows at exit
-  swept : Answer ℕ → List ℕ → Result
+  smooth-gives : Answer ℕ → List ℕ → Result
   -- both lists at exit
   filled : Answer Unit → List ℕ → List ℕ → Result
   outcome : Answer Contents → Result
@@ -58,13 +58,13 @@ result (run ts vs z h) = part (window full ts vs z h) (window-start full ts vs z
 result (sums ts vs z h) = powers (window-sums ts vs z h)
 result (step ts vs r z h) = stepped (advance ts vs r z h)
 result (steps ts vs ms) = logged (after ts vs fresh ms) (log-after ts vs empty-log ms)
-result (sweep L ts vs zs hs rs) = swept (smooth L ts vs zs hs rs) (smooth-rows L ts vs zs hs rs)
+result (smooth-over L ts vs zs hs rs) = smooth-gives (smooth L ts vs zs hs rs) (smooth-rows L ts vs zs hs rs)
 result (filler z₀ d k zs hs) = filled (fill full z₀ d k zs hs) (fill-points full z₀ d k zs hs) (fill-bandwidths full z₀ d k zs hs)
 result (sheet L s) = outcome (read-sheet L s)
 result (reader L s ts vs zs hs) =
     let o = read L s ts vs zs hs in
     read-into (counts o)
-    (record { minutes = read-minutes o ts; values = read-values o vs; points = read-marks o zs; bandwidths = read-bandwidths o hs })
+    (record { minutes = read-minutes o ts; values = read-values o vs; points = read-evaluation-points o zs; bandwidths = read-bandwidths o hs })
 result (output s) = written (program (ascii s))
 
 pub record Case : Type 0 where

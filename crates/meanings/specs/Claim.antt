@@ -12,7 +12,7 @@ use Rattle.meanings.specs.Moves.{Move}
 use Rattle.meanings.specs.Reports.{Fault, Answer, given, refused, accepted-or}
 use Rattle.meanings.specs.Published.{range-sum}
 use Rattle.meanings.specs.Running.{six, fresh, advance, after}
-use Rattle.meanings.specs.EventLog.{EventLog, empty-log, log-refusal, log-after, takings, lettings}
+use Rattle.meanings.specs.EventLog.{EventLog, empty-log, log-refusal, log-after, insertion-count, eviction-count}
 
 -- the last accepted step once m is done, where o was the last one before: m itself, unless the book refuses it
 abbrev pub accepted-next : List ℕ → List ℕ → Option Move → Move → Option Move
@@ -64,29 +64,29 @@ refusal (refused e) = some e
 abbrev pub record-after : List ℕ → List ℕ → List Move → RunningSums
 record-after ts vs ms = after ts vs fresh ms
 
-abbrev pub book-after : List ℕ → List ℕ → List Move → EventLog
-book-after ts vs ms = log-after ts vs empty-log ms
+abbrev pub log-after-steps : List ℕ → List ℕ → List Move → EventLog
+log-after-steps ts vs ms = log-after ts vs empty-log ms
 
 -- what holds of the step m after the steps before
 pub record StepHolds (ts vs : List ℕ) (before : List Move) (m : Move) : Type 0 where
   -- the call has refused exactly if the book did, with the same report and place
   pub refused-alike : refusal (advance ts vs (record-after ts vs before) (m .point) (m .bandwidth)) ≡ log-refusal ts vs m
   -- the record's right = takings and its left = lettings
-  pub right-is-takings : record-after ts vs (before ++ m ∷ []) .right ≡ takings (book-after ts vs (before ++ m ∷ []))
-  pub left-is-lettings : record-after ts vs (before ++ m ∷ []) .left ≡ lettings (book-after ts vs (before ++ m ∷ []))
+  pub right-counts-insertions : record-after ts vs (before ++ m ∷ []) .right ≡ insertion-count (log-after-steps ts vs (before ++ m ∷ []))
+  pub left-counts-evictions : record-after ts vs (before ++ m ∷ []) .left ≡ eviction-count (log-after-steps ts vs (before ++ m ∷ []))
   -- the positions its right edge passed are those the book added to taken at this step, in the same order
-  pub taken-in : book-after ts vs (before ++ m ∷ []) .inserted
-      ≡ book-after ts vs before .inserted ++ between (record-after ts vs before .right) (record-after ts vs (before ++ m ∷ []) .right)
+  pub inserts : log-after-steps ts vs (before ++ m ∷ []) .inserted
+      ≡ log-after-steps ts vs before .inserted ++ between (record-after ts vs before .right) (record-after ts vs (before ++ m ∷ []) .right)
   -- and likewise for its left edge and let go
-  pub let-go : book-after ts vs (before ++ m ∷ []) .evicted
-      ≡ book-after ts vs before .evicted ++ between (record-after ts vs before .left) (record-after ts vs (before ++ m ∷ []) .left)
+  pub evicts : log-after-steps ts vs (before ++ m ∷ []) .evicted
+      ≡ log-after-steps ts vs before .evicted ++ between (record-after ts vs before .left) (record-after ts vs (before ++ m ∷ []) .left)
   -- the six sums are the direct sums
   pub sums-are-direct : record-after ts vs (before ++ m ∷ []) .sums ≡ window-direct ts vs (last-accepted ts vs (before ++ m ∷ []))
 
 -- what holds of a whole list of steps: before any the record is fresh and the book empty, and after each step the above
 pub record StepsHold (ts vs : List ℕ) (ms : List Move) : Type 0 where
   pub record-at-first : record-after ts vs [] ≡ fresh
-  pub book-at-first : book-after ts vs [] ≡ empty-log
+  pub log-at-first : log-after-steps ts vs [] ≡ empty-log
   pub each : (before rest : List Move) (m : Move) → ms ≡ before ++ m ∷ rest → StepHolds ts vs before m
 
 -- for all readings of 16 bits whose minutes never fall, and every list of steps over them with no edge back

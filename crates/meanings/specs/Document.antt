@@ -4,7 +4,7 @@ use mathlib.Core.List.{List, [], _∷_}
 use Rattle.meanings.specs.Limits.{full}
 use Rattle.meanings.specs.Bytes.{ascii}
 use Rattle.meanings.specs.Reports.{given}
-use Rattle.meanings.specs.Cases.{Case, _⇒_, row, sweep, sheet, output, estimated, swept, outcome, written, is-row, is-report}
+use Rattle.meanings.specs.Cases.{Case, _⇒_, row, smooth-over, sheet, output, estimated, smooth-gives, outcome, written, is-row, is-report}
 
 -- the whole sheet's kept readings
 abbrev minutes : List ℕ
@@ -26,13 +26,13 @@ document-cases =
     ∷ row (0 ∷ 0 ∷ []) (2 ∷ 3 ∷ []) 0 1 ⇒ estimated (is-row 0 2 2 5 3)
     ∷ row (65535 ∷ []) (65535 ∷ []) 65535 65536 ⇒ estimated (is-row 0 1 4294967296 281470681743360 65535)
     -- C9: the rows' last five are the second row
-    ∷ sweep full (50 ∷ []) (9 ∷ []) (0 ∷ 100 ∷ []) (1 ∷ 1 ∷ []) (7 ∷ 7 ∷ 7 ∷ 7 ∷ 7 ∷ 7 ∷ 7 ∷ 7 ∷ 7 ∷ 7 ∷ [])
-    ⇒ swept (given 2) (0 ∷ 0 ∷ 0 ∷ 0 ∷ 65536 ∷ 1 ∷ 1 ∷ 0 ∷ 0 ∷ 65536 ∷ [])
+    ∷ smooth-over full (50 ∷ []) (9 ∷ []) (0 ∷ 100 ∷ []) (1 ∷ 1 ∷ []) (7 ∷ 7 ∷ 7 ∷ 7 ∷ 7 ∷ 7 ∷ 7 ∷ 7 ∷ 7 ∷ 7 ∷ [])
+    ⇒ smooth-gives (given 2) (0 ∷ 0 ∷ 0 ∷ 0 ∷ 65536 ∷ 1 ∷ 1 ∷ 0 ∷ 0 ∷ 65536 ∷ [])
     -- C10 and C11
-    ∷ sweep full [] [] (100 ∷ 101 ∷ []) (10 ∷ 11 ∷ []) (7 ∷ 7 ∷ 7 ∷ 7 ∷ 7 ∷ 7 ∷ 7 ∷ 7 ∷ 7 ∷ 7 ∷ [])
-    ⇒ swept (given 0) (0 ∷ 0 ∷ 0 ∷ 0 ∷ 65536 ∷ 0 ∷ 0 ∷ 0 ∷ 0 ∷ 65536 ∷ [])
-    ∷ sweep full [] [] (100 ∷ 101 ∷ []) (10 ∷ 12 ∷ []) (7 ∷ 7 ∷ 7 ∷ 7 ∷ 7 ∷ 7 ∷ 7 ∷ 7 ∷ 7 ∷ 7 ∷ [])
-    ⇒ swept (is-report 10 1) (7 ∷ 7 ∷ 7 ∷ 7 ∷ 7 ∷ 7 ∷ 7 ∷ 7 ∷ 7 ∷ 7 ∷ [])
+    ∷ smooth-over full [] [] (100 ∷ 101 ∷ []) (10 ∷ 11 ∷ []) (7 ∷ 7 ∷ 7 ∷ 7 ∷ 7 ∷ 7 ∷ 7 ∷ 7 ∷ 7 ∷ 7 ∷ [])
+    ⇒ smooth-gives (given 0) (0 ∷ 0 ∷ 0 ∷ 0 ∷ 65536 ∷ 0 ∷ 0 ∷ 0 ∷ 0 ∷ 65536 ∷ [])
+    ∷ smooth-over full [] [] (100 ∷ 101 ∷ []) (10 ∷ 12 ∷ []) (7 ∷ 7 ∷ 7 ∷ 7 ∷ 7 ∷ 7 ∷ 7 ∷ 7 ∷ 7 ∷ 7 ∷ [])
+    ⇒ smooth-gives (is-report 10 1) (7 ∷ 7 ∷ 7 ∷ 7 ∷ 7 ∷ 7 ∷ 7 ∷ 7 ∷ 7 ∷ 7 ∷ [])
     -- C12
     ∷ sheet full (ascii "mark,half\n20,10\n21,12\n") ⇒ outcome (is-report 10 16)
     -- one whole sheet, and the empty input

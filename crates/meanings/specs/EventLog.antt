@@ -60,8 +60,8 @@ log-after ts vs b [] = b
 log-after ts vs b (m ∷ ms) = log-after ts vs (log-step ts vs b m) ms
 
 -- takings and lettings
-abbrev pub takings : EventLog → ℕ
-takings b = length (b .inserted)
+abbrev pub insertion-count : EventLog → ℕ
+insertion-count b = length (b .inserted)
 
-abbrev pub lettings : EventLog → ℕ
-lettings b = length (b .evicted)
+abbrev pub eviction-count : EventLog → ℕ
+eviction-count b = length (b .evicted)

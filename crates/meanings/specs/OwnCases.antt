@@ -10,7 +10,7 @@ use Rattle.meanings.specs.Bytes.{ascii}
 use Rattle.meanings.specs.Moves.{Move}
 use Rattle.meanings.specs.Reports.{given}
 use Rattle.meanings.specs.EventLog.{EventLog}
-use Rattle.meanings.specs.Cases.{Case, _⇒_, row, run, sums, step, steps, sweep, filler, sheet, reader, output, estimated, part, powers, stepped, logged, swept, filled, outcome, read-into, written, is-row, is-report, is-sums, is-record, contents}
+use Rattle.meanings.specs.Cases.{Case, _⇒_, row, run, sums, step, steps, smooth-over, filler, sheet, reader, output, estimated, part, powers, stepped, logged, smooth-gives, filled, outcome, read-into, written, is-row, is-report, is-sums, is-record, contents}
 
 abbrev fives : ℕ → List ℕ
 fives n = replicate n 5
@@ -120,39 +120,39 @@ step-cases =
     ∷ steps (5 ∷ 1 ∷ []) (1 ∷ 1 ∷ []) (move 1 1 ∷ move 5 1 ∷ []) ⇒ logged (is-record 0 2 (is-sums 2 6 26 2 6 26)) (log (1 ∷ 0 ∷ []) (1 ∷ []))
     ∷ []
 
-abbrev pub sweep-cases : List Case
-sweep-cases =
+abbrev pub smooth-cases : List Case
+smooth-cases =
     -- 8, 6, 7, 4, 5, 9, 10
-    sweep full (replicate 1025 0) [] [] [] [] ⇒ swept (is-report 8 0) []
-    ∷ sweep full [] (1 ∷ []) (1 ∷ []) (1 ∷ []) (fives 5) ⇒ swept (is-report 8 0) (fives 5)
-    ∷ sweep full [] [] (1 ∷ []) (1 ∷ 1 ∷ []) (fives 5) ⇒ swept (is-report 8 0) (fives 5)
+    smooth-over full (replicate 1025 0) [] [] [] [] ⇒ smooth-gives (is-report 8 0) []
+    ∷ smooth-over full [] (1 ∷ []) (1 ∷ []) (1 ∷ []) (fives 5) ⇒ smooth-gives (is-report 8 0) (fives 5)
+    ∷ smooth-over full [] [] (1 ∷ []) (1 ∷ 1 ∷ []) (fives 5) ⇒ smooth-gives (is-report 8 0) (fives 5)
     -- edges below 0
-    ∷ sweep full [] [] (0 ∷ 1 ∷ []) (10 ∷ 12 ∷ []) (fives 10) ⇒ swept (is-report 10 1) (fives 10)
-    ∷ sweep full [] [] (0 ∷ 1 ∷ []) (10 ∷ 11 ∷ []) (fives 10) ⇒ swept (given 0) (0 ∷ 0 ∷ 0 ∷ 0 ∷ 65536 ∷ 0 ∷ 0 ∷ 0 ∷ 0 ∷ 65536 ∷ [])
+    ∷ smooth-over full [] [] (0 ∷ 1 ∷ []) (10 ∷ 12 ∷ []) (fives 10) ⇒ smooth-gives (is-report 10 1) (fives 10)
+    ∷ smooth-over full [] [] (0 ∷ 1 ∷ []) (10 ∷ 11 ∷ []) (fives 10) ⇒ smooth-gives (given 0) (0 ∷ 0 ∷ 0 ∷ 0 ∷ 65536 ∷ 0 ∷ 0 ∷ 0 ∷ 0 ∷ 65536 ∷ [])
     -- each mark has its own half width
-    ∷ sweep full (1 ∷ 5 ∷ 9 ∷ []) (1 ∷ 2 ∷ 3 ∷ []) (2 ∷ 6 ∷ []) (1 ∷ 3 ∷ []) (fives 10)
-    ⇒ swept (given 4) (0 ∷ 1 ∷ 0 ∷ 0 ∷ 65536 ∷ 1 ∷ 3 ∷ 8 ∷ 16 ∷ 2 ∷ [])
-    ∷ sweep full (1 ∷ []) [] [] [] [] ⇒ swept (is-report 8 0) []
-    ∷ sweep full [] [] (1 ∷ []) [] (fives 5) ⇒ swept (is-report 8 0) (fives 5)
-    ∷ sweep full [] [] (1 ∷ []) (1 ∷ []) (fives 4) ⇒ swept (is-report 8 0) (fives 4)
-    ∷ sweep full [] [] (1 ∷ []) (1 ∷ []) (fives 6) ⇒ swept (is-report 8 0) (fives 6)
-    ∷ sweep full (replicate 1025 0) (replicate 1025 0) [] [] [] ⇒ swept (is-report 6 0) []
-    ∷ sweep full (1 ∷ 0 ∷ []) (0 ∷ 0 ∷ []) (replicate 513 0) (replicate 513 0) (fives 2565)
-    ⇒ swept (is-report 6 0) (fives 2565)
-    ∷ sweep full (1 ∷ 0 ∷ []) (0 ∷ 0 ∷ []) [] [] [] ⇒ swept (is-report 7 0) []
-    ∷ sweep full (1 ∷ 2 ∷ 1 ∷ 0 ∷ []) (0 ∷ 0 ∷ 0 ∷ 0 ∷ []) (1 ∷ 0 ∷ []) (1 ∷ 1 ∷ []) (fives 10)
-    ⇒ swept (is-report 4 2) (fives 10)
-    ∷ sweep full [] [] (1 ∷ 1 ∷ 0 ∷ []) (0 ∷ 1 ∷ 1 ∷ []) (fives 15) ⇒ swept (is-report 5 2) (fives 15)
-    ∷ sweep full [] [] (0 ∷ 0 ∷ 0 ∷ []) (3 ∷ 2 ∷ 0 ∷ []) (fives 15) ⇒ swept (is-report 9 2) (fives 15)
-    ∷ sweep full [] [] (0 ∷ 0 ∷ []) (65537 ∷ 65536 ∷ []) (fives 10) ⇒ swept (is-report 9 0) (fives 10)
-    ∷ sweep full [] [] (5 ∷ 5 ∷ 6 ∷ []) (9 ∷ 9 ∷ 7 ∷ []) (fives 15) ⇒ swept (is-report 10 2) (fives 15)
-    ∷ sweep full [] [] (5 ∷ 6 ∷ []) (9 ∷ 8 ∷ []) (fives 10)
-    ⇒ swept (given 0) (0 ∷ 0 ∷ 0 ∷ 0 ∷ 65536 ∷ 0 ∷ 0 ∷ 0 ∷ 0 ∷ 65536 ∷ [])
+    ∷ smooth-over full (1 ∷ 5 ∷ 9 ∷ []) (1 ∷ 2 ∷ 3 ∷ []) (2 ∷ 6 ∷ []) (1 ∷ 3 ∷ []) (fives 10)
+    ⇒ smooth-gives (given 4) (0 ∷ 1 ∷ 0 ∷ 0 ∷ 65536 ∷ 1 ∷ 3 ∷ 8 ∷ 16 ∷ 2 ∷ [])
+    ∷ smooth-over full (1 ∷ []) [] [] [] [] ⇒ smooth-gives (is-report 8 0) []
+    ∷ smooth-over full [] [] (1 ∷ []) [] (fives 5) ⇒ smooth-gives (is-report 8 0) (fives 5)
+    ∷ smooth-over full [] [] (1 ∷ []) (1 ∷ []) (fives 4) ⇒ smooth-gives (is-report 8 0) (fives 4)
+    ∷ smooth-over full [] [] (1 ∷ []) (1 ∷ []) (fives 6) ⇒ smooth-gives (is-report 8 0) (fives 6)
+    ∷ smooth-over full (replicate 1025 0) (replicate 1025 0) [] [] [] ⇒ smooth-gives (is-report 6 0) []
+    ∷ smooth-over full (1 ∷ 0 ∷ []) (0 ∷ 0 ∷ []) (replicate 513 0) (replicate 513 0) (fives 2565)
+    ⇒ smooth-gives (is-report 6 0) (fives 2565)
+    ∷ smooth-over full (1 ∷ 0 ∷ []) (0 ∷ 0 ∷ []) [] [] [] ⇒ smooth-gives (is-report 7 0) []
+    ∷ smooth-over full (1 ∷ 2 ∷ 1 ∷ 0 ∷ []) (0 ∷ 0 ∷ 0 ∷ 0 ∷ []) (1 ∷ 0 ∷ []) (1 ∷ 1 ∷ []) (fives 10)
+    ⇒ smooth-gives (is-report 4 2) (fives 10)
+    ∷ smooth-over full [] [] (1 ∷ 1 ∷ 0 ∷ []) (0 ∷ 1 ∷ 1 ∷ []) (fives 15) ⇒ smooth-gives (is-report 5 2) (fives 15)
+    ∷ smooth-over full [] [] (0 ∷ 0 ∷ 0 ∷ []) (3 ∷ 2 ∷ 0 ∷ []) (fives 15) ⇒ smooth-gives (is-report 9 2) (fives 15)
+    ∷ smooth-over full [] [] (0 ∷ 0 ∷ []) (65537 ∷ 65536 ∷ []) (fives 10) ⇒ smooth-gives (is-report 9 0) (fives 10)
+    ∷ smooth-over full [] [] (5 ∷ 5 ∷ 6 ∷ []) (9 ∷ 9 ∷ 7 ∷ []) (fives 15) ⇒ smooth-gives (is-report 10 2) (fives 15)
+    ∷ smooth-over full [] [] (5 ∷ 6 ∷ []) (9 ∷ 8 ∷ []) (fives 10)
+    ⇒ smooth-gives (given 0) (0 ∷ 0 ∷ 0 ∷ 0 ∷ 65536 ∷ 0 ∷ 0 ∷ 0 ∷ 0 ∷ 65536 ∷ [])
     -- as many readings and marks as there may be
-    ∷ sweep small (1 ∷ 1 ∷ []) (2 ∷ 2 ∷ []) (1 ∷ 1 ∷ []) (1 ∷ 1 ∷ []) (fives 10) ⇒ swept (given 2) (0 ∷ 2 ∷ 2 ∷ 4 ∷ 2 ∷ 0 ∷ 2 ∷ 2 ∷ 4 ∷ 2 ∷ [])
+    ∷ smooth-over small (1 ∷ 1 ∷ []) (2 ∷ 2 ∷ []) (1 ∷ 1 ∷ []) (1 ∷ 1 ∷ []) (fives 10) ⇒ smooth-gives (given 2) (0 ∷ 2 ∷ 2 ∷ 4 ∷ 2 ∷ 0 ∷ 2 ∷ 2 ∷ 4 ∷ 2 ∷ [])
     -- a reading taken in and let go, one jumped over, one left
-    ∷ sweep full (1 ∷ 5 ∷ 9 ∷ []) (1 ∷ 2 ∷ 3 ∷ []) (2 ∷ 9 ∷ []) (2 ∷ 2 ∷ []) (fives 10)
-    ⇒ swept (given 5) (0 ∷ 1 ∷ 3 ∷ 3 ∷ 1 ∷ 2 ∷ 3 ∷ 4 ∷ 12 ∷ 3 ∷ [])
+    ∷ smooth-over full (1 ∷ 5 ∷ 9 ∷ []) (1 ∷ 2 ∷ 3 ∷ []) (2 ∷ 9 ∷ []) (2 ∷ 2 ∷ []) (fives 10)
+    ⇒ smooth-gives (given 5) (0 ∷ 1 ∷ 3 ∷ 3 ∷ 1 ∷ 2 ∷ 3 ∷ 4 ∷ 12 ∷ 3 ∷ [])
     ∷ []
 
 -- one mark, with the half width of a position
@@ -292,4 +292,4 @@ sheet-cases =
     ∷ []
 
 abbrev pub own-cases : List Case
-own-cases = one-point-cases ++ step-cases ++ sweep-cases ++ fill-cases ++ sheet-cases
+own-cases = one-point-cases ++ step-cases ++ smooth-cases ++ fill-cases ++ sheet-cases

@@ -115,22 +115,22 @@ Begins p s = (rest : List ℕ) × (s ≡ p ++ rest)
 
 -- what is wrong with a mark line m after the faultless lines ms, in the order in which it is looked at
 pub data PointFault (L : Limits) (ms : List Move) (m : Move) : ℕ → Type 0 where
-  early : (before : List Move) (m₀ : Move) → ms ≡ before ++ m₀ ∷ [] → m .point < m₀ .point → PointFault L ms m 5
+  out-of-order : (before : List Move) (m₀ : Move) → ms ≡ before ++ m₀ ∷ [] → m .point < m₀ .point → PointFault L ms m 5
   bandwidth : Neighbours (λ (a b : Move). a .point ≤ b .point) (ms ++ m ∷ []) → (m .bandwidth ≡ 0) ⊎ (max-bandwidth < m .bandwidth)
       → PointFault L ms m 9
   edge : Neighbours (λ (a b : Move). a .point ≤ b .point) (ms ++ m ∷ []) → BandwidthRange m → ¬ (Neighbours Follows (ms ++ m ∷ []))
       → PointFault L ms m 10
-  crowd : Neighbours Follows (ms ++ m ∷ []) → BandwidthRange m → L .points ≤ length ms → PointFault L ms m 6
+  too-many : Neighbours Follows (ms ++ m ∷ []) → BandwidthRange m → L .points ≤ length ms → PointFault L ms m 6
 
 -- what is wrong with a reading line j after the faultless lines js
 pub data SampleFault (L : Limits) (js : List Injection) (j : Injection) : ℕ → Type 0 where
-  early : (before : List Injection) (j₀ : Injection) → js ≡ before ++ j₀ ∷ [] → j .minute < j₀ .minute → SampleFault L js j 4
-  crowd : Neighbours MinuteOrder (js ++ j ∷ []) → 2 < j .injection → L .samples ≤ length (kept-of js) → SampleFault L js j 6
+  out-of-order : (before : List Injection) (j₀ : Injection) → js ≡ before ++ j₀ ∷ [] → j .minute < j₀ .minute → SampleFault L js j 4
+  too-many : Neighbours MinuteOrder (js ++ j ∷ []) → 2 < j .injection → L .samples ≤ length (kept-of js) → SampleFault L js j 6
 
 -- the sheet s is refused with a report at a place: the lines before the place are faultless, and the line there has the report's condition
 -- and no earlier one
 pub data Refused (L : Limits) (s : List ℕ) : ℕ → ℕ → Type 0 where
-  overlong : max-sheet < length s → Refused L s 1 max-sheet
+  too-long : max-sheet < length s → Refused L s 1 max-sheet
   no-point-header : length s ≤ max-sheet → ¬ Begins point-head s → Refused L s 2 0
   no-empty-line : length s ≤ max-sheet → (ms : List Move) → FitPoints L ms → s ≡ point-head ++ print-points ms
       → Refused L s 3 (length s)

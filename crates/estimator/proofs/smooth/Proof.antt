@@ -4,7 +4,7 @@ use borrow.Author.Needs.{needs}
 use lib.ListN.{length}
 use Rattle.meanings.specs.Reports.{given, smooth-checks}
 use Rattle.meanings.specs.Calls.{smooth, smooth-rows}
-use Rattle.meanings.proofs.Sweeps.{smooth-accepts}
+use Rattle.meanings.proofs.SmoothSteps.{smooth-accepts}
 use Rattle.estimator.proofs.Verdicts.{refusal-is-verdict}
 use Rattle.estimator.proofs.smooth.Statement.{statement}
 use Rattle.estimator.proofs.smooth.Tie as tie
@@ -21,8 +21,8 @@ enum-known-refusal c = search needs
 enum-told : tie.Need-enum-told
 enum-told c = search needs
 
-sweep-requires : tie.Need-sweep-requires
-sweep-requires c κs =
+smooth-rows-requires : tie.Need-smooth-rows-requires
+smooth-rows-requires c κs =
     let a = c .before .before .before .before .before .before .before .before .before .before .args in
     smooth-accepts (a .minutes .now) (a .values .now) (a .points .now) (a .bandwidths .now) (length (a .rows .now))
     (refusal-is-verdict (λ L. smooth-checks L (a .minutes .now) (a .values .now) (a .points .now) (a .bandwidths .now) (length (a .rows .now))) _ _ _ (c .before .before .before .before .full .ensures) (c .before .before .before .smooth-fault .ensures) (c .before .enum-told .given .1))
@@ -46,7 +46,7 @@ returns-2 c =
     let e =
     refusal-is-verdict (λ L. smooth-checks L (a .minutes .now) (a .values .now) (a .points .now) (a .bandwidths .now) (length (a .rows .now))) _ _ _ (c .before .before .before .before .before .before .before .full .ensures)
     (c .before .before .before .before .before .before .smooth-fault .ensures) (c .before .before .before .before .enum-told .given .1) in
-    (rw e (ap given (c .before .before .sweep .ensures .0)), rw e (c .before .before .sweep .ensures .1))
+    (rw e (ap given (c .before .before .smooth-rows .ensures .0)), rw e (c .before .before .smooth-rows .ensures .1))
 
 pub smooth-spec : {M : Type 1} → statement M
 smooth-spec =
@@ -56,7 +56,7 @@ smooth-spec =
     smooth-fault-requires
     enum-known-refusal
     enum-told
-    sweep-requires
+    smooth-rows-requires
     returns
     same-length
     returns-2)

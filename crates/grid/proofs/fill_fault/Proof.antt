@@ -4,7 +4,7 @@ use native.Mathlib.Omega.{arith}
 use borrow.Author.Needs.{needs}
 use borrow.Author.Tests.{lt-ltb, le-ltb, le-leb, lt-leb, eq-eqb, ne-eqb}
 use Rattle.meanings.proofs.Checks.{differ-true, differ-same}
-use Rattle.grid.proofs.Fills.{last-mark-small}
+use Rattle.grid.proofs.Fills.{last-point-small}
 use Rattle.grid.proofs.fill_fault.Statement.{statement}
 use Rattle.grid.proofs.fill_fault.Tie as tie
 
@@ -39,10 +39,10 @@ sub-if5 : tie.Need-sub-if5
 sub-if5 c = search needs
 
 mul-if5 : tie.Need-mul-if5
-mul-if5 c = omega (arith, last-mark-small (c .before .before .before .before .args .n) (c .before .before .before .before .args .spacing) (c .before .if3 .left) (le-of-lt (c .before .before .before .before .fits .spacing .fits)))
+mul-if5 c = omega (arith, last-point-small (c .before .before .before .before .args .n) (c .before .before .before .before .args .spacing) (c .before .if3 .left) (le-of-lt (c .before .before .before .before .fits .spacing .fits)))
 
 add-if5 : tie.Need-add-if5
-add-if5 c = omega (arith, last-mark-small (c .before .before .before .before .args .n) (c .before .before .before .before .args .spacing) (c .before .if3 .left) (le-of-lt (c .before .before .before .before .fits .spacing .fits)))
+add-if5 c = omega (arith, last-point-small (c .before .before .before .before .args .n) (c .before .before .before .before .args .spacing) (c .before .if3 .left) (le-of-lt (c .before .before .before .before .fits .spacing .fits)))
 
 returns-5 : tie.Need-returns-5
 returns-5 c =

@@ -7,7 +7,7 @@ use lib.ListN.{length, length-set}
 use Rattle.meanings.specs.Limits.{max-u16}
 use Rattle.meanings.specs.Grid.{grid}
 use Rattle.meanings.proofs.Grids.{grid-length}
-use Rattle.grid.proofs.Fills.{FilledTo, filled-begins, filled-length, filled-goes-on, filled-ends, mark-at-most}
+use Rattle.grid.proofs.Fills.{FilledTo, filled-begins, filled-length, filled-goes-on, filled-ends, point-at-most}
 use Rattle.grid.proofs.put_points.Statement.{statement}
 use Rattle.grid.proofs.put_points.Tie as tie
 
@@ -18,22 +18,22 @@ abbrev μ-loop : tie.MeasureT-loop
 μ-loop points₀ first spacing k₀ points k = length points - k
 
 -- the mark of this turn is at most 65,535
-mark-fits : (c : tie.In-loop Inv-loop μ-loop) → c .before .before .args .first + c .before .loop .k * c .before .before .args .spacing ≤ max-u16
-mark-fits c =
+point-fits : (c : tie.In-loop Inv-loop μ-loop) → c .before .before .args .first + c .before .loop .k * c .before .before .args .spacing ≤ max-u16
+point-fits c =
     let n = filled-length (grid (c .before .before .args .first) (c .before .before .args .spacing)) (grid-length (c .before .before .args .first) (c .before .before .args .spacing)) (c .before .before .args .points .now) (c .before .loop .k) _ (c .before .loop .inv) in
-    mark-at-most (c .before .before .args .first) (c .before .before .args .spacing) (c .before .loop .k) (length (c .before .before .args .points .now)) max-u16 (omega (arith, n)) (c .before .before .pre .1)
+    point-at-most (c .before .before .args .first) (c .before .before .args .spacing) (c .before .loop .k) (length (c .before .before .args .points .now)) max-u16 (omega (arith, n)) (c .before .before .pre .1)
 
 loop-holds : tie.Need-loop-holds Inv-loop μ-loop
 loop-holds c = filled-begins (grid (c .args .first) (c .args .spacing)) (grid-length (c .args .first) (c .args .spacing)) (c .args .points .now) refl
 
 mul-points : tie.Need-mul-points Inv-loop μ-loop
-mul-points c = let m = mark-fits c in omega arith
+mul-points c = let m = point-fits c in omega arith
 
 add-points : tie.Need-add-points Inv-loop μ-loop
-add-points c = let m = mark-fits c in omega arith
+add-points c = let m = point-fits c in omega arith
 
 cast-points : tie.Need-cast-points Inv-loop μ-loop
-cast-points c = let m = mark-fits c in omega arith
+cast-points c = let m = point-fits c in omega arith
 
 mul-points-2 : tie.Need-mul-points-2 Inv-loop μ-loop
 mul-points-2 c = search needs

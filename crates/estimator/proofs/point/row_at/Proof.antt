@@ -8,7 +8,7 @@ use Rattle.meanings.specs.Running.{window-sums}
 use Rattle.meanings.proofs.Steps.{Small}
 use Rattle.meanings.proofs.Window.{left-at-most-right, right-at-most-length}
 use Rattle.estimator.specs.Rows.{SumsFit}
-use Rattle.estimator.proofs.Rows.{taken-from-zero, window-sums-fit, row-of-window}
+use Rattle.estimator.proofs.Rows.{inserted-from-zero, window-sums-fit, row-of-window}
 use Rattle.estimator.proofs.point.row_at.Statement.{statement}
 use Rattle.estimator.proofs.point.row_at.Tie as tie
 
@@ -44,7 +44,7 @@ sums-are : (c : tie.After-with-run)
     → c .with-run .result
     ≡ window-sums (c .before .before .before .before .before .args .minutes .now) (c .before .before .before .before .before .args .values .now) (c .before .before .before .before .before .args .point) (c .before .before .before .before .before .args .bandwidth)
 sums-are c =
-    taken-from-zero _ _ _ _ (small c) (c .before .zero-sums .result) (c .with-run .result) (c .before .before .span-at .result .left) (c .before .before .span-at .result .right)
+    inserted-from-zero _ _ _ _ (small c) (c .before .zero-sums .result) (c .with-run .result) (c .before .before .span-at .result .left) (c .before .before .span-at .result .right)
     (c .before .zero-sums .ensures) (c .before .before .span-at .ensures .0) (c .before .before .span-at .ensures .1) (c .with-run .ensures)
 
 row-of-requires : tie.Need-row-of-requires

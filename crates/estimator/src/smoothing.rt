@@ -1,0 +1,59 @@
+// The whole sweep: one step a mark from a fresh record, and a row after each.
+use crate::row::row_of;
+use crate::step::moved;
+use crate::sums::zero_sums;
+use meanings::Estimate;
+use meanings::RunningSums;
+ghost use mathlib.Core.Path.{_≡_};
+ghost use Prim.Native.Nat.{_+_, _*_, _≤_};
+ghost use lib.ListN.{length};
+ghost use lib.Seq.{sets};
+ghost use Rattle.meanings.specs.Estimate.{fields, rows as rows-meaning};
+ghost use Rattle.meanings.specs.Moves.{moves};
+ghost use Rattle.meanings.specs.Running.{fresh, passes};
+ghost use Rattle.meanings.proofs.SmoothSteps.{SmoothAccepted};
+
+// Stores the row of mark k.
+pub(crate) fn put_row(rows: &mut [u64], k: usize, e: Estimate)
+    requires { ⌜ 5 * k + 5 ≤ length (now rows) ⌝ }
+    ensures { λ _. ⌜ now (rows .exit) ≡ sets (now (rows .entry)) (5 * k) (fields e) ⌝ }
+{
+    let at = 5 * k;
+    rows[at] = e.left;
+    rows[at + 1] = e.right;
+    rows[at + 2] = e.weight;
+    rows[at + 3] = e.sum;
+    rows[at + 4] = e.value;
+}
+
+// Stores the rows of all marks and answers the passes: last right plus last left.
+pub(crate) fn smooth_rows(
+    minutes: &[u16],
+    values: &[u16],
+    points: &[u16],
+    bandwidths: &[u32],
+    rows: &mut [u64],
+) -> u64
+    requires { ⌜ SmoothAccepted (now minutes) (now values) (now points) (now bandwidths) (length (now rows)) ⌝ }
+    ensures { λ r. ⌜ r ≡ passes (now (minutes .entry)) (now (values .entry)) fresh (moves (now (points .entry)) (now (bandwidths .entry))) ⌝ }
+    ensures { λ _. ⌜ now (rows .exit) ≡ rows-meaning (now (minutes .entry)) (now (values .entry)) (now (points .entry)) (now (bandwidths .entry)) (length (now (points .entry))) ⌝ }
+{
+    let mut running = RunningSums {
+        left: 0,
+        right: 0,
+        sums: zero_sums(),
+    };
+    let mut k = 0;
+    while k < points.len() {
+        let point = points[k];
+        let bandwidth = bandwidths[k];
+        running = moved(running, minutes, values, point, bandwidth);
+        put_row(
+            rows,
+            k,
+            row_of(running.left, running.right, running.sums, point, bandwidth),
+        );
+        k += 1;
+    }
+    running.right as u64 + running.left as u64
+}

@@ -1,0 +1,82 @@
+-- Each row of an accepted sweep is the one that the question at one mark gives, and each record on the way is the one that one step a mark
+-- gives from a fresh record.
+use Prim.Native.Nat.{ℕ, zero, suc, _+_, _*_, _≤_, _<_}
+use mathlib.Core.Path.{_≡_, refl, sym, ap, _∙_}
+use mathlib.Core.Logic.{_⊎_, inl, inr}
+use mathlib.Core.Option.{none}
+use mathlib.Core.List.{List, [], _∷_, _++_}
+use native.Mathlib.Nat.{not-suc-le-zero, le-of-suc-le-suc, eq-or-lt-of-le}
+use native.Mathlib.Omega.{arith}
+use borrow.Author.Tests.{le-ltb, ne-eqb}
+use lib.ListN.{length, getD, take, drop, length-append, length-drop}
+use lib.Seq.{drop-at, drop-append-le, take-append-le}
+use Rattle.meanings.specs.declared.RunningSums.{RunningSums}
+use Rattle.meanings.specs.Lists.{AtMost, lowest}
+use Rattle.meanings.specs.Limits.{full, max-u16}
+use Rattle.meanings.specs.Moves.{Move, moves}
+use Rattle.meanings.specs.Reports.{Answer, given, first-of, decreases, smooth-checks, smooth-size-checks, smooth-order-checks, evaluate-checks}
+use Rattle.meanings.specs.Estimate.{estimate, fields, rows}
+use Rattle.meanings.specs.Running.{fresh, settled, after, passes}
+use Rattle.meanings.specs.Calls.{evaluate, smooth, smooth-refusal, smooth-rows}
+use Rattle.meanings.proofs.Checks.{differ-same, given-accepted, none-holds, none-of-both}
+use Rattle.meanings.proofs.Passes.{after-append}
+use Rattle.meanings.proofs.Steps.{Small}
+use Rattle.meanings.proofs.SmoothSteps.{SmoothAccepted, smooth-accepts, running-at, step-accepted}
+
+pub rows-length : (ts vs zs hs : List ℕ) (n : ℕ) → length (rows ts vs zs hs n) ≡ 5 * n
+rows-length ts vs zs hs zero = refl
+rows-length ts vs zs hs (suc n) = length-append (rows ts vs zs hs n) _ ∙ (let l = rows-length ts vs zs hs n in omega arith)
+
+-- the five numbers of mark k
+pub row-at-point : (ts vs zs hs : List ℕ) (n k : ℕ) → k < n
+    → take 5 (drop (5 * k) (rows ts vs zs hs n)) ≡ fields (estimate ts vs (getD zs k 0) (getD hs k 0))
+row-at-point ts vs zs hs zero k l = absurd (not-suc-le-zero l)
+row-at-point ts vs zs hs (suc n) k l = by (eq-or-lt-of-le (le-of-suc-le-suc l)) (row-at-point ts vs zs hs n k)
+  where
+    M : List ℕ
+    M = rows ts vs zs hs n
+
+    F : List ℕ
+    F = fields (estimate ts vs (getD zs n 0) (getD hs n 0))
+
+    by : (k ≡ n) ⊎ (k < n) → (k < n → take 5 (drop (5 * k) M) ≡ fields (estimate ts vs (getD zs k 0) (getD hs k 0)))
+        → take 5 (drop (5 * k) (M ++ F)) ≡ fields (estimate ts vs (getD zs k 0) (getD hs k 0))
+    by (inl e) f = rw (e, drop-at M F (5 * n) (rows-length ts vs zs hs n))
+    by (inr m) f =
+        let r = rows-length ts vs zs hs n in
+        let d = length-drop (5 * k) M in
+        rw (drop-append-le (5 * k) M F (omega arith), take-append-le 5 (drop (5 * k) M) F (omega arith)) (f m)
+
+pub smooth-row-is-evaluate : (ts vs zs hs rs : List ℕ) (n k : ℕ) → smooth full ts vs zs hs rs ≡ given n → k < length zs
+    → (evaluate full ts vs (getD zs k 0) (getD hs k 0) ≡ given (estimate ts vs (getD zs k 0) (getD hs k 0)))
+    × (take 5 (drop (5 * k) (smooth-rows full ts vs zs hs rs)) ≡ fields (estimate ts vs (getD zs k 0) (getD hs k 0)))
+unfolding smooth smooth-rows evaluate
+smooth-row-is-evaluate ts vs zs hs rs n k q l =
+    let f = given-accepted (smooth-refusal full ts vs zs hs rs) (passes ts vs fresh (moves zs hs)) n q .0 in
+    let a = smooth-accepts ts vs zs hs (length rs) f in
+    let o =
+    none-holds (smooth-order-checks ts zs hs)
+    (none-of-both (smooth-size-checks full ts vs zs hs (length rs)) (smooth-order-checks ts zs hs) f .1) in
+    let b = a .bandwidths k l in (
+      rw
+          (differ-same _ _ (a .even), le-ltb _ _ (a .few), o .0, ne-eqb _ 0 (λ (e : getD hs k 0 ≡ 0). omega arith), le-ltb _ _ (b .1)),
+      rw f (row-at-point ts vs zs hs (length zs) k l),
+    )
+
+-- one step more in front of the rest
+moves-suc : (zs hs : List ℕ) (k : ℕ) → k < length zs → k < length hs
+    → moves (take (suc k) zs) (take (suc k) hs) ≡ moves (take k zs) (take k hs) ++ record { point = getD zs k 0; bandwidth = getD hs k 0 } ∷ []
+moves-suc [] hs k l m = absurd (not-suc-le-zero l)
+moves-suc (z ∷ zs) [] k l m = absurd (not-suc-le-zero m)
+moves-suc (z ∷ zs) (h ∷ hs) zero l m = refl
+moves-suc (z ∷ zs) (h ∷ hs) (suc k) l m =
+    ap (λ (r : List Move). record { point = z; bandwidth = h } ∷ r) (moves-suc zs hs k (le-of-suc-le-suc l) (le-of-suc-le-suc m))
+
+pub smooth-is-one-step-a-point : (ts vs zs hs : List ℕ) (r : ℕ) → Small ts vs → SmoothAccepted ts vs zs hs r → (k : ℕ) → k ≤ length zs
+    → after ts vs fresh (moves (take k zs) (take k hs)) ≡ running-at ts vs zs hs k
+smooth-is-one-step-a-point ts vs zs hs r s a zero l = refl
+smooth-is-one-step-a-point ts vs zs hs r s a (suc k) l =
+    let m : Move = record { point = getD zs k 0; bandwidth = getD hs k 0 } in
+    let before = smooth-is-one-step-a-point ts vs zs hs r s a k (omega arith) in
+    rw (moves-suc zs hs k l (let e = a .even-points in omega arith), after-append ts vs fresh (moves (take k zs) (take k hs)) (m ∷ []), before)
+    (ap (settled (running-at ts vs zs hs k)) (step-accepted ts vs zs hs r s a k l))
