@@ -8,8 +8,10 @@ pub mod Claim
 pub mod Decimal
 pub mod Grids
 pub mod Kernel
+pub mod LineOrder
 pub mod Modulo
 pub mod Moments
+pub mod Numbers
 pub mod Passes
 pub mod Positions
 pub mod Presets
@@ -17,10 +19,13 @@ pub mod Published
 pub mod Rounding
 pub mod Search
 pub mod SheetForms
+pub mod Sheets
 pub mod SmoothLog
 pub mod SmoothRows
 pub mod SmoothSteps
 pub mod Steps
+pub mod Texts
 pub mod Totals
+pub mod ValueLines
 pub mod Window
 pub mod WrongAnswers
