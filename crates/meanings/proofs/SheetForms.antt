@@ -1,19 +1,26 @@
 -- The second reading of the sheet says of document 01's own sheets what the document says: the whole sheet is the sheet of its readings and
--- marks, and the sheet of C12 is refused with 10 at byte 16, for an edge that falls.
-use Prim.Native.Nat.{ℕ}
-use mathlib.Core.Path.{refl}
+-- marks, and the sheet of C12 is refused with 10 at byte 16, for an edge that falls. Each way to be refused has a sheet of its own here.
+use Prim.Native.Nat.{ℕ, _<_}
+use mathlib.Core.Path.{_≡_, refl, ap, _∙_, sym}
+use mathlib.Core.Logic.{inl, inr}
 use mathlib.Core.List.{List, [], _∷_}
 use native.Mathlib.Omega.{arith}
+use lib.ListN.{length}
+use Rattle.meanings.specs.declared.Limits.{Limits}
 use Rattle.meanings.specs.Limits.{full}
-use Rattle.meanings.specs.Bytes.{ascii}
+use Rattle.meanings.specs.Bytes.{ascii, sample-header}
 use Rattle.meanings.specs.Moves.{Move}
-use Rattle.meanings.specs.Sheet.{Injection}
-use Rattle.meanings.specs.SheetForm.{IsSheet, Refused, faulty-point, no-point, no-empty-line, edge, Neighbours, Follows}
-use Rattle.meanings.specs.Output.{decimal, decimal-with}
+use Rattle.meanings.specs.Sheet.{Injection, unended, lines}
+use Rattle.meanings.specs.SheetForm.{IsSheet, Refused, too-long, no-point-header, no-empty-line, malformed-point, faulty-point, no-point, no-sample-header, malformed-sample, faulty-sample, PointFault, SampleFault, edge, Neighbours, Follows, PointForm, SampleForm, Begins, print-point, print-sample, point-head}
+use Rattle.meanings.specs.Output.{decimal, decimal-with, text-line}
 use Rattle.meanings.specs.Cases.{contents}
+use Rattle.meanings.proofs.Sheets.{lines-of-point, lines-of-sample}
 
 move : ℕ → ℕ → Move
 move z h = record { point = z; bandwidth = h }
+
+abbrev one-each : Limits
+one-each = record { samples = 1; points = 1 }
 
 line : ℕ → ℕ → ℕ → Injection
 line t j v = record { minute = t; injection = j; value = v }
@@ -49,3 +56,73 @@ no-points-is-refused = no-point (omega arith) ([], refl)
 pub no-empty-line-is-refused : Refused full (ascii "mark,half\n0,1\n") 3 14
 unfolding move decimal decimal-with
 no-empty-line-is-refused = no-empty-line (omega arith) (move 0 1 ∷ []) (omega arith) refl
+
+pub overlong-is-refused : (s : List ℕ) → 32768 < length s → Refused full s 1 32768
+overlong-is-refused s l = too-long l
+
+pub empty-is-refused : Refused full [] 2 0
+empty-is-refused = no-point-header (omega arith) (λ (b : Begins point-head []). let e = b .1 in let z : _≡_ {A = ℕ} 0 1 = cc in omega arith)
+
+-- bytes without a line feed do not begin with a printed line
+no-point-begins : (s t : List ℕ) → lines s ≡ unended t → (m : Move) → PointForm m → ¬ Begins (print-point m) s
+no-point-begins s t e m f b =
+    let p = sym e ∙ ap lines (b .1) ∙ lines-of-point m (b .0) in let z : _≡_ {A = ℕ} 0 1 = cc in omega arith
+
+no-sample-begins : (s t : List ℕ) → lines s ≡ unended t → (j : Injection) → SampleForm j → ¬ Begins (print-sample j) s
+no-sample-begins s t e j f b =
+    let p = sym e ∙ ap lines (b .1) ∙ lines-of-sample j (b .0) in let z : _≡_ {A = ℕ} 0 1 = cc in omega arith
+
+pub unended-point-is-refused : Refused full (ascii "mark,half\n0,1\n0,1") 3 14
+unfolding move decimal decimal-with
+unended-point-is-refused =
+    malformed-point (omega arith) (move 0 1 ∷ []) (omega arith) 48 (ascii ",1") refl (omega arith)
+    (no-point-begins (ascii "0,1") (ascii "0,1") refl)
+
+pub early-point-is-refused : Refused full (ascii "mark,half\n7,1\n6,0\n") 5 14
+unfolding move decimal decimal-with
+early-point-is-refused =
+    faulty-point (omega arith) (move 7 1 ∷ []) (omega arith) (move 6 0) (omega arith) ([], refl)
+    (PointFault.out-of-order [] (move 7 1) refl (omega arith))
+
+pub zero-bandwidth-is-refused : Refused full (ascii "mark,half\n7,1\n7,0\n") 9 14
+unfolding move decimal decimal-with
+zero-bandwidth-is-refused =
+    faulty-point (omega arith) (move 7 1 ∷ []) (omega arith) (move 7 0) (omega arith) ([], refl)
+    (PointFault.bandwidth (omega arith) (inl refl))
+
+pub wide-bandwidth-is-refused : Refused full (ascii "mark,half\n0,65537\n") 9 10
+unfolding move decimal decimal-with
+wide-bandwidth-is-refused =
+    faulty-point (omega arith) [] (omega arith) (move 0 65537) (omega arith) ([], refl) (PointFault.bandwidth (omega arith) (inr (omega arith)))
+
+pub second-point-is-refused : Refused one-each (ascii "mark,half\n0,1\n0,1\n") 6 14
+unfolding move decimal decimal-with
+second-point-is-refused =
+    faulty-point (omega arith) (move 0 1 ∷ []) (omega arith) (move 0 1) (omega arith) ([], refl)
+    (PointFault.too-many (omega arith) (omega arith) (omega arith))
+
+pub no-sample-header-is-refused : Refused full (ascii "mark,half\n0,1\n\n") 2 15
+unfolding move decimal decimal-with
+no-sample-header-is-refused =
+    no-sample-header (omega arith) (move 0 1 ∷ []) (omega arith) (omega arith) [] refl
+    (λ (b : Begins (text-line sample-header []) []). let e = b .1 in let z : _≡_ {A = ℕ} 0 1 = cc in omega arith)
+
+pub unended-sample-is-refused : Refused full (ascii "mark,half\n0,1\n\nminute,inj,vdk\n5,1,9\n5,1,9") 3 36
+unfolding move line decimal decimal-with
+unended-sample-is-refused =
+    malformed-sample (omega arith) (move 0 1 ∷ []) (omega arith) (omega arith) (line 5 1 9 ∷ []) (omega arith) 53 (ascii ",1,9") refl
+    (no-sample-begins (ascii "5,1,9") (ascii "5,1,9") refl)
+
+-- checked against a line that is not kept
+pub early-sample-is-refused : Refused full (ascii "mark,half\n0,1\n\nminute,inj,vdk\n5,1,9\n4,3,9\n") 4 36
+unfolding move line decimal decimal-with
+early-sample-is-refused =
+    faulty-sample (omega arith) (move 0 1 ∷ []) (omega arith) (omega arith) (line 5 1 9 ∷ []) (omega arith) (line 4 3 9) (omega arith)
+    ([], refl) (SampleFault.out-of-order [] (line 5 1 9) refl (omega arith))
+
+-- a line that is not kept does not count
+pub second-kept-sample-is-refused : Refused one-each (ascii "mark,half\n0,1\n\nminute,inj,vdk\n5,2,9\n5,3,9\n5,3,9\n") 6 42
+unfolding move line decimal decimal-with
+second-kept-sample-is-refused =
+    faulty-sample (omega arith) (move 0 1 ∷ []) (omega arith) (omega arith) (line 5 2 9 ∷ line 5 3 9 ∷ []) (omega arith) (line 5 3 9)
+    (omega arith) ([], refl) (SampleFault.too-many (omega arith) (omega arith) (omega arith))

@@ -23,13 +23,13 @@ use Rattle.meanings.proofs.Texts.{lines-of-line, no-lines, first-line}
 use Rattle.meanings.proofs.ValueLines.{point-text, sample-text, point-printed, sample-printed, point-text-one-line, sample-text-one-line, point-line-of-text, sample-line-of-text, point-line-printed, sample-line-printed}
 use Rattle.meanings.proofs.LineOrder.{kept-more, minutes-of, values-of, points-of, bandwidths-of, sample-checks-none, sample-fits, point-checks-none, point-fits}
 
-lines-of-point : (m : Move) (s : List ℕ) → lines (print-point m ++ s) ≡ line (point-text m) (lines s)
+pub lines-of-point : (m : Move) (s : List ℕ) → lines (print-point m ++ s) ≡ line (point-text m) (lines s)
 lines-of-point m s =
     ap (λ (t : List ℕ). lines (t ++ s)) (point-printed m)
     ∙ ap lines (append-assoc (point-text m) (line-feed ∷ []) s)
     ∙ lines-of-line (point-text m) s (point-text-one-line m)
 
-lines-of-sample : (j : Injection) (s : List ℕ) → lines (print-sample j ++ s) ≡ line (sample-text j) (lines s)
+pub lines-of-sample : (j : Injection) (s : List ℕ) → lines (print-sample j ++ s) ≡ line (sample-text j) (lines s)
 lines-of-sample j s =
     ap (λ (t : List ℕ). lines (t ++ s)) (sample-printed j)
     ∙ ap lines (append-assoc (sample-text j) (line-feed ∷ []) s)
