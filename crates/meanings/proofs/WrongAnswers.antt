@@ -50,6 +50,12 @@ pub no-row-written-on-refusal : ¬ (smooth-rows full [] [] (100 ∷ 101 ∷ []) 
 unfolding smooth-rows
 no-row-written-on-refusal e = let n : _≡_ {A = ℕ} 7 65536 = ap (λ (r : List ℕ). getD r 4 0) e in omega arith
 
+-- the value column from the row before
+pub no-value-from-the-row-before : ¬ (smooth-rows full (0 ∷ []) (50 ∷ []) (0 ∷ 100 ∷ []) (10 ∷ 10 ∷ []) (7 ∷ 7 ∷ 7 ∷ 7 ∷ 7 ∷ 7 ∷ 7 ∷ 7 ∷ 7 ∷ 7 ∷ [])
+    ≡ 0 ∷ 1 ∷ 100 ∷ 5000 ∷ 50 ∷ 1 ∷ 1 ∷ 0 ∷ 0 ∷ 50 ∷ [])
+unfolding smooth-rows estimate left-of right-of kernel distance weight-of sum-of value-of rounded
+no-value-from-the-row-before e = let n : _≡_ {A = ℕ} 65536 50 = ap (λ (r : List ℕ). getD r 9 0) e in omega arith
+
 -- report 5 looked at before report 4
 pub five-not-before-four : ¬ (smooth full (5 ∷ 4 ∷ []) (1 ∷ 2 ∷ []) (1 ∷ 0 ∷ []) (1 ∷ 1 ∷ []) (7 ∷ 7 ∷ 7 ∷ 7 ∷ 7 ∷ 7 ∷ 7 ∷ 7 ∷ 7 ∷ 7 ∷ [])
     ≡ refused (record { number = 5; place = 1 }))
