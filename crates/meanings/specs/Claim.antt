@@ -1,5 +1,5 @@
 -- Demand 3 of document 01: the single claim about a whole list of steps over the same readings, with the plain book kept beside it.
--- It has no condition on lengths: where minutes and values are uneven or crowded, call and book refuse every step alike.
+-- It has no condition on lengths: where minutes and values differ in length or are over the limit, call and book refuse every step alike.
 use Prim.Native.Nat.{ℕ, zero, suc, _+_, _-_, _≤_}
 use mathlib.Core.Path.{_≡_}
 use mathlib.Core.List.{List, [], _∷_, _++_}
