@@ -37,7 +37,7 @@ decimal-step n = by (ltb n 10) refl
     by false e = let l = ltb-false n 10 e in rw (enough n (suc (n / 10)) (n / 10) (omega arith) (omega arith))
 
 -- one digit more
-said-append : (m : ℕ) (bs : List ℕ) (b : ℕ) → said m (bs ++ b ∷ []) ≡ said m bs * 10 + (b - zero-digit)
+pub said-append : (m : ℕ) (bs : List ℕ) (b : ℕ) → said m (bs ++ b ∷ []) ≡ said m bs * 10 + (b - zero-digit)
 said-append m [] b = refl
 said-append m (c ∷ bs) b = said-append (m * 10 + (c - zero-digit)) bs b
 

@@ -8,7 +8,6 @@ pub mod Claim
 pub mod Decimal
 pub mod Grids
 pub mod Kernel
-pub mod LineOrder
 pub mod Modulo
 pub mod Moments
 pub mod Numbers
@@ -19,7 +18,6 @@ pub mod Published
 pub mod Rounding
 pub mod Search
 pub mod SheetForms
-pub mod Sheets
 pub mod SmoothLog
 pub mod SmoothRows
 pub mod SmoothSteps

@@ -51,7 +51,7 @@ decimal-induction P one more n = upto (suc n) n (omega arith)
 digit-of : (d : ℕ) → d < 10 → digit (zero-digit + d) ≡ true
 digit-of d l = rw (le-leb zero-digit (zero-digit + d) (omega arith), le-leb (zero-digit + d) nine-digit (omega arith))
 
-digits-more : (t : List ℕ) (b : ℕ) → digits t ≡ true → digit b ≡ true → digits (t ++ b ∷ []) ≡ true
+pub digits-more : (t : List ℕ) (b : ℕ) → digits t ≡ true → digit b ≡ true → digits (t ++ b ∷ []) ≡ true
 digits-more [] b e h = rw h
 digits-more (c ∷ t) b e h =
     let o = and-true-both (digit c) (digits t) e in
@@ -116,7 +116,7 @@ decimal-said m (b ∷ t) p e =
     sym (append-assoc (decimal m) (b ∷ []) t) ∙ rw (← k, one, s)
 
 -- how large a number its digits can say
-said-below : (m : ℕ) (t : List ℕ) → digits t ≡ true → said m t < suc m * 10 ^ length t
+pub said-below : (m : ℕ) (t : List ℕ) → digits t ≡ true → said m t < suc m * 10 ^ length t
 said-below m [] e = omega arith
 said-below m (b ∷ t) e =
     let o = and-true-both (digit b) (digits t) e in

@@ -1,7 +1,7 @@
 -- The second reading of the sheet says of document 01's own sheets what the document says: the whole sheet is the sheet of its readings and
 -- marks, and the sheet of C12 is refused with 10 at byte 16, for an edge that falls. Each way to be refused has a sheet of its own here.
 use Prim.Native.Nat.{ℕ, _<_}
-use mathlib.Core.Path.{_≡_, refl, ap, _∙_, sym}
+use mathlib.Core.Path.{_≡_, refl}
 use mathlib.Core.Logic.{inl, inr}
 use mathlib.Core.List.{List, [], _∷_}
 use native.Mathlib.Omega.{arith}
@@ -10,11 +10,11 @@ use Rattle.meanings.specs.declared.Limits.{Limits}
 use Rattle.meanings.specs.Limits.{full}
 use Rattle.meanings.specs.Bytes.{ascii, sample-header}
 use Rattle.meanings.specs.Moves.{Move}
-use Rattle.meanings.specs.Sheet.{Injection, unended, lines}
-use Rattle.meanings.specs.SheetForm.{IsSheet, Refused, too-long, no-point-header, no-empty-line, malformed-point, faulty-point, no-point, no-sample-header, malformed-sample, faulty-sample, PointFault, SampleFault, edge, Neighbours, Follows, PointForm, SampleForm, Begins, print-point, print-sample, point-head}
+use Rattle.meanings.specs.Sheet.{Injection}
+use Rattle.meanings.specs.SheetForm.{IsSheet, Refused, too-long, no-point-header, no-empty-line, malformed-point, faulty-point, no-point, no-sample-header, malformed-sample, faulty-sample, PointFault, SampleFault, edge, Neighbours, Follows, Begins, point-head}
 use Rattle.meanings.specs.Output.{decimal, decimal-with, text-line}
 use Rattle.meanings.specs.Cases.{contents}
-use Rattle.meanings.proofs.Sheets.{lines-of-point, lines-of-sample}
+use Rattle.meanings.proofs.ValueLines.{no-point-begins, no-sample-begins}
 
 move : ℕ → ℕ → Move
 move z h = record { point = z; bandwidth = h }
@@ -62,15 +62,6 @@ overlong-is-refused s l = too-long l
 
 pub empty-is-refused : Refused full [] 2 0
 empty-is-refused = no-point-header (omega arith) (λ (b : Begins point-head []). let e = b .1 in let z : _≡_ {A = ℕ} 0 1 = cc in omega arith)
-
--- bytes without a line feed do not begin with a printed line
-no-point-begins : (s t : List ℕ) → lines s ≡ unended t → (m : Move) → PointForm m → ¬ Begins (print-point m) s
-no-point-begins s t e m f b =
-    let p = sym e ∙ ap lines (b .1) ∙ lines-of-point m (b .0) in let z : _≡_ {A = ℕ} 0 1 = cc in omega arith
-
-no-sample-begins : (s t : List ℕ) → lines s ≡ unended t → (j : Injection) → SampleForm j → ¬ Begins (print-sample j) s
-no-sample-begins s t e j f b =
-    let p = sym e ∙ ap lines (b .1) ∙ lines-of-sample j (b .0) in let z : _≡_ {A = ℕ} 0 1 = cc in omega arith
 
 pub unended-point-is-refused : Refused full (ascii "mark,half\n0,1\n0,1") 3 14
 unfolding move decimal decimal-with

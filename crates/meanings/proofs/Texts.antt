@@ -21,7 +21,7 @@ pub free-append : (x : ℕ) (s t : List ℕ) → Free x s → Free x t → Free 
 free-append x [] t f g = g
 free-append x (b ∷ s) t f g = (f .0, free-append x s t (f .1) g)
 
-digits-free : (x : ℕ) (t : List ℕ) → x < zero-digit → digits t ≡ true → Free x t
+pub digits-free : (x : ℕ) (t : List ℕ) → x < zero-digit → digits t ≡ true → Free x t
 digits-free x [] l e = tt
 digits-free x (b ∷ t) l e =
     let o = and-true-both (digit b) (digits t) e in

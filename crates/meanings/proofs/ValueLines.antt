@@ -3,7 +3,7 @@
 use Prim.Native.Nat.{ℕ}
 use mathlib.Core.Path.{_≡_, refl, sym, ap, _∙_}
 use mathlib.Core.Bool.{Bool, true, false, _&&_}
-use mathlib.Core.List.{List, [], _∷_, _++_, append-nil}
+use mathlib.Core.List.{List, [], _∷_, _++_, append-assoc, append-nil}
 use mathlib.Core.Option.{Option, none, some}
 use native.Mathlib.Omega.{arith}
 use borrow.Author.Tests.{leb-true, le-leb}
@@ -12,11 +12,11 @@ use Rattle.meanings.specs.Lists.{pick}
 use Rattle.meanings.specs.Limits.{max-u16}
 use Rattle.meanings.specs.Bytes.{line-feed, comma}
 use Rattle.meanings.specs.Moves.{Move}
-use Rattle.meanings.specs.Sheet.{parts, parsed, ranged-point, two-parts, point-line, Injection, ranged-sample, three-parts, sample-line}
-use Rattle.meanings.specs.SheetForm.{print-point, print-sample, PointForm, SampleForm}
+use Rattle.meanings.specs.Sheet.{unended, line, lines, parts, parsed, ranged-point, two-parts, point-line, Injection, ranged-sample, three-parts, sample-line}
+use Rattle.meanings.specs.SheetForm.{print-point, print-sample, PointForm, SampleForm, Begins}
 use Rattle.meanings.specs.Output.{decimal}
 use Rattle.meanings.proofs.Numbers.{and-true-both, decimal-parsed, parsed-decimal}
-use Rattle.meanings.proofs.Texts.{Free, free-append, decimal-free, parts-before-comma, parts-of-one, two-parts-text, three-parts-text}
+use Rattle.meanings.proofs.Texts.{Free, free-append, decimal-free, lines-of-line, parts-before-comma, parts-of-one, two-parts-text, three-parts-text}
 
 -- the lines without their line feeds
 abbrev pub point-text : Move → List ℕ
@@ -159,3 +159,25 @@ point-line-printed t m e = let o = point-line-text t m e in (rw (o .0) (sym (poi
 
 pub sample-line-printed : (t : List ℕ) (j : Injection) → sample-line t ≡ some j → (t ++ line-feed ∷ [] ≡ print-sample j) × SampleForm j
 sample-line-printed t j e = let o = sample-line-text t j e in (rw (o .0) (sym (sample-printed j)), o .1)
+
+-- the lines of bytes that begin with a printed line
+pub lines-of-point : (m : Move) (s : List ℕ) → lines (print-point m ++ s) ≡ line (point-text m) (lines s)
+lines-of-point m s =
+    ap (λ (t : List ℕ). lines (t ++ s)) (point-printed m)
+    ∙ ap lines (append-assoc (point-text m) (line-feed ∷ []) s)
+    ∙ lines-of-line (point-text m) s (point-text-one-line m)
+
+pub lines-of-sample : (j : Injection) (s : List ℕ) → lines (print-sample j ++ s) ≡ line (sample-text j) (lines s)
+lines-of-sample j s =
+    ap (λ (t : List ℕ). lines (t ++ s)) (sample-printed j)
+    ∙ ap lines (append-assoc (sample-text j) (line-feed ∷ []) s)
+    ∙ lines-of-line (sample-text j) s (sample-text-one-line j)
+
+-- bytes without a line feed do not begin with a printed line
+pub no-point-begins : (s t : List ℕ) → lines s ≡ unended t → (m : Move) → PointForm m → ¬ Begins (print-point m) s
+no-point-begins s t e m f b =
+    let p = sym e ∙ ap lines (b .1) ∙ lines-of-point m (b .0) in let z : _≡_ {A = ℕ} 0 1 = cc in omega arith
+
+pub no-sample-begins : (s t : List ℕ) → lines s ≡ unended t → (j : Injection) → SampleForm j → ¬ Begins (print-sample j) s
+no-sample-begins s t e j f b =
+    let p = sym e ∙ ap lines (b .1) ∙ lines-of-sample j (b .0) in let z : _≡_ {A = ℕ} 0 1 = cc in omega arith

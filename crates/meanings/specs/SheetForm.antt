@@ -1,5 +1,6 @@
 -- A second reading of the tank sheet, which parses nothing: a sheet of given lists is what they print to, and a refusal says which lines
--- stand before its place and what is wrong with the line there. It is to be proved to agree with the reader's meaning of specs/Sheet.antt.
+-- stand before its place and what is wrong with the line there. That it agrees with the reader's meaning of specs/Sheet.antt is proved in
+-- crates/sheet_laws.
 use Prim.Native.Nat.{ℕ, _+_, _≤_, _<_}
 use mathlib.Core.Path.{_≡_}
 use mathlib.Core.Logic.{_⊎_}

@@ -9,54 +9,32 @@ use native.Mathlib.Omega.{arith}
 use borrow.Author.Tests.{ltb-false, le-ltb, leb-false, lt-leb, ne-eqb}
 use lib.Dec.{ltb, leb}
 use lib.ListN.{length, length-append, length-map}
 use Rattle.meanings.specs.declared.Limits.{Limits}
 use Rattle.meanings.specs.Lists.{pick}
 use Rattle.meanings.specs.Limits.{max-bandwidth}
 use Rattle.meanings.specs.Moves.{Move}
 use Rattle.meanings.specs.Reports.{first-of, decreases, edge-below, edge-decreases}
 use Rattle.meanings.specs.Sheet.{Injection, kept, add-kept, point-checks, sample-checks}
-use Rattle.meanings.specs.SheetForm.{kept-of, PointForm, SampleForm, Follows, Neighbours, Each, BandwidthRange, FitPoints, MinuteOrder, FitSamples}
+use Rattle.meanings.specs.SheetForm.{kept-of, PointForm, SampleForm, Follows, Neighbours, BandwidthRange, FitPoints, MinuteOrder, FitSamples}
 use Rattle.meanings.proofs.Checks.{none-holds, at-none, or-false, bandwidth-in-range}
+use Rattle.sheet_laws.proofs.Lasts.{last-fails, neighbours-more, last-holds, each-more}
 
--- the test of the last of the list and one more
-abbrev pub last-fails : {A : Type 0} → (A → A → Bool) → List A → A → Bool
-last-fails f [] x = false
-last-fails f (a ∷ []) x = f a x
-last-fails f (a ∷ b ∷ r) x = last-fails f (b ∷ r) x
-
-module _ {A : Type 0} (f : A → A → Bool) (R : A → A → Type 0) where
-  neighbours-more : ((a x : A) → f a x ≡ false → R a x) → (xs : List A) (x : A) → Neighbours R xs → last-fails f xs x ≡ false
-      → Neighbours R (xs ++ x ∷ [])
-  neighbours-more g [] x n e = tt
-  neighbours-more g (a ∷ []) x n e = (g a x e, tt)
-  neighbours-more g (a ∷ b ∷ r) x n e = (n .0, neighbours-more g (b ∷ r) x (n .1) e)
-
-  last-holds : ((a x : A) → R a x → f a x ≡ false) → (xs : List A) (x : A) (ys : List A) → Neighbours R (xs ++ x ∷ ys)
-      → last-fails f xs x ≡ false
-  last-holds g [] x ys n = refl
-  last-holds g (a ∷ []) x ys n = g a x (n .0)
-  last-holds g (a ∷ b ∷ r) x ys n = last-holds g (b ∷ r) x ys (n .1)
-
-pub each-more : {A : Type 0} (P : A → Type 0) (xs : List A) (x : A) → Each P xs → P x → Each P (xs ++ x ∷ [])
-each-more P [] x e p = (p, tt)
-each-more P (a ∷ xs) x e p = (e .0, each-more P xs x (e .1) p)
-
-abbrev minute-falls : Injection → Injection → Bool
+abbrev pub minute-falls : Injection → Injection → Bool
 minute-falls a j = ltb (j .minute) (a .minute)
 
-abbrev point-falls : Move → Move → Bool
+abbrev pub point-falls : Move → Move → Bool
 point-falls a m = ltb (m .point) (a .point)
 
-abbrev edge-falls : Move → Move → Bool
+abbrev pub edge-falls : Move → Move → Bool
 edge-falls a m = edge-below (m .point) (m .bandwidth) (a .point) (a .bandwidth)
 
-decreases-last : {A : Type 0} (g : A → ℕ) (xs : List A) (x : A)
+pub decreases-last : {A : Type 0} (g : A → ℕ) (xs : List A) (x : A)
     → decreases (map g xs ++ g x ∷ []) (length (map g xs)) ≡ last-fails (λ a b. ltb (g b) (g a)) xs x
 decreases-last g [] x = refl
 decreases-last g (a ∷ []) x = refl
 decreases-last g (a ∷ b ∷ r) x = decreases-last g (b ∷ r) x
 
-edge-decreases-last : (ms : List Move) (m : Move)
+pub edge-decreases-last : (ms : List Move) (m : Move)
     → edge-decreases (map (λ (m : Move). m .point) ms ++ m .point ∷ []) (map (λ (m : Move). m .bandwidth) ms ++ m .bandwidth ∷ [])
     (length (map (λ (m : Move). m .point) ms))
     ≡ last-fails edge-falls ms m
@@ -139,16 +117,32 @@ sample-fits L p js j f s e =
         omega (arith, kept-count js (j ∷ []), kept-one j [] e, length-map (kept-of js) (λ (j : Injection). j .minute))
     by false e q = let n : length (kept-of (j ∷ [])) ≡ 0 = rw e in omega (arith, kept-count js (j ∷ []), f .few)
 
-follows : (a m : Move) → a .point ≤ m .point → edge-falls a m ≡ false → Follows a m
-follows a m l e =
-    let o = or-false _ _ e in
-    record { point-order = l; left-edge = ltb-false _ _ (o .0); right-edge = ltb-false _ _ (o .1) }
+follows : (a m : Move) → (point-falls a m || edge-falls a m) ≡ false → Follows a m
+follows a m e =
+    let o = or-false (point-falls a m) (edge-falls a m) e in
+    let w = or-false _ _ (o .1) in
+    record { point-order = ltb-false (m .point) (a .point) (o .0); left-edge = ltb-false _ _ (w .0); right-edge = ltb-false _ _ (w .1) }
 
 both-hold : (ms : List Move) (m : Move) → last-fails point-falls ms m ≡ false → last-fails edge-falls ms m ≡ false
     → last-fails (λ a x. point-falls a x || edge-falls a x) ms m ≡ false
 both-hold [] m e g = refl
 both-hold (a ∷ []) m e g = rw (e, g)
 both-hold (a ∷ b ∷ r) m e g = both-hold (b ∷ r) m e g
+
+-- the lines ms and one more whose mark and edges do not fall
+pub marks-follow : (ms : List Move) (m : Move) → Neighbours Follows ms → last-fails point-falls ms m ≡ false
+    → last-fails edge-falls ms m ≡ false → Neighbours Follows (ms ++ m ∷ [])
+marks-follow ms m n e g = neighbours-more (λ a x. point-falls a x || edge-falls a x) Follows follows ms m n (both-hold ms m e g)
+
+pub no-edge-falls : (ms : List Move) (m : Move) (ns : List Move) → Neighbours Follows (ms ++ m ∷ ns) → last-fails edge-falls ms m ≡ false
+no-edge-falls ms m ns n = last-holds edge-falls Follows edges ms m ns n
+  where
+    edges : (a x : Move) → Follows a x → edge-falls a x ≡ false
+    edges a x l =
+        rw (
+          le-ltb (x .point + a .bandwidth) (a .point + x .bandwidth) (l .left-edge),
+          le-ltb (x .point + x .bandwidth) (a .point + a .bandwidth) (l .right-edge),
+        )
 
 -- a mark line without a fault after the lines ms
 pub point-checks-none : (L : Limits) (p : ℕ) (ms : List Move) (m : Move) (ns : List Move) → Neighbours Follows (ms ++ m ∷ ns) → BandwidthRange m
@@ -159,17 +153,10 @@ point-checks-none L p ms m ns n r few =
           ∙ last-holds point-falls Follows (λ a x l. le-ltb (x .point) (a .point) (l .point-order)) ms m ns n,
       ne-eqb (m .bandwidth) 0 (λ e. omega arith),
       le-ltb max-bandwidth (m .bandwidth) (omega arith),
-      edge-decreases-last ms m ∙ last-holds edge-falls Follows edges ms m ns n,
+      edge-decreases-last ms m ∙ no-edge-falls ms m ns n,
       length-map ms (λ (m : Move). m .point),
       lt-leb (L .points) (length ms) (omega (arith, length-append ms (m ∷ ns))),
     )
-  where
-    edges : (a x : Move) → Follows a x → edge-falls a x ≡ false
-    edges a x l =
-        rw (
-          le-ltb (x .point + a .bandwidth) (a .point + x .bandwidth) (l .left-edge),
-          le-ltb (x .point + x .bandwidth) (a .point + a .bandwidth) (l .right-edge),
-        )
 
 pub point-fits : (L : Limits) (p : ℕ) (ms : List Move) (m : Move) → FitPoints L ms → PointForm m
     → first-of (point-checks L p (points-of ms) (bandwidths-of ms) m) ≡ none → FitPoints L (ms ++ m ∷ [])
@@ -182,9 +169,6 @@ point-fits L p ms m f s e =
     record {
       forms = each-more PointForm ms m (f .forms) s;
       ranges = each-more BandwidthRange ms m (f .ranges) (record { low = r .0; high = r .1 });
-      order = neighbours-more (λ a x. point-falls a x || edge-falls a x) Follows holds ms m (f .order) (both-hold ms m one two);
+      order = marks-follow ms m (f .order) one two;
       few = omega (arith, length-append ms (m ∷ []), length-map ms (λ (m : Move). m .point));
     }
-  where
-    holds : (a x : Move) → (point-falls a x || edge-falls a x) ≡ false → Follows a x
-    holds a x e = let o = or-false (point-falls a x) (edge-falls a x) e in follows a x (ltb-false (x .point) (a .point) (o .0)) (o .1)

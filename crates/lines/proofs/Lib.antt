@@ -1,0 +1,4 @@
+pub mod Fields
+pub mod LineEnds
+pub mod SameTexts
+pub mod Values

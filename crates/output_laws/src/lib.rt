@@ -1,0 +1,1 @@
+// Laws of what the program writes, in proofs/. No code.

@@ -1,0 +1,126 @@
+-- The sheet's parts in order: each stage's contract says what is left of the meaning after it.
+use mathlib.Core.Path.{_∙_}
+use Rattle.sheet.proofs.Scans.{too-long, no-point-header, after-point-header}
+use borrow.Author.Needs.{needs}
+use Rattle.sheet.proofs.scan.Statement.{statement}
+use Rattle.sheet.proofs.scan.Tie as tie
+
+returns : tie.Need-returns
+returns c = (too-long (c .before .before .before .before .before .before .args .sheet .now) (c .if1 .taken), tt)
+
+slice-aggregate-skip-header : tie.Need-slice-aggregate-skip-header
+slice-aggregate-skip-header c = search needs
+
+skip-header-requires : tie.Need-skip-header-requires
+skip-header-requires c κs = search needs
+
+enum-known-first : tie.Need-enum-known-first
+enum-known-first c = search needs
+
+enum-told : tie.Need-enum-told
+enum-told c = search needs
+
+returns-2 : tie.Need-returns-2
+returns-2 c = (no-point-header (c .before .before .before .before .before .before .before .before .before .before .args .sheet .now) (c .before .before .before .before .if1 .left) _ (c .before .before .skip-header .ensures) (c .enum-told .given .1), tt)
+
+read-points-requires : tie.Need-read-points-requires
+read-points-requires c κs = search needs
+
+enum-known-refusal : tie.Need-enum-known-refusal
+enum-known-refusal c = search needs
+
+enum-known-count : tie.Need-enum-known-count
+enum-known-count c = search needs
+
+read-from-header-requires : tie.Need-read-from-header-requires
+read-from-header-requires c κs = (c .before .before .before .before .before .before .before .before .before .before .before .before .before .before .before .before .before .before .before .before .before .before .before .pre .0, c .before .before .before .before .before .before .before .before .before .before .before .before .before .before .before .before .before .before .before .before .before .before .before .pre .1, (rw (c .before .before .before .count .given .1) at (c .before .before .before .before .before .before .before .before .before .read-points .ensures .1)) .1)
+
+enum-known-refusal-2 : tie.Need-enum-known-refusal-2
+enum-known-refusal-2 c = search needs
+
+enum-known-kept : tie.Need-enum-known-kept
+enum-known-kept c = search needs
+
+same-length : tie.Need-same-length
+same-length c = search needs
+
+same-length-2 : tie.Need-same-length-2
+same-length-2 c = search needs
+
+returns-3 : tie.Need-returns-3
+returns-3 c = (
+  after-point-header (c .before .before .before .before .before .before .before .before .before .before .before .before .before .before .before .before .before .before .before .before .before .args .sheet .now) (c .before .before .before .before .before .before .before .before .before .before .before .before .before .before .before .if1 .left) _ (c .before .before .before .before .before .before .before .before .before .before .before .before .before .skip-header .ensures) _ (c .before .before .before .before .before .before .before .before .before .before .before .first .given .1)
+      ∙ c .before .before .before .before .before .before .before .read-points .ensures .0
+      ∙ rw (c .before .refusal .given .1),
+  tt,
+)
+
+same-length-3 : tie.Need-same-length-3
+same-length-3 c = search needs
+
+same-length-4 : tie.Need-same-length-4
+same-length-4 c = search needs
+
+same-length-5 : tie.Need-same-length-5
+same-length-5 c = search needs
+
+same-length-6 : tie.Need-same-length-6
+same-length-6 c = search needs
+
+returns-4 : tie.Need-returns-4
+returns-4 c = (
+  after-point-header (c .before .before .before .before .before .before .before .before .before .before .before .before .before .before .before .before .before .before .before .before .before .before .before .before .before .before .before .before .before .before .before .args .sheet .now) (c .before .before .before .before .before .before .before .before .before .before .before .before .before .before .before .before .before .before .before .before .before .before .before .before .before .if1 .left) _ (c .before .before .before .before .before .before .before .before .before .before .before .before .before .before .before .before .before .before .before .before .before .before .before .skip-header .ensures) _ (c .before .before .before .before .before .before .before .before .before .before .before .before .before .before .before .before .before .before .before .before .before .first .given .1)
+      ∙ c .before .before .before .before .before .before .before .before .before .before .before .before .before .before .before .before .before .read-points .ensures .0
+      ∙ rw (c .before .before .before .before .before .before .before .before .before .before .before .count .given .1) (c .before .before .before .before .before .before .before .read-from-header .ensures .0 _ _ ∙ rw (c .before .refusal2 .given .1)),
+  tt,
+)
+
+same-length-7 : tie.Need-same-length-7
+same-length-7 c = search needs
+
+same-length-8 : tie.Need-same-length-8
+same-length-8 c = search needs
+
+same-length-9 : tie.Need-same-length-9
+same-length-9 c = search needs
+
+same-length-10 : tie.Need-same-length-10
+same-length-10 c = search needs
+
+returns-5 : tie.Need-returns-5
+returns-5 c = (
+  after-point-header (c .before .before .before .before .before .before .before .before .before .before .before .before .before .before .before .before .before .before .before .before .before .before .before .before .before .before .before .before .before .before .before .args .sheet .now) (c .before .before .before .before .before .before .before .before .before .before .before .before .before .before .before .before .before .before .before .before .before .before .before .before .before .if1 .left) _ (c .before .before .before .before .before .before .before .before .before .before .before .before .before .before .before .before .before .before .before .before .before .before .before .skip-header .ensures) _ (c .before .before .before .before .before .before .before .before .before .before .before .before .before .before .before .before .before .before .before .before .before .first .given .1)
+      ∙ c .before .before .before .before .before .before .before .before .before .before .before .before .before .before .before .before .before .read-points .ensures .0
+      ∙ rw (c .before .before .before .before .before .before .before .before .before .before .before .count .given .1) (c .before .before .before .before .before .before .before .read-from-header .ensures .0 _ _ ∙ rw (c .before .kept .given .1)),
+  (rw (c .before .kept .given .1) at (c .before .before .before .before .before .before .before .read-from-header .ensures .1), (rw (c .before .before .before .before .before .before .before .before .before .before .before .count .given .1) at (c .before .before .before .before .before .before .before .before .before .before .before .before .before .before .before .before .before .read-points .ensures .1)) .0),
+)
+
+pub scan-spec : {M : Type 1} → statement M
+scan-spec =
+    tie.close
+    (tie.spec
+    returns
+    slice-aggregate-skip-header
+    skip-header-requires
+    enum-known-first
+    enum-told
+    returns-2
+    read-points-requires
+    enum-known-refusal
+    enum-known-count
+    read-from-header-requires
+    enum-known-refusal-2
+    enum-known-kept
+    same-length
+    same-length-2
+    returns-3
+    same-length-3
+    same-length-4
+    same-length-5
+    same-length-6
+    returns-4
+    same-length-7
+    same-length-8
+    same-length-9
+    same-length-10
+    returns-5)

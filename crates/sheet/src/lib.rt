@@ -1,0 +1,158 @@
+// The reader of the tank sheet: from any bytes to the kept readings and the marks, or the report.
+pub(crate) mod points;
+pub(crate) mod samples;
+
+use crate::points::PointsRead;
+use crate::samples::SamplesRead;
+use lines::Line;
+use meanings::Found;
+use meanings::Reading;
+use meanings::Refusal;
+use meanings::Report;
+ghost use mathlib.Core.Path.{_≡_};
+ghost use Prim.Native.Nat.{ℕ, _+_, _≤_};
+ghost use mathlib.Core.List.{List, _++_};
+ghost use lib.ListN.{length, take, drop};
+ghost use Rattle.meanings.specs.Limits.{full};
+ghost use Rattle.meanings.specs.Sheet.{Lines, Outcome, lines, header, read-sheet};
+ghost use Rattle.meanings.specs.Calls.{told-reading, counts, read, read-minutes, read-values, read-evaluation-points, read-bandwidths};
+ghost use Rattle.sheet.specs.Stages.{after-header, uneven-lists, scanned, used-within};
+
+// Passes the names line at byte `from`, if it is that.
+pub(crate) fn skip_header(sheet: &[u8], from: usize, names: &[u8]) -> Found
+    requires { ⌜ from ≤ length (now sheet) ⌝ }
+    ensures { λ r. ⌜ ((next : ℕ → Lines → Outcome) → header (now (names .entry)) from (lines (drop from (now (sheet .entry)))) next ≡ after-header r (now (sheet .entry)) from next) ⌝ }
+{
+    let Line::Ended { end, next } = lines::find_line(sheet, from) else {
+        return Found::Nothing;
+    };
+    if lines::same_text(&sheet[from..end], names) {
+        return Found::At(next);
+    }
+    Found::Nothing
+}
+
+// Reads the sheet into lists of full length. What they hold after a refusal is left open: they are the reader's own.
+pub(crate) fn scan(
+    sheet: &[u8],
+    minutes: &mut [u16],
+    values: &mut [u16],
+    points: &mut [u16],
+    bandwidths: &mut [u32],
+) -> Reading
+    requires { ⌜ (length (now minutes) ≡ 1024) × (length (now values) ≡ 1024) × (length (now points) ≡ 512) × (length (now bandwidths) ≡ 512) ⌝ }
+    ensures { λ r. ⌜ read-sheet full (now (sheet .entry)) ≡ scanned r (now (minutes .exit)) (now (values .exit)) (now (points .exit)) (now (bandwidths .exit)) ⌝ }
+    ensures { λ r. ⌜ used-within r ⌝ }
+{
+    if 32768 < sheet.len() {
+        return Reading::Unread(Refusal {
+            report: Report::TooLong,
+            place: 32768,
+        });
+    }
+    let Found::At(first) = skip_header(sheet, 0, b"mark,half") else {
+        return Reading::Unread(Refusal {
+            report: Report::BadHeader,
+            place: 0,
+        });
+    };
+    match crate::points::read_points(sheet, first, points, bandwidths) {
+        PointsRead::Unfit(refusal) => Reading::Unread(refusal),
+        PointsRead::Points { count, next } => match crate::samples::read_from_header(
+            sheet,
+            next,
+            minutes,
+            values,
+        ) {
+            SamplesRead::Unfit(refusal) => Reading::Unread(refusal),
+            SamplesRead::Kept(kept) => Reading::Used {
+                samples: kept,
+                points: count,
+            },
+        },
+    }
+}
+
+// Stores the first n elements of one list at the front of another.
+pub(crate) fn put_front_u16(xs: &[u16], n: usize, out: &mut [u16])
+    requires { ⌜ (n ≤ length (now xs)) × (n ≤ length (now out)) ⌝ }
+    ensures { λ _. ⌜ now (out .exit) ≡ take n (now (xs .entry)) ++ drop n (now (out .entry)) ⌝ }
+{
+    let mut i = 0;
+    while i < n {
+        out[i] = xs[i];
+        i += 1;
+    }
+}
+
+pub(crate) fn put_front_u32(xs: &[u32], n: usize, out: &mut [u32])
+    requires { ⌜ (n ≤ length (now xs)) × (n ≤ length (now out)) ⌝ }
+    ensures { λ _. ⌜ now (out .exit) ≡ take n (now (xs .entry)) ++ drop n (now (out .entry)) ⌝ }
+{
+    let mut i = 0;
+    while i < n {
+        out[i] = xs[i];
+        i += 1;
+    }
+}
+
+// Whether the reader's lists are of another length than 1,024, 1,024, 512, 512.
+pub fn uneven_lists(minutes: usize, values: usize, points: usize, bandwidths: usize) -> bool
+    ensures { λ r. ⌜ r ≡ uneven-lists full minutes values points bandwidths ⌝ }
+{
+    if minutes != 1024 {
+        return true;
+    }
+    if values != 1024 {
+        return true;
+    }
+    if points != 512 {
+        return true;
+    }
+    if bandwidths != 512 {
+        return true;
+    }
+    false
+}
+
+// The reader. The sheet is read into lists of its own, so that a refusal leaves the lent ones as they were.
+pub fn read_sheet(
+    sheet: &[u8],
+    minutes: &mut [u16],
+    values: &mut [u16],
+    points: &mut [u16],
+    bandwidths: &mut [u32],
+) -> Reading
+    ensures { λ r. ⌜ told-reading r ≡ counts (read full (now (sheet .entry)) (now (minutes .entry)) (now (values .entry)) (now (points .entry)) (now (bandwidths .entry))) ⌝ }
+    ensures { λ _. ⌜ now (minutes .exit) ≡ read-minutes (read full (now (sheet .entry)) (now (minutes .entry)) (now (values .entry)) (now (points .entry)) (now (bandwidths .entry))) (now (minutes .entry)) ⌝ }
+    ensures { λ _. ⌜ now (values .exit) ≡ read-values (read full (now (sheet .entry)) (now (minutes .entry)) (now (values .entry)) (now (points .entry)) (now (bandwidths .entry))) (now (values .entry)) ⌝ }
+    ensures { λ _. ⌜ now (points .exit) ≡ read-evaluation-points (read full (now (sheet .entry)) (now (minutes .entry)) (now (values .entry)) (now (points .entry)) (now (bandwidths .entry))) (now (points .entry)) ⌝ }
+    ensures { λ _. ⌜ now (bandwidths .exit) ≡ read-bandwidths (read full (now (sheet .entry)) (now (minutes .entry)) (now (values .entry)) (now (points .entry)) (now (bandwidths .entry))) (now (bandwidths .entry)) ⌝ }
+{
+    if uneven_lists(minutes.len(), values.len(), points.len(), bandwidths.len()) {
+        return Reading::Unread(Refusal {
+            report: Report::LengthMismatch,
+            place: 0,
+        });
+    }
+    let mut ts = [0u16; 1024];
+    let mut vs = [0u16; 1024];
+    let mut zs = [0u16; 512];
+    let mut hs = [0u32; 512];
+    match scan(sheet, &mut ts, &mut vs, &mut zs, &mut hs) {
+        Reading::Unread(refusal) => Reading::Unread(refusal),
+        Reading::Used {
+            samples: n,
+            points: m,
+        } => {
+            put_front_u16(&ts, n, minutes);
+            put_front_u16(&vs, n, values);
+            put_front_u16(&zs, m, points);
+            put_front_u32(&hs, m, bandwidths);
+            Reading::Used {
+                samples: n,
+                points: m,
+            }
+        }
+    }
+}

@@ -1,0 +1,128 @@
+// The reading lines of the sheet.
+use crate::skip_header;
+use lines::Line;
+use lines::SampleLine;
+use meanings::Found;
+use meanings::Refusal;
+use meanings::Report;
+ghost use mathlib.Core.Path.{_≡_};
+ghost use Prim.Native.Nat.{ℕ, _+_, _≤_};
+ghost use mathlib.Core.List.{List, [], _∷_};
+ghost use lib.ListN.{length, take, drop};
+ghost use Rattle.meanings.specs.Limits.{full};
+ghost use Rattle.meanings.specs.Bytes.{sample-header};
+ghost use Rattle.meanings.specs.Sheet.{Outcome, Lines, lines, sample-line, with-sample, header, read-samples};
+ghost use Rattle.sheet.specs.Stages.{sample-stored, stored-within, samples-read, samples-within};
+
+// What a reading line gives: how many readings are kept with it, and its minute, or the report.
+pub(crate) enum SampleStored {
+    Stored { count: usize, minute: u16 },
+    Refused(Refusal),
+}
+
+// What the reading lines give: how many are kept, or the report.
+pub(crate) enum SamplesRead {
+    Kept(usize),
+    Unfit(Refusal),
+}
+
+// Stores the reading of a line's text behind the first `count` if it is kept, or says what the line earns: 3, 4, 6. `last` is the minute of
+// the line before, 0 at the first.
+pub(crate) fn store_sample(
+    text: &[u8],
+    place: usize,
+    minutes: &mut [u16],
+    values: &mut [u16],
+    count: usize,
+    last: u16,
+) -> SampleStored
+    requires { ⌜ (length (now minutes) ≡ 1024) × (length (now values) ≡ 1024) × (count ≤ 1024) ⌝ }
+    ensures { λ r. ⌜ ((next : List ℕ → List ℕ → List ℕ → Outcome) → with-sample full place (last ∷ []) (take count (now (minutes .entry))) (take count (now (values .entry))) (sample-line (now (text .entry))) next ≡ sample-stored r last (now (minutes .exit)) (now (values .exit)) next) ⌝ }
+    ensures { λ r. ⌜ stored-within r ⌝ }
+{
+    let SampleLine::Sample {
+        minute,
+        injection,
+        value,
+    } = lines::sample_line(text)
+    else {
+        return SampleStored::Refused(Refusal {
+            report: Report::MalformedLine,
+            place,
+        });
+    };
+    if minute < last {
+        return SampleStored::Refused(Refusal {
+            report: Report::SampleOutOfOrder,
+            place,
+        });
+    }
+    if injection <= 2 {
+        return SampleStored::Stored { count, minute };
+    }
+    if 1024 <= count {
+        return SampleStored::Refused(Refusal {
+            report: Report::TooMany,
+            place,
+        });
+    }
+    minutes[count] = minute;
+    values[count] = value;
+    SampleStored::Stored {
+        count: count + 1,
+        minute,
+    }
+}
+
+// The reading lines from byte `from` on, to the sheet's end.
+pub(crate) fn read_samples(
+    sheet: &[u8],
+    from: usize,
+    minutes: &mut [u16],
+    values: &mut [u16],
+) -> SamplesRead
+    requires { ⌜ (length (now minutes) ≡ 1024) × (length (now values) ≡ 1024) ⌝ }
+    ensures { λ r. ⌜ ((zs hs : List ℕ) → read-samples full zs hs from [] [] [] (lines (drop from (now (sheet .entry)))) ≡ samples-read r zs hs (now (minutes .exit)) (now (values .exit))) ⌝ }
+    ensures { λ r. ⌜ samples-within r ⌝ }
+{
+    let mut at = from;
+    let mut count = 0;
+    let mut last = 0u16;
+    while at < sheet.len() {
+        let Line::Ended { end, next } = lines::find_line(sheet, at) else {
+            return SamplesRead::Unfit(Refusal {
+                report: Report::MalformedLine,
+                place: at,
+            });
+        };
+        match store_sample(&sheet[at..end], at, minutes, values, count, last) {
+            SampleStored::Refused(refusal) => return SamplesRead::Unfit(refusal),
+            SampleStored::Stored { count: n, minute } => {
+                count = n;
+                last = minute;
+                at = next;
+            }
+        }
+    }
+    SamplesRead::Kept(count)
+}
+
+// The second names line at byte `from`, and the reading lines after it.
+pub(crate) fn read_from_header(
+    sheet: &[u8],
+    from: usize,
+    minutes: &mut [u16],
+    values: &mut [u16],
+) -> SamplesRead
+    requires { ⌜ (length (now minutes) ≡ 1024) × (length (now values) ≡ 1024) × (from ≤ length (now sheet)) ⌝ }
+    ensures { λ r. ⌜ ((zs hs : List ℕ) → header sample-header from (lines (drop from (now (sheet .entry)))) (λ p rest. read-samples full zs hs p [] [] [] rest) ≡ samples-read r zs hs (now (minutes .exit)) (now (values .exit))) ⌝ }
+    ensures { λ r. ⌜ samples-within r ⌝ }
+{
+    match skip_header(sheet, from, b"minute,inj,vdk") {
+        Found::At(first) => read_samples(sheet, first, minutes, values),
+        Found::Nothing => SamplesRead::Unfit(Refusal {
+            report: Report::BadHeader,
+            place: from,
+        }),
+    }
+}

@@ -1,0 +1,12 @@
+pub mod Decided
+pub mod Headers
+pub mod Lasts
+pub mod LineOrder
+pub mod Outcomes
+pub mod Passed
+pub mod PointFaults
+pub mod PointLines
+pub mod Printed
+pub mod SampleFaults
+pub mod SampleLines
+pub mod WrongReaders

@@ -1,0 +1,1 @@
+// Laws of the sheet's meaning, in proofs/. No code.

@@ -1,0 +1,51 @@
+-- The loop passes each element once.
+use Prim.Native.Nat.{_-_, _≤_}
+use lib.ListN.{length}
+use borrow.Author.Needs.{needs}
+use Rattle.sheet_rows.proofs.changed_u16.Statement.{statement}
+use Rattle.sheet_rows.proofs.changed_u16.Tie as tie
+
+abbrev Inv-loop : tie.InvT-loop
+Inv-loop xs i₀ n₀ i n = i ≤ length xs
+
+abbrev μ-loop : tie.MeasureT-loop
+μ-loop xs i₀ n₀ i n = length xs - i
+
+loop-holds : tie.Need-loop-holds Inv-loop μ-loop
+loop-holds c = search needs
+
+mul-if1 : tie.Need-mul-if1 Inv-loop μ-loop
+mul-if1 c = search needs
+
+shared-slice-read-if1 : tie.Need-shared-slice-read-if1 Inv-loop μ-loop
+shared-slice-read-if1 c = search needs
+
+wrapping-add-u64-requires : tie.Need-wrapping-add-u64-requires Inv-loop μ-loop
+wrapping-add-u64-requires c κs = search needs
+
+add-i : tie.Need-add-i Inv-loop μ-loop
+add-i c = search needs
+
+loop-less : tie.Need-loop-less Inv-loop μ-loop
+loop-less c = search needs
+
+loop-again : tie.Need-loop-again Inv-loop μ-loop
+loop-again c = search needs
+
+returns : tie.Need-returns Inv-loop μ-loop
+returns c = search needs
+
+pub changed-u16-spec : {M : Type 1} → statement M
+changed-u16-spec =
+    tie.close
+    (tie.spec
+    Inv-loop
+    μ-loop
+    loop-holds
+    mul-if1
+    shared-slice-read-if1
+    wrapping-add-u64-requires
+    add-i
+    loop-less
+    loop-again
+    returns)
