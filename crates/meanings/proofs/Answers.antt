@@ -15,11 +15,12 @@ use Rattle.meanings.specs.declared.Advance.the-variants.{Moved, Stayed}
 use Rattle.meanings.specs.declared.Smoothing.the-variants.{Passes, Unswept}
 use Rattle.meanings.specs.declared.Filling.the-variants.{Filled, Unfilled}
 use Rattle.meanings.specs.declared.Reading.the-variants.{Used, Unread}
-use Rattle.meanings.specs.Reports.{number, told-verdict, told-found, given, refused}
+use Rattle.meanings.specs.declared.Writing.the-variants.{Written, Unwritten}
+use Rattle.meanings.specs.Reports.{number, told-verdict, told-found, given, refused, first-of, write-checks}
 use Rattle.meanings.specs.EventLog.{insertion-count, eviction-count}
 use Rattle.meanings.specs.Output.{program, outcome-text}
 use Rattle.meanings.specs.Sheet.{read-sheet}
-use Rattle.meanings.specs.Calls.{told-evaluation, told-advance, told-smoothing, told-filling, told-reading}
+use Rattle.meanings.specs.Calls.{told-evaluation, told-advance, told-smoothing, told-filling, told-reading, told-writing}
 
 -- overlong, heading, torn line, early reading, early mark, crowded, no marks, uneven, half width, edge back, foreign record, knob, past the clock
 pub reports-are-numbered :
@@ -52,7 +53,8 @@ pub refusals-are-told :
     × (told-smoothing (Unswept too-many) ≡ refused (record { number = 6; place = 7 }))
     × (told-filling (Unfilled too-many) ≡ refused (record { number = 6; place = 7 }))
     × (told-reading (Unread too-many) ≡ refused (record { number = 6; place = 7 }))
-refusals-are-told = (refl, refl, refl, refl, refl, refl)
+    × (told-writing (Unwritten too-many) ≡ refused (record { number = 6; place = 7 }))
+refusals-are-told = (refl, refl, refl, refl, refl, refl, refl)
 
 -- and what each gives
 pub values-are-told : (e : Estimate) (r : RunningSums) (n m : ℕ)
@@ -64,7 +66,8 @@ pub values-are-told : (e : Estimate) (r : RunningSums) (n m : ℕ)
     × (told-smoothing (Passes n) ≡ given n)
     × (told-filling Filled ≡ given tt)
     × (told-reading (Used n m) ≡ given (record { samples = n; points = m }))
-values-are-told e r n m = (refl, refl, refl, refl, refl, refl, refl, refl)
+    × (told-writing (Written n) ≡ given n)
+values-are-told e r n m = (refl, refl, refl, refl, refl, refl, refl, refl, refl)
 
 -- the book's takings and lettings are the lengths of its two lists
 pub log-is-counted : (insertion-count (record { inserted = 0 ∷ 1 ∷ []; evicted = 0 ∷ [] }) ≡ 2)
@@ -75,3 +78,9 @@ log-is-counted = (refl, refl)
 pub program-limits : (s : List ℕ) → program s ≡ outcome-text (read-sheet (record { samples = 1024; points = 512 }) s)
 unfolding program
 program-limits s = refl
+
+-- a buffer of another length than 31,291 is refused
+pub buffer-lengths : (first-of (write-checks 31290) ≡ some (record { number = 8; place = 0 }))
+    × (first-of (write-checks 31291) ≡ none)
+    × (first-of (write-checks 31292) ≡ some (record { number = 8; place = 0 }))
+buffer-lengths = (refl, refl, refl)

@@ -16,13 +16,16 @@ use Rattle.meanings.specs.declared.Filling.{Filling}
 use Rattle.meanings.specs.declared.Filling.the-variants.{Filled, Unfilled}
 use Rattle.meanings.specs.declared.Reading.{Reading}
 use Rattle.meanings.specs.declared.Reading.the-variants.{Used, Unread}
+use Rattle.meanings.specs.declared.Writing.{Writing}
+use Rattle.meanings.specs.declared.Writing.the-variants.{Written, Unwritten}
 use Rattle.meanings.specs.declared.Limits.{Limits}
 use Rattle.meanings.specs.Moves.{moves}
-use Rattle.meanings.specs.Reports.{Fault, Answer, given, refused, unless, accepted-or, told, first-of, evaluate-checks, smooth-checks, fill-checks, read-checks}
+use Rattle.meanings.specs.Reports.{Fault, Answer, given, refused, unless, accepted-or, told, first-of, evaluate-checks, smooth-checks, fill-checks, read-checks, write-checks}
 use Rattle.meanings.specs.Estimate.{estimate, left-of, run-of, rows}
 use Rattle.meanings.specs.Running.{fresh, passes}
 use Rattle.meanings.specs.Grid.{presets, grid}
 use Rattle.meanings.specs.Sheet.{Contents, Outcome, or-next, read-sheet}
+use Rattle.meanings.specs.Output.{program}
 
 -- the question at one mark, first call: the row or the report
 abbrev pub told-evaluation : Evaluation → Answer Estimate
@@ -117,3 +120,19 @@ read-evaluation-points o zs = filled-front o (λ c. c .points) zs
 
 abbrev pub read-bandwidths : Outcome → List ℕ → List ℕ
 read-bandwidths o hs = filled-front o (λ c. c .bandwidths) hs
+
+-- the program as bytes to bytes: how many bytes it has written into the lent buffer, or the report of a buffer of another length. The text of
+-- a refused sheet is what it writes
+abbrev pub told-writing : Writing → Answer ℕ
+told-writing (Written n) = given n
+told-writing (Unwritten r) = refused (told r)
+
+abbrev pub write-refusal : List ℕ → Option Fault
+write-refusal out = first-of (write-checks (length out))
+
+unfoldable pub write : List ℕ → List ℕ → Answer ℕ
+write s out = unless (write-refusal out) (length (program s))
+
+-- and the buffer at exit: the text in front of its untouched rest
+unfoldable pub write-buffer : List ℕ → List ℕ → List ℕ
+write-buffer s out = accepted-or (write-refusal out) (program s ++ drop (length (program s)) out) out

@@ -17,3 +17,7 @@ full = record { samples = 1024; points = 512 }
 -- the greatest length of a sheet, in bytes
 abbrev pub max-sheet : ℕ
 max-sheet = 32768
+
+-- the length of the buffer that the program writes into: no output is longer, by the law program-fits of crates/output_laws
+abbrev pub max-output : ℕ
+max-output = 31291

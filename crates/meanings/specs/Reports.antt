@@ -15,7 +15,7 @@ use Rattle.meanings.specs.declared.Found.{Found}
 use Rattle.meanings.specs.declared.Found.the-variants.{At, Nothing}
 use Rattle.meanings.specs.Lists.{pick, lowest}
 use Rattle.meanings.specs.declared.Limits.{Limits}
-use Rattle.meanings.specs.Limits.{max-u16, max-bandwidth}
+use Rattle.meanings.specs.Limits.{max-u16, max-bandwidth, max-output}
 
 -- the report's number in document 01
 abbrev pub number : Report → ℕ
@@ -191,3 +191,7 @@ read-checks L minutes values points bandwidths =
     (at 0
     (differ minutes (L .samples) || differ values (L .samples) || differ points (L .points) || differ bandwidths (L .points)))
     ∷ []
+
+-- the program as bytes to bytes, with a buffer of so many bytes: 8
+abbrev pub write-checks : ℕ → List Check
+write-checks size = report 8 (at 0 (differ size max-output)) ∷ []

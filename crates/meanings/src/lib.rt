@@ -97,3 +97,9 @@ pub enum Reading {
     Used { samples: usize, points: usize },
     Unread(Refusal),
 }
+
+// What the program as bytes to bytes gives: how many bytes it has written into the lent buffer, or the report.
+pub enum Writing {
+    Written(usize),
+    Unwritten(Refusal),
+}

@@ -3,6 +3,7 @@
 // What it writes is held to the file stdout, which was made from document 01 in another language.
 use meanings::Reading;
 use meanings::Refusal;
+use meanings::Writing;
 
 const OUT: i32 = 1;
 
@@ -87,6 +88,28 @@ fn changed_u32(xs: &[u32]) -> u64 {
     n
 }
 
+// What the program writes for the sheet.
+fn show_curve(sheet: &[u8]) {
+    let mut out = [7u8; 31291];
+    match text::curve_text(sheet, &mut out) {
+        Writing::Written(n) => {
+            if n <= out.len() {
+                io::write_all(OUT, &out[..n]);
+            }
+        }
+        Writing::Unwritten(r) => show_report(r),
+    }
+}
+
+// A buffer of another length is refused.
+fn short_buffer() {
+    let mut out = [7u8; 31290];
+    match text::curve_text(b"", &mut out) {
+        Writing::Written(n) => last_number(n as u64),
+        Writing::Unwritten(r) => show_report(r),
+    }
+}
+
 fn show(sheet: &[u8]) {
     let mut minutes = [7u16; 1024];
     let mut values = [7u16; 1024];
@@ -117,6 +140,7 @@ fn show(sheet: &[u8]) {
     number(changed_u16(&values));
     number(changed_u16(&points));
     last_number(changed_u32(&bandwidths));
+    show_curve(sheet);
 }
 
 // Stores a byte if there is room.
@@ -153,13 +177,12 @@ fn show_first(sheet: &[u8], length: usize) {
     }
 }
 
-// A sheet with so many lines `3,2` of marks and so many equal reading lines of six bytes each with its line feed, and more.
-fn many(marks: u16, readings: u16, reading: &[u8], more: &[u8]) {
+// A sheet with so many equal mark lines and so many equal reading lines, and more: the empty line is at byte `lines`, and the reading lines
+// end at byte `end`.
+fn many(mark: &[u8], marks: u16, lines: u16, reading: &[u8], readings: u16, end: u16, more: &[u8]) {
     let mut sheet = [10u8; 32769];
-    let lines = 10 + 4 * marks as u32;
-    let end = lines + 16 + 6 * readings as u32;
     put(&mut sheet, 0, b"mark,half\n");
-    put_times(&mut sheet, 10, b"3,2\n", marks);
+    put_times(&mut sheet, 10, mark, marks);
     put(&mut sheet, lines as usize, b"\nminute,inj,vdk\n");
     put_times(&mut sheet, lines as usize + 16, reading, readings);
     put(&mut sheet, end as usize, more);
@@ -229,12 +252,29 @@ fn sample_lines() {
 }
 
 fn crowded() {
-    many(512, 1024, b"9,3,4\n", b"");
-    many(513, 1, b"9,3,4\n", b"");
-    many(512, 1024, b"9,3,4\n", b"10,3,4\n");
-    many(512, 1024, b"9,3,4\n", b"10,2,4\n9,3,1\n");
-    many(512, 1025, b"9,2,4\n", b"10,3,4\n");
-    many(512, 1024, b"9,3,4\n", b"8,3,4\n");
+    many(b"3,2\n", 512, 2058, b"9,3,4\n", 1024, 8218, b"");
+    many(b"3,2\n", 513, 2062, b"9,3,4\n", 1, 2084, b"");
+    many(b"3,2\n", 512, 2058, b"9,3,4\n", 1024, 8218, b"10,3,4\n");
+    many(
+        b"3,2\n",
+        512,
+        2058,
+        b"9,3,4\n",
+        1024,
+        8218,
+        b"10,2,4\n9,3,1\n",
+    );
+    many(b"3,2\n", 512, 2058, b"9,2,4\n", 1025, 8224, b"10,3,4\n");
+    many(b"3,2\n", 512, 2058, b"9,3,4\n", 1024, 8218, b"8,3,4\n");
+    many(
+        b"65535,65536\n",
+        512,
+        6154,
+        b"65535,3,65535\n",
+        1024,
+        20506,
+        b"",
+    );
 }
 
 fn main() {
@@ -245,4 +285,5 @@ fn main() {
     sample_lines();
     crowded();
     overlong();
+    short_buffer();
 }

@@ -1,0 +1,60 @@
+-- What has been read is within the buffer.
+use Prim.Native.Nat.{_≤_}
+use mathlib.Core.Path.{sym}
+use lib.ListN.{length}
+use lib.Seq.{length-take-le}
+use borrow.Author.Needs.{needs}
+use Rattle.tankcurve.proofs.main.Statement.{statement}
+use Rattle.tankcurve.proofs.main.Tie as tie
+
+slice-aggregate-read-input : tie.Need-slice-aggregate-read-input
+slice-aggregate-read-input c = search needs
+
+read-input-requires : tie.Need-read-input-requires
+read-input-requires c κs = search needs
+
+enum-known-n : tie.Need-enum-known-n
+enum-known-n c = search needs
+
+within : (c : tie.After-n) → c .n .given .0 .0 ≤ length (c .before .before .before .read-input .last .0)
+within c = rw (c .n .given .1) at (c .before .before .before .read-input .ensures)
+
+array-share-prefix-sheet : tie.Need-array-share-prefix-sheet
+array-share-prefix-sheet c = within (c .before)
+
+slice-aggregate-answer : tie.Need-slice-aggregate-answer
+slice-aggregate-answer c = sym (length-take-le _ _ (within (c .before .before)))
+
+answer-requires : tie.Need-answer-requires
+answer-requires c κs = search needs
+
+enum-told : tie.Need-enum-told
+enum-told c = search needs
+
+slice-aggregate-write-all : tie.Need-slice-aggregate-write-all
+slice-aggregate-write-all c = search needs
+
+write-all-requires : tie.Need-write-all-requires
+write-all-requires c κs = search needs
+
+returns : tie.Need-returns
+returns c = search needs
+
+returns-2 : tie.Need-returns-2
+returns-2 c = search needs
+
+pub main-spec : {M : Type 1} → statement M
+main-spec =
+    tie.close
+    (tie.spec
+    slice-aggregate-read-input
+    read-input-requires
+    enum-known-n
+    array-share-prefix-sheet
+    slice-aggregate-answer
+    answer-requires
+    enum-told
+    slice-aggregate-write-all
+    write-all-requires
+    returns
+    returns-2)

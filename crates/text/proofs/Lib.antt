@@ -1,0 +1,7 @@
+pub mod Digits
+pub mod Lines
+pub mod Parts
+pub mod Swept
+pub mod Tables
+pub mod UsedParts
+pub mod Writing

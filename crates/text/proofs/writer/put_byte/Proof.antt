@@ -1,0 +1,22 @@
+-- One store at byte `at` is the text of that one byte.
+use mathlib.Core.Path.{refl}
+use native.Mathlib.Omega.{arith}
+use borrow.Author.Needs.{needs}
+use Rattle.text.proofs.Writing.{written-byte}
+use Rattle.text.proofs.writer.put_byte.Statement.{statement}
+use Rattle.text.proofs.writer.put_byte.Tie as tie
+
+slice-write-out : tie.Need-slice-write-out
+slice-write-out c = search needs
+
+add-result : tie.Need-add-result
+add-result c = search needs
+
+same-length : tie.Need-same-length
+same-length c = search needs
+
+returns : tie.Need-returns
+returns c = (written-byte (c .args .out .now) (c .args .at) (c .args .b) (omega arith), refl)
+
+pub put-byte-spec : {M : Type 1} → statement M
+put-byte-spec = tie.close (tie.spec slice-write-out add-result same-length returns)

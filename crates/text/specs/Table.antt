@@ -1,0 +1,49 @@
+-- The curve's text from lists: marks, half widths and the flat list of rows. With the rows of a sweep it is the curve of the meanings, by the
+-- law table-is-curve.
+use Prim.Native.Nat.{ℕ, zero, suc, _+_, _*_}
+use mathlib.Core.Path.{_≡_}
+use mathlib.Core.List.{List, [], _∷_, _++_}
+use lib.ListN.{length, getD}
+use Rattle.meanings.specs.declared.Estimate.{Estimate}
+use Rattle.meanings.specs.Bytes.{line-feed, curve-header, totals-header}
+use Rattle.meanings.specs.Limits.{full}
+use Rattle.meanings.specs.Reports.{given}
+use Rattle.meanings.specs.Sheet.{Contents, read-sheet}
+use Rattle.meanings.specs.Output.{decimal, text-line, curve-line, curve-text}
+
+-- the row of mark k
+abbrev pub row-at : List ℕ → ℕ → Estimate
+row-at rs k =
+    record {
+      left = getD rs (5 * k) 0;
+      right = getD rs (5 * k + 1) 0;
+      weight = getD rs (5 * k + 2) 0;
+      sum = getD rs (5 * k + 3) 0;
+      value = getD rs (5 * k + 4) 0;
+    }
+
+-- the lines of the first n marks
+abbrev pub table-lines : List ℕ → List ℕ → List ℕ → ℕ → List ℕ
+table-lines zs hs rs zero = []
+table-lines zs hs rs (suc n) = table-lines zs hs rs n ++ curve-line (getD zs n 0) (getD hs n 0) (row-at rs n)
+
+-- the whole text, then kept readings and passes
+unfoldable pub table-text : List ℕ → List ℕ → List ℕ → ℕ → ℕ → List ℕ
+table-text zs hs rs kept passes =
+    text-line curve-header []
+    ++ table-lines zs hs rs (length zs)
+    ++ line-feed
+    ∷ text-line totals-header []
+    ++ text-line (decimal kept) (decimal passes ∷ [])
+
+-- four lists as the contents of a sheet, and their curve
+abbrev pub contents-of : List ℕ → List ℕ → List ℕ → List ℕ → Contents
+contents-of ts vs zs hs = record { minutes = ts; values = vs; points = zs; bandwidths = hs }
+
+abbrev pub curve-of : List ℕ → List ℕ → List ℕ → List ℕ → List ℕ
+curve-of ts vs zs hs = curve-text (contents-of ts vs zs hs)
+
+-- the four lists are those of an accepted sheet
+pub record Accepted (ts vs zs hs : List ℕ) : Type 0 where
+  pub sheet : List ℕ
+  pub accepted : read-sheet full sheet ≡ given (contents-of ts vs zs hs)

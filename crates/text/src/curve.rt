@@ -1,0 +1,80 @@
+// The text of a curve and of a refusal.
+use crate::writer::put_curve_line;
+use crate::writer::put_pair_line;
+use crate::writer::put_text;
+use checks::report_number;
+use meanings::Estimate;
+use meanings::Refusal;
+ghost use mathlib.Core.Path.{_≡_};
+ghost use Prim.Native.Nat.{_+_, _*_, _≤_};
+ghost use lib.ListN.{length};
+ghost use Rattle.meanings.specs.Reports.{told};
+ghost use Rattle.meanings.specs.Output.{refusal-text};
+ghost use Rattle.text.specs.Written.{written};
+ghost use Rattle.text.specs.Table.{row-at, table-lines, table-text};
+
+// The row of mark k.
+pub(crate) fn row_at(rows: &[u64], k: usize) -> Estimate
+    requires { ⌜ 5 * k + 5 ≤ length (now rows) ⌝ }
+    ensures { λ r. ⌜ r ≡ row-at (now (rows .entry)) k ⌝ }
+{
+    let first = 5 * k;
+    Estimate {
+        left: rows[first],
+        right: rows[first + 1],
+        weight: rows[first + 2],
+        sum: rows[first + 3],
+        value: rows[first + 4],
+    }
+}
+
+// A line for each mark.
+pub(crate) fn put_curve_lines(
+    out: &mut [u8],
+    at: usize,
+    points: &[u16],
+    bandwidths: &[u32],
+    rows: &[u64],
+) -> usize
+    requires { ⌜ (length (now bandwidths) ≡ length (now points)) × (length (now rows) ≡ 5 * length (now points)) × (at + length (table-lines (now points) (now bandwidths) (now rows) (length (now points))) ≤ length (now out)) ⌝ }
+    ensures { λ _. ⌜ now (out .exit) ≡ written (now (out .entry)) at (table-lines (now (points .entry)) (now (bandwidths .entry)) (now (rows .entry)) (length (now (points .entry)))) ⌝ }
+    ensures { λ r. ⌜ r ≡ at + length (table-lines (now (points .entry)) (now (bandwidths .entry)) (now (rows .entry)) (length (now (points .entry)))) ⌝ }
+{
+    let mut to = at;
+    let mut k = 0;
+    while k < points.len() {
+        to = put_curve_line(out, to, points[k], bandwidths[k], row_at(rows, k));
+        k += 1;
+    }
+    to
+}
+
+// The whole curve, then kept readings and passes.
+pub(crate) fn put_curve(
+    out: &mut [u8],
+    kept: usize,
+    points: &[u16],
+    bandwidths: &[u32],
+    rows: &[u64],
+    passes: u64,
+) -> usize
+    requires { ⌜ (length (now bandwidths) ≡ length (now points)) × (length (now rows) ≡ 5 * length (now points)) × (length (table-text (now points) (now bandwidths) (now rows) kept passes) ≤ length (now out)) ⌝ }
+    ensures { λ _. ⌜ now (out .exit) ≡ written (now (out .entry)) 0 (table-text (now (points .entry)) (now (bandwidths .entry)) (now (rows .entry)) kept passes) ⌝ }
+    ensures { λ r. ⌜ r ≡ length (table-text (now (points .entry)) (now (bandwidths .entry)) (now (rows .entry)) kept passes) ⌝ }
+{
+    let lines = put_text(out, 0, b"mark,half,left,right,weight,sum,vdk\n");
+    let lines_end = put_curve_lines(out, lines, points, bandwidths, rows);
+    let totals = put_text(out, lines_end, b"\nkept,passes\n");
+    put_pair_line(out, totals, kept as u64, passes)
+}
+
+// A refusal: number and place.
+pub(crate) fn put_refusal(out: &mut [u8], refusal: Refusal) -> usize
+    requires { ⌜ length (refusal-text (told refusal)) ≤ length (now out) ⌝ }
+    ensures { λ _. ⌜ now (out .exit) ≡ written (now (out .entry)) 0 (refusal-text (told refusal)) ⌝ }
+    ensures { λ r. ⌜ r ≡ length (refusal-text (told refusal)) ⌝ }
+{
+    let report = refusal.report;
+    let line = put_text(out, 0, b"refused,place\n");
+    put_pair_line(out, line, report_number(report), refusal.place as u64)
+}

@@ -1,0 +1,96 @@
+// The program as bytes to bytes: from a sheet to the text that the program writes.
+mod curve;
+mod writer;
+
+use crate::curve::put_curve;
+use crate::curve::put_refusal;
+use estimator::smooth;
+use meanings::Reading;
+use meanings::Refusal;
+use meanings::Report;
+use meanings::Smoothing;
+use meanings::Writing;
+use sheet::read_sheet;
+ghost use mathlib.Core.Path.{_≡_};
+ghost use Prim.Native.Nat.{_*_};
+ghost use lib.ListN.{length};
+ghost use Rattle.meanings.specs.Calls.{told-writing, write, write-buffer};
+ghost use Rattle.text.specs.Written.{written};
+ghost use Rattle.text.specs.Table.{Accepted, curve-of};
+
+// Sweeps the lists of an accepted sheet and writes its curve, with a lent list for the rows.
+pub(crate) fn put_swept(
+    out: &mut [u8],
+    minutes: &[u16],
+    values: &[u16],
+    points: &[u16],
+    bandwidths: &[u32],
+    rows: &mut [u64],
+) -> usize
+    requires { ⌜ (length (now out) ≡ 31291) × (length (now rows) ≡ 5 * length (now points)) ⌝ }
+    requires { ⌜ Accepted (now minutes) (now values) (now points) (now bandwidths) ⌝ }
+    ensures { λ _. ⌜ now (out .exit) ≡ written (now (out .entry)) 0 (curve-of (now (minutes .entry)) (now (values .entry)) (now (points .entry)) (now (bandwidths .entry))) ⌝ }
+    ensures { λ r. ⌜ r ≡ length (curve-of (now (minutes .entry)) (now (values .entry)) (now (points .entry)) (now (bandwidths .entry))) ⌝ }
+{
+    match smooth(minutes, values, points, bandwidths, rows) {
+        Smoothing::Unswept(_) => 0,
+        Smoothing::Passes(passes) => {
+            put_curve(out, minutes.len(), points, bandwidths, rows, passes)
+        }
+    }
+}
+
+// The same, with rows of its own.
+pub(crate) fn put_accepted(
+    out: &mut [u8],
+    minutes: &[u16],
+    values: &[u16],
+    points: &[u16],
+    bandwidths: &[u32],
+) -> usize
+    requires { ⌜ length (now out) ≡ 31291 ⌝ }
+    requires { ⌜ Accepted (now minutes) (now values) (now points) (now bandwidths) ⌝ }
+    ensures { λ _. ⌜ now (out .exit) ≡ written (now (out .entry)) 0 (curve-of (now (minutes .entry)) (now (values .entry)) (now (points .entry)) (now (bandwidths .entry))) ⌝ }
+    ensures { λ r. ⌜ r ≡ length (curve-of (now (minutes .entry)) (now (values .entry)) (now (points .entry)) (now (bandwidths .entry))) ⌝ }
+{
+    let mut rows = [0u64; 2560];
+    let size = 5 * points.len();
+    put_swept(out, minutes, values, points, bandwidths, &mut rows[..size])
+}
+
+// Writes the curve of a sheet, or its refusal, into a buffer of 31,291 bytes, which no output exceeds. A buffer of another length is refused
+// with 8.
+pub fn curve_text(sheet: &[u8], out: &mut [u8]) -> Writing
+    ensures { λ r. ⌜ told-writing r ≡ write (now (sheet .entry)) (now (out .entry)) ⌝ }
+    ensures { λ _. ⌜ now (out .exit) ≡ write-buffer (now (sheet .entry)) (now (out .entry)) ⌝ }
+{
+    if out.len() != 31291 {
+        return Writing::Unwritten(Refusal {
+            report: Report::LengthMismatch,
+            place: 0,
+        });
+    }
+    let mut minutes = [0u16; 1024];
+    let mut values = [0u16; 1024];
+    let mut points = [0u16; 512];
+    let mut bandwidths = [0u32; 512];
+    match read_sheet(
+        sheet,
+        &mut minutes,
+        &mut values,
+        &mut points,
+        &mut bandwidths,
+    ) {
+        Reading::Unread(refusal) => Writing::Written(put_refusal(out, refusal)),
+        Reading::Used {
+            samples: n,
+            points: m,
+        } => Writing::Written(put_accepted(
+            out,
+            &minutes[..n],
+            &values[..n],
+            &points[..m],
+            &bandwidths[..m],
+        )),
+    }
+}

@@ -1,0 +1,108 @@
+// The writer's parts. Each stores one text from byte `at` on and answers where the text ends, so the next one begins there.
+use meanings::Estimate;
+ghost use mathlib.Core.Path.{_≡_};
+ghost use Prim.Native.Nat.{_+_, _≤_};
+ghost use mathlib.Core.List.{[], _∷_};
+ghost use lib.ListN.{length};
+ghost use Rattle.meanings.specs.Bytes.{comma};
+ghost use Rattle.meanings.specs.Output.{decimal, text-line, value-text, curve-line};
+ghost use Rattle.text.specs.Written.{written};
+
+const LINE_FEED: u8 = 10;
+
+const COMMA: u8 = 44;
+
+const DASH: u8 = 45;
+
+const ZERO: u64 = 48;
+
+pub(crate) fn put_text(out: &mut [u8], at: usize, text: &[u8]) -> usize
+    requires { ⌜ at + length (now text) ≤ length (now out) ⌝ }
+    ensures { λ _. ⌜ now (out .exit) ≡ written (now (out .entry)) at (now (text .entry)) ⌝ }
+    ensures { λ r. ⌜ r ≡ at + length (now (text .entry)) ⌝ }
+{
+    let mut i = 0;
+    while i < text.len() {
+        out[at + i] = text[i];
+        i += 1;
+    }
+    at + i
+}
+
+pub(crate) fn put_byte(out: &mut [u8], at: usize, b: u8) -> usize
+    requires { ⌜ at + length (b ∷ []) ≤ length (now out) ⌝ }
+    ensures { λ _. ⌜ now (out .exit) ≡ written (now (out .entry)) at (b ∷ []) ⌝ }
+    ensures { λ r. ⌜ r ≡ at + length (b ∷ []) ⌝ }
+{
+    out[at] = b;
+    at + 1
+}
+
+// A number in decimal: all digits but the last, then the last.
+pub(crate) fn put_decimal(out: &mut [u8], at: usize, n: u64) -> usize
+    requires { ⌜ at + length (decimal n) ≤ length (now out) ⌝ }
+    ensures { λ _. ⌜ now (out .exit) ≡ written (now (out .entry)) at (decimal n) ⌝ }
+    ensures { λ r. ⌜ r ≡ at + length (decimal n) ⌝ }
+{
+    if n < 10 {
+        return put_byte(out, at, (ZERO + n) as u8);
+    }
+    let end = put_decimal(out, at, n / 10);
+    put_byte(out, end, (ZERO + n % 10) as u8)
+}
+
+// A value, `-` where it is missing.
+pub(crate) fn put_value(out: &mut [u8], at: usize, v: u64) -> usize
+    requires { ⌜ at + length (value-text v) ≤ length (now out) ⌝ }
+    ensures { λ _. ⌜ now (out .exit) ≡ written (now (out .entry)) at (value-text v) ⌝ }
+    ensures { λ r. ⌜ r ≡ at + length (value-text v) ⌝ }
+{
+    if v == 65536 {
+        return put_byte(out, at, DASH);
+    }
+    put_decimal(out, at, v)
+}
+
+// A comma and the number behind it.
+pub(crate) fn put_after_comma(out: &mut [u8], at: usize, n: u64) -> usize
+    requires { ⌜ at + length (comma ∷ decimal n) ≤ length (now out) ⌝ }
+    ensures { λ _. ⌜ now (out .exit) ≡ written (now (out .entry)) at (comma ∷ decimal n) ⌝ }
+    ensures { λ r. ⌜ r ≡ at + length (comma ∷ decimal n) ⌝ }
+{
+    let begin = put_byte(out, at, COMMA);
+    put_decimal(out, begin, n)
+}
+
+// A mark's line: mark, half width and the row.
+pub(crate) fn put_curve_line(
+    out: &mut [u8],
+    at: usize,
+    point: u16,
+    bandwidth: u32,
+    row: Estimate,
+) -> usize
+    requires { ⌜ at + length (curve-line point bandwidth row) ≤ length (now out) ⌝ }
+    ensures { λ _. ⌜ now (out .exit) ≡ written (now (out .entry)) at (curve-line point bandwidth row) ⌝ }
+    ensures { λ r. ⌜ r ≡ at + length (curve-line point bandwidth row) ⌝ }
+{
+    let point_end = put_decimal(out, at, point as u64);
+    let bandwidth_end = put_after_comma(out, point_end, bandwidth as u64);
+    let left_end = put_after_comma(out, bandwidth_end, row.left);
+    let right_end = put_after_comma(out, left_end, row.right);
+    let weight_end = put_after_comma(out, right_end, row.weight);
+    let sum_end = put_after_comma(out, weight_end, row.sum);
+    let value_begin = put_byte(out, sum_end, COMMA);
+    let value_end = put_value(out, value_begin, row.value);
+    put_byte(out, value_end, LINE_FEED)
+}
+
+// A line of two numbers.
+pub(crate) fn put_pair_line(out: &mut [u8], at: usize, a: u64, b: u64) -> usize
+    requires { ⌜ at + length (text-line (decimal a) (decimal b ∷ [])) ≤ length (now out) ⌝ }
+    ensures { λ _. ⌜ now (out .exit) ≡ written (now (out .entry)) at (text-line (decimal a) (decimal b ∷ [])) ⌝ }
+    ensures { λ r. ⌜ r ≡ at + length (text-line (decimal a) (decimal b ∷ [])) ⌝ }
+{
+    let first_end = put_decimal(out, at, a);
+    let second_end = put_after_comma(out, first_end, b);
+    put_byte(out, second_end, LINE_FEED)
+}
