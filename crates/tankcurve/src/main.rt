@@ -1,7 +1,10 @@
 // The program: a tank sheet on standard input, its curve or its refusal on standard output.
 use meanings::Writing;
-ghost use Prim.Native.Nat.{_≤_};
-ghost use lib.ListN.{length};
+ghost use mathlib.Core.Path.{_≡_};
+ghost use Prim.Native.Nat.{_+_};
+ghost use lib.ListN.{length, take};
+ghost use Rattle.meanings.specs.Limits.{max-sheet, max-output};
+ghost use Rattle.meanings.specs.Output.{program};
 ghost use Rattle.tankcurve.specs.Input.{InputWithin};
 
 const IN: i32 = 0;
@@ -27,8 +30,10 @@ fn read_part(part: &mut [u8]) -> Input
     Input::Bytes(io::count(got, part))
 }
 
-// Reads until the buffer is full or the input ends. A short read is read on; a failed one is told from the end.
+// Reads until the buffer is full or the input ends: one byte more than a sheet may have decides whether it is overlong. A short read is read
+// on; a failed one is told from the end.
 fn read_input(buf: &mut [u8]) -> Input
+    requires { ⌜ length (now buf) ≡ max-sheet + 1 ⌝ }
     ensures { λ r. ⌜ InputWithin r (length (now (buf .exit))) ⌝ }
 {
     let mut done = 0;
@@ -44,22 +49,29 @@ fn read_input(buf: &mut [u8]) -> Input
     Input::Bytes(done)
 }
 
-// Writes the answer to a sheet in one call. Where that fails nothing more is written.
-fn answer(sheet: &[u8]) {
-    let mut out = [0u8; 31291];
-    match text::curve_text(sheet, &mut out) {
-        Writing::Written(n) => {
-            io::write_all(OUT, &out[..n]);
-        }
-        Writing::Unwritten(_) => {}
+// Puts what the program writes for a sheet at the front of the buffer, and gives its length.
+fn answer(sheet: &[u8], out: &mut [u8]) -> usize
+    requires { ⌜ length (now out) ≡ max-output ⌝ }
+    ensures { λ r. ⌜ take r (now (out .exit)) ≡ program (now (sheet .entry)) ⌝ }
+    ensures { λ r. ⌜ r ≡ length (program (now (sheet .entry))) ⌝ }
+{
+    match text::curve_text(sheet, out) {
+        Writing::Written(n) => n,
+        Writing::Unwritten(_) => 0,
     }
 }
 
-// One byte more than a sheet may have decides whether it is overlong.
+// Writes the answer in one call. Where that fails nothing more is written.
+fn write_answer(sheet: &[u8]) {
+    let mut out = [0u8; 31291];
+    let n = answer(sheet, &mut out);
+    io::write_all(OUT, &out[..n]);
+}
+
 fn main() {
     let mut sheet = [0u8; 32769];
     match read_input(&mut sheet) {
-        Input::Bytes(n) => answer(&sheet[..n]),
+        Input::Bytes(n) => write_answer(&sheet[..n]),
         Input::Failed => {
             io::write_all(ERR, b"tankcurve: standard input cannot be read\n");
         }

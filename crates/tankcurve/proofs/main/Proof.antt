@@ -22,11 +22,11 @@ within c = rw (c .n .given .1) at (c .before .before .before .read-input .ensure
 array-share-prefix-sheet : tie.Need-array-share-prefix-sheet
 array-share-prefix-sheet c = within (c .before)
 
-slice-aggregate-answer : tie.Need-slice-aggregate-answer
-slice-aggregate-answer c = sym (length-take-le _ _ (within (c .before .before)))
+slice-aggregate-write-answer : tie.Need-slice-aggregate-write-answer
+slice-aggregate-write-answer c = sym (length-take-le _ _ (within (c .before .before)))
 
-answer-requires : tie.Need-answer-requires
-answer-requires c κs = search needs
+write-answer-requires : tie.Need-write-answer-requires
+write-answer-requires c κs = search needs
 
 enum-told : tie.Need-enum-told
 enum-told c = search needs
@@ -51,8 +51,8 @@ main-spec =
     read-input-requires
     enum-known-n
     array-share-prefix-sheet
-    slice-aggregate-answer
-    answer-requires
+    slice-aggregate-write-answer
+    write-answer-requires
     enum-told
     slice-aggregate-write-all
     write-all-requires
