@@ -33,9 +33,9 @@ module _ (p : ℕ) (ts vs : List ℕ) (n last m j v : ℕ) (t : List ℕ) (next 
       → with-sample full p (last ∷ []) (take n ts) (take n vs) (sample-line t) next ≡ next (last ∷ m ∷ []) (take n ts) (take n vs)
   sample-dropped l d = rw (read, le-ltb m last l, le-ltb 2 j d)
 
-  pub sample-crowded : last ≤ m → 2 < j → n ≤ length ts → 1024 ≤ n
+  pub sample-too-many : last ≤ m → 2 < j → n ≤ length ts → 1024 ≤ n
       → with-sample full p (last ∷ []) (take n ts) (take n vs) (sample-line t) next ≡ refused-at p 6
-  sample-crowded l k i r = rw (read, le-ltb m last l, lt-ltb 2 j k, length-take-le n ts i, le-leb 1024 n r)
+  sample-too-many l k i r = rw (read, le-ltb m last l, lt-ltb 2 j k, length-take-le n ts i, le-leb 1024 n r)
 
   pub sample-kept : last ≤ m → 2 < j → n < length ts → n < length vs → n < 1024
       → with-sample full p (last ∷ []) (take n ts) (take n vs) (sample-line t) next

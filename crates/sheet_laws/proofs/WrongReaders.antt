@@ -92,22 +92,22 @@ last-line-short : length (print-point last-mark) ≤ 10
 unfolding last-mark decimal decimal-with
 last-line-short = omega arith
 
-pub crowded-and-back : List ℕ
-crowded-and-back = (point-head ++ print-points (replicate 512 same-mark)) ++ print-point last-mark
+pub one-too-many-and-back : List ℕ
+one-too-many-and-back = (point-head ++ print-points (replicate 512 same-mark)) ++ print-point last-mark
 
 -- report 6 looked at before report 10
-pub six-not-before-ten : (p : ℕ) → ¬ (read-sheet full crowded-and-back ≡ refused (record { number = 6; place = p }))
-unfolding same-mark last-mark crowded-and-back
+pub six-not-before-ten : (p : ℕ) → ¬ (read-sheet full one-too-many-and-back ≡ refused (record { number = 6; place = p }))
+unfolding same-mark last-mark one-too-many-and-back
 six-not-before-ten p e =
     let a = same-lines-length 512 in
     let b = length-append (point-head ++ print-points (replicate 512 same-mark)) (print-point last-mark) in
     let c = length-append point-head (print-points (replicate 512 same-mark)) in
     let d = last-line-short in
-    let r : Refused full crowded-and-back 10 (length (point-head ++ print-points (replicate 512 same-mark))) =
+    let r : Refused full one-too-many-and-back 10 (length (point-head ++ print-points (replicate 512 same-mark))) =
     faulty-point (omega arith) (replicate 512 same-mark) same-marks-fit last-mark
-    (record { point-range = omega arith; bandwidth-digits = omega arith }) ([], sym (append-nil crowded-and-back))
+    (record { point-range = omega arith; bandwidth-digits = omega arith }) ([], sym (append-nil one-too-many-and-back))
     (edge (neighbours-then (λ (a b : Move). a .point ≤ b .point) same-mark last-mark (omega arith) (omega arith) 512) (record { low = omega arith; high = omega arith })
     (λ f. let g = last-neighbours Follows same-mark last-mark 511 f in omega arith)) in
-    let f = sym (refused-only full crowded-and-back 10 _ r) ∙ e in
+    let f = sym (refused-only full one-too-many-and-back 10 _ r) ∙ e in
     let n : _≡_ {A = ℕ} 10 6 = number-of f in
     omega arith

@@ -179,17 +179,17 @@ fn show_first(sheet: &[u8], length: usize) {
 
 // A sheet with so many equal mark lines and so many equal reading lines, and more: the empty line is at byte `lines`, and the reading lines
 // end at byte `end`.
-fn many(mark: &[u8], marks: u16, lines: u16, reading: &[u8], readings: u16, end: u16, more: &[u8]) {
+fn many(point: &[u8], points: u16, lines: u16, sample: &[u8], samples: u16, end: u16, more: &[u8]) {
     let mut sheet = [10u8; 32769];
     put(&mut sheet, 0, b"mark,half\n");
-    put_times(&mut sheet, 10, mark, marks);
+    put_times(&mut sheet, 10, point, points);
     put(&mut sheet, lines as usize, b"\nminute,inj,vdk\n");
-    put_times(&mut sheet, lines as usize + 16, reading, readings);
+    put_times(&mut sheet, lines as usize + 16, sample, samples);
     put(&mut sheet, end as usize, more);
     show_first(&sheet, end as usize + more.len() % 100);
 }
 
-fn overlong() {
+fn too_long() {
     let sheet = [10u8; 32769];
     show(&sheet);
     show(&sheet[0..32768]);
@@ -251,7 +251,7 @@ fn sample_lines() {
     show(b"mark,half\n0,1\n65535,65536\n\nminute,inj,vdk\n");
 }
 
-fn crowded() {
+fn too_many() {
     many(b"3,2\n", 512, 2058, b"9,3,4\n", 1024, 8218, b"");
     many(b"3,2\n", 513, 2062, b"9,3,4\n", 1, 2084, b"");
     many(b"3,2\n", 512, 2058, b"9,3,4\n", 1024, 8218, b"10,3,4\n");
@@ -283,7 +283,7 @@ fn main() {
     malformed_points();
     faulty_points();
     sample_lines();
-    crowded();
-    overlong();
+    too_many();
+    too_long();
     short_buffer();
 }

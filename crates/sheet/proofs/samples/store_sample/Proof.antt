@@ -5,7 +5,7 @@ use mathlib.Core.Option.{none, some}
 use native.Mathlib.Omega.{arith}
 use Rattle.meanings.specs.Sheet.{sample-line}
 use Rattle.lines.specs.Lines.{told-sample}
-use Rattle.sheet.proofs.Stores.{sample-falls, sample-dropped, sample-crowded, sample-kept}
+use Rattle.sheet.proofs.Stores.{sample-falls, sample-dropped, sample-too-many, sample-kept}
 use borrow.Author.Needs.{needs}
 use Rattle.sheet.proofs.samples.store_sample.Statement.{statement}
 use Rattle.sheet.proofs.samples.store_sample.Tie as tie
@@ -36,7 +36,7 @@ returns-3 : tie.Need-returns-3
 returns-3 c = (λ next. sample-dropped (c .before .before .before .before .before .before .before .before .before .args .place) (c .before .before .before .before .before .before .before .before .before .args .minutes .now) (c .before .before .before .before .before .before .before .before .before .args .values .now) (c .before .before .before .before .before .before .before .before .before .args .count) (c .before .before .before .before .before .before .before .before .before .args .last) _ _ _ (c .before .before .before .before .before .before .before .before .before .args .text .now) next (values-of (c .before .before .before)) (c .before .if1 .left) (c .if2 .taken), omega arith)
 
 returns-4 : tie.Need-returns-4
-returns-4 c = (λ next. sample-crowded (c .before .before .before .before .before .before .before .before .before .before .args .place) (c .before .before .before .before .before .before .before .before .before .before .args .minutes .now) (c .before .before .before .before .before .before .before .before .before .before .args .values .now) (c .before .before .before .before .before .before .before .before .before .before .args .count) (c .before .before .before .before .before .before .before .before .before .before .args .last) _ _ _ (c .before .before .before .before .before .before .before .before .before .before .args .text .now) next (values-of (c .before .before .before .before)) (c .before .before .if1 .left) (c .before .if2 .left) (omega arith) (c .if3 .taken), tt)
+returns-4 c = (λ next. sample-too-many (c .before .before .before .before .before .before .before .before .before .before .args .place) (c .before .before .before .before .before .before .before .before .before .before .args .minutes .now) (c .before .before .before .before .before .before .before .before .before .before .args .values .now) (c .before .before .before .before .before .before .before .before .before .before .args .count) (c .before .before .before .before .before .before .before .before .before .before .args .last) _ _ _ (c .before .before .before .before .before .before .before .before .before .before .args .text .now) next (values-of (c .before .before .before .before)) (c .before .before .if1 .left) (c .before .if2 .left) (omega arith) (c .if3 .taken), tt)
 
 mul-minutes : tie.Need-mul-minutes
 mul-minutes c = search needs
