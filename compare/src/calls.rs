@@ -1,0 +1,639 @@
+//! One case of each call: lent to the export and to the second implementation, everything compared.
+//!
+//! Every function here lends the export lists among guard elements, over slices of any length; where
+//! the lengths are those of the typed call it makes that call too. What comes back is the first
+//! difference, with the whole case.
+
+use crate::lent::Lent;
+use crate::random::Random;
+use crate::tally::Tally;
+use reference::Record;
+use std::fmt::{self, Debug};
+use std::io::{self, Write};
+use std::path::PathBuf;
+use std::process::{Command, Stdio};
+use tankcurve::{slices, Counts, Estimate, RunningSums};
+
+/// A number, 0 or a report, and its detail.
+type Answer = (u8, u64);
+
+/// Report 8 at place 0, of a list for the answer that has another length than stated.
+const WRONG_LENGTH: Answer = (8, 0);
+
+/// The lengths of the reader's lists: minutes, values, points, bandwidths, counts.
+pub const READ_LENGTHS: [usize; 5] = [1024, 1024, 512, 512, 2];
+
+/// The length of the buffer for a text.
+pub const OUT_LENGTH: usize = 31_291;
+
+/// The calls, with their tallies.
+pub struct Calls {
+    program: PathBuf,
+    patterns: Random,
+    evaluate: Tally,
+    window: Tally,
+    advance: Tally,
+    smooth: Tally,
+    fill: Tally,
+    read: Tally,
+    text: Tally,
+    run: Tally,
+}
+
+/// Bytes shown as text.
+#[derive(PartialEq)]
+struct Bytes<'a>(&'a [u8]);
+
+impl Debug for Bytes<'_> {
+    fn fmt(&self, f: &mut fmt::Formatter) -> fmt::Result {
+        write!(f, "b\"{}\"", self.0.escape_ascii())
+    }
+}
+
+/// Puts the case behind its difference.
+macro_rules! with_case {
+    ($found:expr, $call:expr, $($name:ident = $value:expr),+) => {
+        $found.map_err(|difference: String| {
+            let mut shown = format!("{}: {difference}\nthe case:", $call);
+            $(shown += &format!("\n    {} = {:?}", stringify!($name), $value);)+
+            shown
+        })
+    };
+}
+
+/// What the export has to return.
+fn code(answer: Answer) -> u64 {
+    16 * answer.1 + u64::from(answer.0)
+}
+
+fn refused(refusal: reference::Refusal) -> Answer {
+    (refusal.number, refusal.place)
+}
+
+/// A typed result, its refusal as number and place.
+fn typed<T>(result: Result<T, tankcurve::Refusal>) -> Result<T, Answer> {
+    result.map_err(|refusal| (refusal.report as u8, refusal.place))
+}
+
+fn same<T: PartialEq + Debug>(what: &str, expected: T, got: T) -> Result<(), String> {
+    if expected == got {
+        return Ok(());
+    }
+    Err(format!("{what}: expected {expected:?}, got {got:?}"))
+}
+
+/// Runs a comparison up to its first difference.
+fn attempt(comparison: impl FnOnce() -> Result<(), String>) -> Result<(), String> {
+    comparison()
+}
+
+/// A list as one of a length given by its type.
+fn sized<T, const N: usize>(list: &mut [T]) -> Result<&mut [T; N], String> {
+    let length = list.len();
+    list.try_into()
+        .map_err(|_| format!("the type has {N} elements and not {length}"))
+}
+
+/// The eight numbers of a record.
+fn numbers(record: Record) -> [u64; 8] {
+    let [s00, s10, s20, s01, s11, s21] = record.sums;
+    [record.left, record.right, s00, s10, s20, s01, s11, s21]
+}
+
+/// The same record, typed.
+fn running_sums(record: Record) -> RunningSums {
+    let [s00, s10, s20, s01, s11, s21] = record.sums;
+    RunningSums {
+        left: record.left,
+        right: record.right,
+        s00,
+        s10,
+        s20,
+        s01,
+        s11,
+        s21,
+    }
+}
+
+/// The report that a text of the program tells, or 0.
+fn told(text: &[u8]) -> u8 {
+    let Some(line) = text.strip_prefix(b"refused,place\n") else {
+        return 0;
+    };
+    let digits = line.iter().take_while(|byte| byte.is_ascii_digit());
+    digits.fold(0, |number, byte| 10 * number + (byte - b'0'))
+}
+
+impl Calls {
+    pub fn new(program: PathBuf) -> Calls {
+        Calls {
+            program,
+            patterns: Random(1),
+            evaluate: Tally::new("evaluate", &[8, 6, 4, 9]),
+            window: Tally::new("window", &[8, 6, 4, 9]),
+            advance: Tally::new("advance", &[8, 6, 11, 9]),
+            smooth: Tally::new("smooth", &[8, 6, 7, 4, 5, 9, 10]),
+            fill: Tally::new("fill", &[8, 7, 6, 12, 13]),
+            read: Tally::new("read", &[8, 1, 2, 3, 4, 5, 9, 10, 6, 7]),
+            text: Tally::new("text", &[8, 1, 2, 3, 4, 5, 9, 10, 6, 7]),
+            run: Tally::new("program", &[1, 2, 3, 4, 5, 9, 10, 6, 7]),
+        }
+    }
+
+    pub fn tallies(&self) -> [&Tally; 8] {
+        [
+            &self.evaluate,
+            &self.window,
+            &self.advance,
+            &self.smooth,
+            &self.fill,
+            &self.read,
+            &self.text,
+            &self.run,
+        ]
+    }
+
+    pub fn evaluate(
+        &mut self,
+        minutes: &[u16],
+        values: &[u16],
+        point: u16,
+        bandwidth: u32,
+        row_len: usize,
+    ) -> Result<(), String> {
+        let result = reference::one_mark(minutes, values, point, bandwidth).map_err(refused);
+        let expected = if row_len == 5 {
+            result
+        } else {
+            Err(WRONG_LENGTH)
+        };
+        let answer = expected.err().unwrap_or((0, 0));
+        let lent_minutes = Lent::holding(&mut self.patterns, minutes);
+        let lent_values = Lent::holding(&mut self.patterns, values);
+        let mut row = Lent::patterned(&mut self.patterns, row_len);
+        let found = attempt(|| {
+            let got = slices::evaluate(
+                lent_minutes.list(),
+                lent_values.list(),
+                point,
+                bandwidth,
+                row.list_mut(),
+            );
+            same("returned", code(answer), got)?;
+            lent_minutes.untouched("minutes")?;
+            lent_values.untouched("values")?;
+            match expected {
+                Ok(front) => row.holds("row", &front)?,
+                Err(_) => row.untouched("row")?,
+            }
+            let got =
+                tankcurve::evaluate(lent_minutes.list(), lent_values.list(), point, bandwidth);
+            let fields = |e: Estimate| [e.left, e.right, e.weight, e.sum, e.value];
+            same("typed", result, typed(got).map(fields))
+        });
+        self.evaluate.count(answer.0);
+        with_case!(
+            found,
+            "evaluate",
+            minutes = minutes,
+            values = values,
+            point = point,
+            bandwidth = bandwidth,
+            row_len = row_len
+        )
+    }
+
+    pub fn window(
+        &mut self,
+        minutes: &[u16],
+        values: &[u16],
+        point: u16,
+        bandwidth: u32,
+        bounds_len: usize,
+    ) -> Result<(), String> {
+        let run = reference::one_mark_run(minutes, values, point, bandwidth);
+        let result = reference::one_mark(minutes, values, point, bandwidth)
+            .map(|_| run)
+            .map_err(refused);
+        let expected = if bounds_len == 2 {
+            result
+        } else {
+            Err(WRONG_LENGTH)
+        };
+        let answer = expected.err().unwrap_or((0, 0));
+        let lent_minutes = Lent::holding(&mut self.patterns, minutes);
+        let lent_values = Lent::holding(&mut self.patterns, values);
+        let mut bounds = Lent::patterned(&mut self.patterns, bounds_len);
+        let found = attempt(|| {
+            let got = slices::window(
+                lent_minutes.list(),
+                lent_values.list(),
+                point,
+                bandwidth,
+                bounds.list_mut(),
+            );
+            same("returned", code(answer), got)?;
+            lent_minutes.untouched("minutes")?;
+            lent_values.untouched("values")?;
+            match expected {
+                Ok((left, right)) => bounds.holds("bounds", &[left as u64, right as u64])?,
+                Err(_) => bounds.untouched("bounds")?,
+            }
+            // The run is that part of the lent list itself.
+            let lent = lent_values.list();
+            let got = typed(tankcurve::window(
+                lent_minutes.list(),
+                lent,
+                point,
+                bandwidth,
+            ));
+            let part = result.map(|(left, right)| &lent[left..right]);
+            same(
+                "typed",
+                part.map(<[u16]>::as_ptr_range),
+                got.map(<[u16]>::as_ptr_range),
+            )
+        });
+        self.window.count(answer.0);
+        with_case!(
+            found,
+            "window",
+            minutes = minutes,
+            values = values,
+            point = point,
+            bandwidth = bandwidth,
+            bounds_len = bounds_len
+        )
+    }
+
+    /// One step. Gives the record that it returned or left.
+    pub fn advance(
+        &mut self,
+        record: Record,
+        minutes: &[u16],
+        values: &[u16],
+        point: u16,
+        bandwidth: u32,
+    ) -> Result<Record, String> {
+        let result = reference::step(record, minutes, values, point, bandwidth).map_err(refused);
+        let answer = result.err().unwrap_or((0, 0));
+        let after = result.unwrap_or(record);
+        let lent_minutes = Lent::holding(&mut self.patterns, minutes);
+        let lent_values = Lent::holding(&mut self.patterns, values);
+        let mut lent_record = Lent::holding(&mut self.patterns, &numbers(record));
+        let found = attempt(|| {
+            let got = slices::advance(
+                lent_record.list_mut(),
+                lent_minutes.list(),
+                lent_values.list(),
+                point,
+                bandwidth,
+            );
+            same("returned", code(answer), got)?;
+            lent_minutes.untouched("minutes")?;
+            lent_values.untouched("values")?;
+            lent_record.holds("record", &numbers(after))?;
+            let mut sums = running_sums(record);
+            let got = tankcurve::advance(
+                &mut sums,
+                lent_minutes.list(),
+                lent_values.list(),
+                point,
+                bandwidth,
+            );
+            same("typed", result.map(|_| ()), typed(got))?;
+            same("typed, record", running_sums(after), sums)
+        });
+        self.advance.count(answer.0);
+        with_case!(
+            found,
+            "advance",
+            record = numbers(record),
+            minutes = minutes,
+            values = values,
+            point = point,
+            bandwidth = bandwidth
+        )?;
+        Ok(after)
+    }
+
+    /// One step with a record of another length than 8.
+    pub fn advance_wrong_length(
+        &mut self,
+        record_len: usize,
+        minutes: &[u16],
+        values: &[u16],
+        point: u16,
+        bandwidth: u32,
+    ) -> Result<(), String> {
+        let lent_minutes = Lent::holding(&mut self.patterns, minutes);
+        let lent_values = Lent::holding(&mut self.patterns, values);
+        // All zero, so that it is the record's length and not its content that is refused.
+        let mut record = Lent::holding(&mut self.patterns, &vec![0; record_len]);
+        let found = attempt(|| {
+            let got = slices::advance(
+                record.list_mut(),
+                lent_minutes.list(),
+                lent_values.list(),
+                point,
+                bandwidth,
+            );
+            same("returned", code(WRONG_LENGTH), got)?;
+            lent_minutes.untouched("minutes")?;
+            lent_values.untouched("values")?;
+            record.untouched("record")
+        });
+        self.advance.count(WRONG_LENGTH.0);
+        with_case!(
+            found,
+            "advance",
+            record_len = record_len,
+            minutes = minutes,
+            values = values,
+            point = point,
+            bandwidth = bandwidth
+        )
+    }
+
+    pub fn smooth(
+        &mut self,
+        minutes: &[u16],
+        values: &[u16],
+        points: &[u16],
+        bandwidths: &[u32],
+        rows_len: usize,
+    ) -> Result<(), String> {
+        let mut front = vec![0; rows_len];
+        let result = reference::sweep(minutes, values, points, bandwidths, &mut front);
+        let result = result.map_err(refused);
+        let answer = result.map_or_else(|refusal| refusal, |passes| (0, passes));
+        if result.is_err() {
+            front.clear();
+        }
+        let lent_minutes = Lent::holding(&mut self.patterns, minutes);
+        let lent_values = Lent::holding(&mut self.patterns, values);
+        let lent_points = Lent::holding(&mut self.patterns, points);
+        let lent_bandwidths = Lent::holding(&mut self.patterns, bandwidths);
+        let mut rows = Lent::patterned(&mut self.patterns, rows_len);
+        let mut typed_rows = Lent::patterned(&mut self.patterns, rows_len);
+        let found = attempt(|| {
+            let got = slices::smooth(
+                lent_minutes.list(),
+                lent_values.list(),
+                lent_points.list(),
+                lent_bandwidths.list(),
+                rows.list_mut(),
+            );
+            same("returned", code(answer), got)?;
+            lent_minutes.untouched("minutes")?;
+            lent_values.untouched("values")?;
+            lent_points.untouched("points")?;
+            lent_bandwidths.untouched("bandwidths")?;
+            rows.holds("rows", &front)?;
+            let got = tankcurve::smooth(
+                lent_minutes.list(),
+                lent_values.list(),
+                lent_points.list(),
+                lent_bandwidths.list(),
+                typed_rows.list_mut(),
+            );
+            same("typed", result, typed(got))?;
+            typed_rows.holds("typed, rows", &front)
+        });
+        self.smooth.count(answer.0);
+        with_case!(
+            found,
+            "smooth",
+            minutes = minutes,
+            values = values,
+            points = points,
+            bandwidths = bandwidths,
+            rows_len = rows_len
+        )
+    }
+
+    pub fn fill(
+        &mut self,
+        first: u16,
+        spacing: u16,
+        preset: u32,
+        points_len: usize,
+        bandwidths_len: usize,
+    ) -> Result<(), String> {
+        let mut points_front = vec![0; points_len];
+        let mut bandwidths_front = vec![0; bandwidths_len];
+        let result = reference::fill(
+            first,
+            spacing,
+            preset,
+            &mut points_front,
+            &mut bandwidths_front,
+        )
+        .map_err(refused);
+        let answer = result.err().unwrap_or((0, 0));
+        if result.is_err() {
+            points_front.clear();
+            bandwidths_front.clear();
+        }
+        let mut points = Lent::patterned(&mut self.patterns, points_len);
+        let mut bandwidths = Lent::patterned(&mut self.patterns, bandwidths_len);
+        let mut typed_points = Lent::patterned(&mut self.patterns, points_len);
+        let mut typed_bandwidths = Lent::patterned(&mut self.patterns, bandwidths_len);
+        let found = attempt(|| {
+            let got = slices::fill(
+                first,
+                spacing,
+                preset,
+                points.list_mut(),
+                bandwidths.list_mut(),
+            );
+            same("returned", code(answer), got)?;
+            points.holds("points", &points_front)?;
+            bandwidths.holds("bandwidths", &bandwidths_front)?;
+            let got = tankcurve::fill(
+                first,
+                spacing,
+                preset,
+                typed_points.list_mut(),
+                typed_bandwidths.list_mut(),
+            );
+            same("typed", result, typed(got))?;
+            typed_points.holds("typed, points", &points_front)?;
+            typed_bandwidths.holds("typed, bandwidths", &bandwidths_front)
+        });
+        self.fill.count(answer.0);
+        with_case!(
+            found,
+            "fill",
+            first = first,
+            spacing = spacing,
+            preset = preset,
+            points_len = points_len,
+            bandwidths_len = bandwidths_len
+        )
+    }
+
+    /// One sheet, with lists of these lengths, in the order of `READ_LENGTHS`.
+    pub fn read(&mut self, sheet: &[u8], lengths: [usize; 5]) -> Result<(), String> {
+        let mut fronts = (
+            vec![0; lengths[0]],
+            vec![0; lengths[1]],
+            vec![0; lengths[2]],
+            vec![0; lengths[3]],
+        );
+        let result = if lengths[4] == 2 {
+            reference::read(
+                sheet,
+                &mut fronts.0,
+                &mut fronts.1,
+                &mut fronts.2,
+                &mut fronts.3,
+            )
+            .map_err(refused)
+        } else {
+            Err(WRONG_LENGTH)
+        };
+        let answer = result.err().unwrap_or((0, 0));
+        let (samples, used) = result.unwrap_or((0, 0));
+        fronts.0.truncate(samples);
+        fronts.1.truncate(samples);
+        fronts.2.truncate(used);
+        fronts.3.truncate(used);
+        let counts_front: &[u64] = if result.is_ok() {
+            &[samples as u64, used as u64]
+        } else {
+            &[]
+        };
+        let lent_sheet = Lent::holding(&mut self.patterns, sheet);
+        let mut minutes = Lent::patterned(&mut self.patterns, lengths[0]);
+        let mut values = Lent::patterned(&mut self.patterns, lengths[1]);
+        let mut points = Lent::patterned(&mut self.patterns, lengths[2]);
+        let mut bandwidths = Lent::patterned(&mut self.patterns, lengths[3]);
+        let mut counts = Lent::patterned(&mut self.patterns, lengths[4]);
+        let found = attempt(|| {
+            let got = slices::read(
+                lent_sheet.list(),
+                minutes.list_mut(),
+                values.list_mut(),
+                points.list_mut(),
+                bandwidths.list_mut(),
+                counts.list_mut(),
+            );
+            same("returned", code(answer), got)?;
+            lent_sheet.untouched("sheet")?;
+            minutes.holds("minutes", &fronts.0)?;
+            values.holds("values", &fronts.1)?;
+            points.holds("points", &fronts.2)?;
+            bandwidths.holds("bandwidths", &fronts.3)?;
+            counts.holds("counts", counts_front)?;
+            if lengths == READ_LENGTHS {
+                self.read_typed(sheet, result, &fronts)?;
+            }
+            Ok(())
+        });
+        self.read.count(answer.0);
+        with_case!(found, "read", sheet = Bytes(sheet), lengths = lengths)
+    }
+
+    /// One sheet by the typed call.
+    fn read_typed(
+        &mut self,
+        sheet: &[u8],
+        result: Result<(usize, usize), Answer>,
+        fronts: &(Vec<u16>, Vec<u16>, Vec<u16>, Vec<u32>),
+    ) -> Result<(), String> {
+        let mut minutes = Lent::patterned(&mut self.patterns, 1024);
+        let mut values = Lent::patterned(&mut self.patterns, 1024);
+        let mut points = Lent::patterned(&mut self.patterns, 512);
+        let mut bandwidths = Lent::patterned(&mut self.patterns, 512);
+        let got = tankcurve::read(
+            sheet,
+            sized(minutes.list_mut())?,
+            sized(values.list_mut())?,
+            sized(points.list_mut())?,
+            sized(bandwidths.list_mut())?,
+        );
+        let counts = result.map(|(samples, points)| Counts {
+            samples: samples as u64,
+            points: points as u64,
+        });
+        same("typed", counts, typed(got))?;
+        minutes.holds("typed, minutes", &fronts.0)?;
+        values.holds("typed, values", &fronts.1)?;
+        points.holds("typed, points", &fronts.2)?;
+        bandwidths.holds("typed, bandwidths", &fronts.3)
+    }
+
+    /// One sheet, with a buffer of this length.
+    pub fn text(&mut self, sheet: &[u8], out_len: usize) -> Result<(), String> {
+        let text = reference::program(sheet);
+        let fits = out_len == OUT_LENGTH;
+        let answer = if fits {
+            (0, text.len() as u64)
+        } else {
+            WRONG_LENGTH
+        };
+        let front: &[u8] = if fits { &text } else { &[] };
+        let lent_sheet = Lent::holding(&mut self.patterns, sheet);
+        let mut out = Lent::patterned(&mut self.patterns, out_len);
+        let mut typed_out = Lent::patterned(&mut self.patterns, out_len);
+        let found = attempt(|| {
+            same(
+                "returned",
+                code(answer),
+                slices::text(lent_sheet.list(), out.list_mut()),
+            )?;
+            lent_sheet.untouched("sheet")?;
+            out.holds("out", front)?;
+            if fits {
+                let got = tankcurve::text(lent_sheet.list(), sized(typed_out.list_mut())?);
+                same("typed", Bytes(&text), Bytes(got))?;
+                typed_out.holds("typed, out", &text)?;
+            }
+            Ok(())
+        });
+        self.text
+            .count(if fits { told(&text) } else { WRONG_LENGTH.0 });
+        with_case!(found, "text", sheet = Bytes(sheet), out_len = out_len)
+    }
+
+    /// One sheet through the program's standard input, and what comes out.
+    pub fn run(&mut self, sheet: &[u8]) -> Result<(), String> {
+        let expected = reference::program(sheet);
+        let found = attempt(|| {
+            let got = self.piped(sheet).map_err(|error| error.to_string())?;
+            same("standard output", Bytes(&expected), Bytes(&got))
+        });
+        self.run.count(told(&expected));
+        with_case!(found, "program", sheet = Bytes(sheet))
+    }
+
+    fn piped(&self, sheet: &[u8]) -> io::Result<Vec<u8>> {
+        let mut child = Command::new(&self.program)
+            .stdin(Stdio::piped())
+            .stdout(Stdio::piped())
+            .stderr(Stdio::piped())
+            .spawn()?;
+        if let Some(mut input) = child.stdin.take() {
+            // The program need not read a sheet that is too long to its end.
+            match input.write_all(sheet) {
+                Err(error)
+                    if error.kind() != io::ErrorKind::BrokenPipe
+                        || sheet.len() <= reference::MOST_BYTES =>
+                {
+                    return Err(error)
+                }
+                _ => {}
+            }
+        }
+        let output = child.wait_with_output()?;
+        if !output.status.success() || !output.stderr.is_empty() {
+            return Err(io::Error::other(format!(
+                "{}, {:?}",
+                output.status,
+                Bytes(&output.stderr)
+            )));
+        }
+        Ok(output.stdout)
+    }
+}

@@ -1,0 +1,74 @@
+//! Compares every proved call and the program with the second implementation.
+//!
+//! `compare PROGRAM EXAMPLES`: PROGRAM is the program `tankcurve`, EXAMPLES the folder of the published
+//! sheets and curves. All seeds are fixed, so each run has the same cases. The first difference is
+//! printed with its whole case and ends the run with status 1, and so does a report that document 01
+//! lists for a call and that never came.
+
+mod calls;
+mod cases;
+mod lent;
+mod lists;
+mod random;
+mod sheets;
+mod tally;
+
+use calls::Calls;
+use std::ffi::OsStr;
+use std::fs;
+use std::path::{Path, PathBuf};
+use std::process::ExitCode;
+
+/// Every sheet of the folder, against its curve.
+fn published(calls: &mut Calls, examples: &Path) -> Result<(), String> {
+    let read = |path: &Path| fs::read(path).map_err(|error| format!("{}: {error}", path.display()));
+    let entries =
+        fs::read_dir(examples).map_err(|error| format!("{}: {error}", examples.display()))?;
+    let mut paths: Vec<PathBuf> = entries
+        .filter_map(|entry| entry.ok().map(|entry| entry.path()))
+        .filter(|path| path.extension() == Some(OsStr::new("sheet")))
+        .collect();
+    paths.sort();
+    for path in &paths {
+        cases::published(calls, &read(path)?, &read(&path.with_extension("curve"))?)
+            .map_err(|difference| format!("{}: {difference}", path.display()))?;
+    }
+    if paths.is_empty() {
+        return Err(format!("{}: no sheets", examples.display()));
+    }
+    println!("{} published sheets agree", paths.len());
+    Ok(())
+}
+
+fn compare(calls: &mut Calls, examples: &Path) -> Result<(), String> {
+    published(calls, examples)?;
+    cases::evaluate_and_window(calls)?;
+    cases::advance(calls)?;
+    cases::smooth(calls)?;
+    cases::fill(calls)?;
+    cases::read_and_text(calls)?;
+    cases::program(calls)?;
+    for tally in calls.tallies() {
+        println!("{}", tally.line());
+    }
+    calls
+        .tallies()
+        .iter()
+        .try_for_each(|tally| tally.complete())
+}
+
+fn main() -> ExitCode {
+    let words: Vec<PathBuf> = std::env::args_os().skip(1).map(PathBuf::from).collect();
+    let [program, examples] = &words[..] else {
+        eprintln!("use: compare PROGRAM EXAMPLES");
+        return ExitCode::from(2);
+    };
+    let mut calls = Calls::new(program.clone());
+    if let Err(difference) = compare(&mut calls, examples) {
+        println!("compare: {difference}");
+        return ExitCode::FAILURE;
+    }
+    let total: u64 = calls.tallies().iter().map(|tally| tally.cases()).sum();
+    println!("compare: {total} cases agree");
+    ExitCode::SUCCESS
+}

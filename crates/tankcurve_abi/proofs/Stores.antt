@@ -1,0 +1,13 @@
+-- A list all of whose numbers are stored anew is the new ones.
+use Prim.Native.Nat.{ℕ, _+_}
+use mathlib.Core.Path.{_≡_, ap, _∙_}
+use mathlib.Core.List.{List, _++_, append-nil}
+use native.Mathlib.Omega.{arith}
+use lib.ListN.{length, take, drop-of-length-le}
+use lib.Seq.{sets, sets-eq}
+
+pub all-stored : (ys xs : List ℕ) → length xs ≡ length ys → sets xs 0 ys ≡ ys
+all-stored ys xs e =
+    sets-eq ys xs 0 (omega arith)
+    ∙ ap (λ (rest : List ℕ). (take 0 xs ++ ys) ++ rest) (drop-of-length-le xs {i = 0 + length ys} (omega arith))
+    ∙ append-nil ys

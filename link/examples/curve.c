@@ -1,0 +1,38 @@
+/*
+ * Reads a sheet from standard input and writes its curve; then the estimates of lists given here, five numbers a point, and the passes.
+ */
+#include "tankcurve.h"
+
+#include <inttypes.h>
+#include <stdio.h>
+
+int main(void)
+{
+    /* One byte more than a sheet may have decides that it is too long. */
+    static uint8_t sheet[TANKCURVE_MAX_SHEET + 1];
+    static uint8_t out[TANKCURVE_MAX_OUTPUT];
+    size_t sheet_len = fread(sheet, 1, sizeof sheet, stdin);
+    if (ferror(stdin)) {
+        fputs("curve: standard input cannot be read\n", stderr);
+        return 1;
+    }
+    uint64_t answer = tankcurve_text(sheet, sheet_len, out, sizeof out);
+    fwrite(out, 1, tankcurve_detail(answer), stdout);
+
+    const uint16_t minutes[] = {10, 20, 20, 35};
+    const uint16_t values[] = {40, 60, 80, 20};
+    const uint16_t points[] = {20, 25, 60};
+    const uint32_t bandwidths[] = {10, 15, 20};
+    uint64_t rows[3 * TANKCURVE_ROW_LEN];
+    answer = tankcurve_smooth(minutes, 4, values, 4, points, 3, bandwidths, 3, rows, 3 * TANKCURVE_ROW_LEN);
+    if (tankcurve_number(answer) != TANKCURVE_ACCEPTED) {
+        printf("report %d at %" PRIu64 "\n", (int)tankcurve_number(answer), tankcurve_detail(answer));
+        return 1;
+    }
+    for (size_t k = 0; k < 3; k++) {
+        const uint64_t *row = rows + k * TANKCURVE_ROW_LEN;
+        printf("%" PRIu64 " %" PRIu64 " %" PRIu64 " %" PRIu64 " %" PRIu64 "\n", row[0], row[1], row[2], row[3], row[4]);
+    }
+    printf("passes %" PRIu64 "\n", tankcurve_detail(answer));
+    return fflush(stdout) == 0 ? 0 : 1;
+}

@@ -1,0 +1,17 @@
+//! Links libtankcurve_abi.a, from TANKCURVE_LIB_DIR or else from target/staticlib of the repository.
+
+use std::env;
+use std::path::PathBuf;
+
+fn main() {
+    let manifest = PathBuf::from(env::var_os("CARGO_MANIFEST_DIR").unwrap_or_default());
+    let given = env::var_os("TANKCURVE_LIB_DIR").map(PathBuf::from);
+    let folder = given.unwrap_or_else(|| manifest.join("../../target/staticlib"));
+    println!("cargo:rerun-if-env-changed=TANKCURVE_LIB_DIR");
+    println!(
+        "cargo:rerun-if-changed={}",
+        folder.join("libtankcurve_abi.a").display()
+    );
+    println!("cargo:rustc-link-search=native={}", folder.display());
+    println!("cargo:rustc-link-lib=static=tankcurve_abi");
+}

@@ -1,0 +1,34 @@
+//! Reads a sheet from standard input and writes its curve; then the estimates of lists given here, five
+//! numbers a point, and the passes.
+
+use std::io::{self, Read, Write};
+
+fn main() -> io::Result<()> {
+    let mut sheet = Vec::new();
+    // One byte more than a sheet may have decides that it is too long.
+    io::stdin()
+        .take(tankcurve::MAX_SHEET as u64 + 1)
+        .read_to_end(&mut sheet)?;
+    let mut out = [0; tankcurve::MAX_OUTPUT];
+    let mut standard = io::stdout().lock();
+    standard.write_all(tankcurve::text(&sheet, &mut out))?;
+
+    let minutes = [10, 20, 20, 35];
+    let values = [40, 60, 80, 20];
+    let points = [20, 25, 60];
+    let bandwidths = [10, 15, 20];
+    let mut rows = [0; 15];
+    match tankcurve::smooth(&minutes, &values, &points, &bandwidths, &mut rows) {
+        Ok(passes) => {
+            for row in rows.chunks_exact(5) {
+                writeln!(
+                    standard,
+                    "{} {} {} {} {}",
+                    row[0], row[1], row[2], row[3], row[4]
+                )?;
+            }
+            writeln!(standard, "passes {passes}")
+        }
+        Err(refusal) => writeln!(standard, "{refusal:?}"),
+    }
+}

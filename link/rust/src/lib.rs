@@ -1,0 +1,263 @@
+//! The tank curve for Rust: Epanechnikov kernel regression in exact whole numbers, proved in Rattle.
+//!
+//! Every call takes every content and every length of its lists and answers with what was asked for
+//! or with a [`Refusal`]; on a refusal every lent list holds what it held before. Nothing here checks
+//! or changes what the proved calls answer. Where a length is part of a type here, [`slices`] has the
+//! same call over slices of any length.
+//!
+//! The quoted words are those of document 01. `link/include/tankcurve.h` tells what lies outside the
+//! proof; of that, safe Rust leaves the stack, the compiler's back end and the declarations in
+//! `slices`, which `tests/parameters.rs` tests.
+
+#![deny(unsafe_code)]
+
+pub mod slices;
+
+/// How many samples ("readings") there may be, and how many places the reader's lists of them have.
+pub const MAX_SAMPLES: usize = 1024;
+
+/// How many points ("marks") there may be, and how many places the reader's lists of them have.
+pub const MAX_POINTS: usize = 512;
+
+/// How many bytes a sheet may have; no place is greater.
+pub const MAX_SHEET: usize = 32_768;
+
+/// How many bytes the buffer of [`text`] has; no text is longer.
+pub const MAX_OUTPUT: usize = 31_291;
+
+/// The value of a row of weight 0.
+pub const MISSING: u64 = 65_536;
+
+/// "What the instrument reports", under document 01's numbers.
+#[derive(Clone, Copy, Debug, PartialEq, Eq)]
+pub enum Report {
+    /// "overlong"
+    TooLong = 1,
+    /// "heading"
+    BadHeader = 2,
+    /// "torn line"
+    MalformedLine = 3,
+    /// "early reading"
+    SampleOutOfOrder = 4,
+    /// "early mark"
+    PointOutOfOrder = 5,
+    /// "crowded"
+    TooMany = 6,
+    /// "no marks"
+    NoPoints = 7,
+    /// "uneven"
+    LengthMismatch = 8,
+    /// "half width"
+    BandwidthOutOfRange = 9,
+    /// "edge back"
+    EdgeDecreases = 10,
+    /// "foreign record"
+    InvalidRecord = 11,
+    /// "knob"
+    UnknownPreset = 12,
+    /// "past the clock"
+    GridOverflow = 13,
+}
+
+/// A report with its place: a byte of the sheet, a position in a list, or 0.
+#[derive(Clone, Copy, Debug, PartialEq, Eq)]
+pub struct Refusal {
+    pub report: Report,
+    pub place: u64,
+}
+
+/// The estimate at a point ("row").
+#[derive(Clone, Copy, Debug, PartialEq, Eq)]
+pub struct Estimate {
+    /// How many samples lie before the window.
+    pub left: u64,
+    /// How many samples lie before the window's right edge or on it.
+    pub right: u64,
+    /// The sum of the weights.
+    pub weight: u64,
+    /// The sum of the weights, each times its sample's value.
+    pub sum: u64,
+    /// The sum divided by the weight, or [`MISSING`].
+    pub value: u64,
+}
+
+impl From<[u64; 5]> for Estimate {
+    fn from([left, right, weight, sum, value]: [u64; 5]) -> Estimate {
+        Estimate {
+            left,
+            right,
+            weight,
+            sum,
+            value,
+        }
+    }
+}
+
+/// The running sums ("running record"); the default is the fresh record. `spq` is the sum over the
+/// run of minute to the power p times value to the power q, modulo 2^64.
+#[derive(Clone, Copy, Debug, Default, PartialEq, Eq)]
+pub struct RunningSums {
+    pub left: u64,
+    pub right: u64,
+    pub s00: u64,
+    pub s10: u64,
+    pub s20: u64,
+    pub s01: u64,
+    pub s11: u64,
+    pub s21: u64,
+}
+
+impl From<[u64; 8]> for RunningSums {
+    fn from([left, right, s00, s10, s20, s01, s11, s21]: [u64; 8]) -> RunningSums {
+        RunningSums {
+            left,
+            right,
+            s00,
+            s10,
+            s20,
+            s01,
+            s11,
+            s21,
+        }
+    }
+}
+
+impl From<RunningSums> for [u64; 8] {
+    fn from(r: RunningSums) -> [u64; 8] {
+        [r.left, r.right, r.s00, r.s10, r.s20, r.s01, r.s11, r.s21]
+    }
+}
+
+/// How many samples and points a sheet has.
+#[derive(Clone, Copy, Debug, PartialEq, Eq)]
+pub struct Counts {
+    pub samples: u64,
+    pub points: u64,
+}
+
+/// The estimate at one point ("the question at one mark": the row). Reports 8, 6, 4, 9.
+pub fn evaluate(
+    minutes: &[u16],
+    values: &[u16],
+    point: u16,
+    bandwidth: u32,
+) -> Result<Estimate, Refusal> {
+    let mut row = [0; 5];
+    outcome(slices::evaluate(
+        minutes, values, point, bandwidth, &mut row,
+    ))?;
+    Ok(Estimate::from(row))
+}
+
+/// The values inside the window of one point ("the question at one mark": the run), as that part of
+/// `values`. Reports 8, 6, 4, 9.
+pub fn window<'a>(
+    minutes: &[u16],
+    values: &'a [u16],
+    point: u16,
+    bandwidth: u32,
+) -> Result<&'a [u16], Refusal> {
+    let mut bounds = [0; 2];
+    outcome(slices::window(
+        minutes,
+        values,
+        point,
+        bandwidth,
+        &mut bounds,
+    ))?;
+    let [left, right] = bounds;
+    Ok(values
+        .get(left as usize..right as usize)
+        .unwrap_or_default())
+}
+
+/// Moves the running sums to the next point ("a step"). Reports 8, 6, 11, 9.
+pub fn advance(
+    record: &mut RunningSums,
+    minutes: &[u16],
+    values: &[u16],
+    point: u16,
+    bandwidth: u32,
+) -> Result<(), Refusal> {
+    let mut numbers = <[u64; 8]>::from(*record);
+    let answer = slices::advance(&mut numbers, minutes, values, point, bandwidth);
+    *record = RunningSums::from(numbers);
+    outcome(answer).map(|_| ())
+}
+
+/// The estimates at all points ("the sweep"): five numbers a point in `rows`, and the passes. Reports
+/// 8, 6, 7, 4, 5, 9, 10.
+pub fn smooth(
+    minutes: &[u16],
+    values: &[u16],
+    points: &[u16],
+    bandwidths: &[u32],
+    rows: &mut [u64],
+) -> Result<u64, Refusal> {
+    outcome(slices::smooth(minutes, values, points, bandwidths, rows))
+}
+
+/// Fills an evaluation grid ("the mark filler"). Reports 8, 7, 6, 12, 13.
+pub fn fill(
+    first: u16,
+    spacing: u16,
+    preset: u32,
+    points: &mut [u16],
+    bandwidths: &mut [u32],
+) -> Result<(), Refusal> {
+    outcome(slices::fill(first, spacing, preset, points, bandwidths)).map(|_| ())
+}
+
+/// Reads a sheet ("the reader of the tank sheet"): its samples and points in front of the lists, whose
+/// rest is untouched. Reports 1, 2, 3, 4, 5, 9, 10, 6, 7.
+pub fn read(
+    sheet: &[u8],
+    minutes: &mut [u16; MAX_SAMPLES],
+    values: &mut [u16; MAX_SAMPLES],
+    points: &mut [u16; MAX_POINTS],
+    bandwidths: &mut [u32; MAX_POINTS],
+) -> Result<Counts, Refusal> {
+    let mut counts = [0; 2];
+    outcome(slices::read(
+        sheet,
+        minutes,
+        values,
+        points,
+        bandwidths,
+        &mut counts,
+    ))?;
+    let [samples, points] = counts;
+    Ok(Counts { samples, points })
+}
+
+/// The text that the program writes for a sheet, a refused sheet's text included: the front part of
+/// `out`, whose rest is untouched.
+pub fn text<'a>(sheet: &[u8], out: &'a mut [u8; MAX_OUTPUT]) -> &'a [u8] {
+    let length = slices::detail(slices::text(sheet, out)) as usize;
+    out.get(..length).unwrap_or_default()
+}
+
+/// What a call returned, as its detail or its refusal.
+fn outcome(answer: u64) -> Result<u64, Refusal> {
+    let report = match slices::number(answer) {
+        0 => return Ok(slices::detail(answer)),
+        1 => Report::TooLong,
+        2 => Report::BadHeader,
+        3 => Report::MalformedLine,
+        4 => Report::SampleOutOfOrder,
+        5 => Report::PointOutOfOrder,
+        6 => Report::TooMany,
+        7 => Report::NoPoints,
+        8 => Report::LengthMismatch,
+        9 => Report::BandwidthOutOfRange,
+        10 => Report::EdgeDecreases,
+        11 => Report::InvalidRecord,
+        12 => Report::UnknownPreset,
+        // 13: no call is specified to return a greater number.
+        _ => Report::GridOverflow,
+    };
+    Err(Refusal {
+        report,
+        place: slices::detail(answer),
+    })
+}

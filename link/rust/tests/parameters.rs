@@ -1,0 +1,331 @@
+//! Calls each export with values that tell all its parameters apart: where two of them were exchanged
+//! in a declaration or a wrapper, an answer here would be another one.
+//!
+//! The expected numbers are those of the second implementation in `reference/`.
+
+use tankcurve::{slices, Counts, Estimate, Refusal, Report, RunningSums};
+
+const MINUTES: [u16; 6] = [3, 8, 8, 15, 21, 40];
+const VALUES: [u16; 6] = [5, 7, 11, 13, 29, 31];
+/// Minutes of which that at position 4 is below the one before.
+const FALLING: [u16; 6] = [3, 8, 8, 15, 14, 40];
+
+const SHEET: &[u8] =
+    b"mark,half\n12,7\n14,9\n\nminute,inj,vdk\n11,3,21\n12,1,22\n13,4,23\n30,5,24\n";
+const TEXT: &[u8] = b"mark,half,left,right,weight,sum,vdk\n12,7,0,2,96,2112,22\n14,9,0,2,152,3352,22\n\nkept,passes\n3,2\n";
+/// A sheet whose line at byte 52 has a minute below the one before.
+const FALLING_SHEET: &[u8] =
+    b"mark,half\n12,7\n14,9\n\nminute,inj,vdk\n11,3,21\n12,1,22\n11,4,23\n30,5,24\n";
+const REFUSED: &[u8] = b"refused,place\n4,52\n";
+
+fn refused<T>(report: Report, place: u64) -> Result<T, Refusal> {
+    Err(Refusal { report, place })
+}
+
+#[test]
+fn evaluate() {
+    let mut row = [90, 91, 92, 93, 94];
+    assert_eq!(
+        slices::evaluate(&FALLING, &VALUES, 14, 7, &mut row),
+        16 * 4 + 4
+    );
+    assert_eq!(row, [90, 91, 92, 93, 94]);
+    assert_eq!(slices::evaluate(&MINUTES, &VALUES, 14, 7, &mut row), 0);
+    assert_eq!(row, [1, 5, 74, 858, 12]);
+    let mut long = [90; 6];
+    assert_eq!(slices::evaluate(&MINUTES, &VALUES, 14, 7, &mut long), 8);
+    assert_eq!(long, [90; 6]);
+
+    let estimate = Estimate {
+        left: 1,
+        right: 5,
+        weight: 74,
+        sum: 858,
+        value: 12,
+    };
+    assert_eq!(tankcurve::evaluate(&MINUTES, &VALUES, 14, 7), Ok(estimate));
+    assert_eq!(
+        tankcurve::evaluate(&FALLING, &VALUES, 14, 7),
+        refused(Report::SampleOutOfOrder, 4)
+    );
+}
+
+/// Empty lists, whose pointers lead nowhere: case C4 of document 01.
+#[test]
+fn empty_lists() {
+    let missing = Estimate {
+        left: 0,
+        right: 0,
+        weight: 0,
+        sum: 0,
+        value: tankcurve::MISSING,
+    };
+    assert_eq!(tankcurve::evaluate(&[], &[], 5, 1), Ok(missing));
+    assert_eq!(tankcurve::window(&[], &[], 5, 1), Ok(&[][..]));
+    assert_eq!(
+        tankcurve::smooth(&[], &[], &[], &[], &mut []),
+        refused(Report::NoPoints, 0)
+    );
+    assert_eq!(
+        tankcurve::fill(0, 0, 0, &mut [], &mut []),
+        refused(Report::NoPoints, 0)
+    );
+    assert_eq!(slices::advance(&mut [], &[], &[], 5, 1), 8);
+    assert_eq!(
+        slices::read(&[], &mut [], &mut [], &mut [], &mut [], &mut []),
+        8
+    );
+    assert_eq!(slices::text(&[], &mut []), 8);
+    let mut out = [90; tankcurve::MAX_OUTPUT];
+    assert_eq!(tankcurve::text(&[], &mut out), b"refused,place\n2,0\n");
+}
+
+#[test]
+fn window() {
+    let mut bounds = [90, 91];
+    assert_eq!(
+        slices::window(&FALLING, &VALUES, 14, 7, &mut bounds),
+        16 * 4 + 4
+    );
+    assert_eq!(bounds, [90, 91]);
+    assert_eq!(slices::window(&MINUTES, &VALUES, 14, 7, &mut bounds), 0);
+    assert_eq!(bounds, [1, 5]);
+    let mut long = [90; 3];
+    assert_eq!(slices::window(&MINUTES, &VALUES, 14, 7, &mut long), 8);
+    assert_eq!(long, [90; 3]);
+
+    let run: &[u16] = &[7, 11, 13, 29];
+    assert_eq!(tankcurve::window(&MINUTES, &VALUES, 14, 7), Ok(run));
+    assert_eq!(
+        tankcurve::window(&FALLING, &VALUES, 14, 7),
+        refused(Report::SampleOutOfOrder, 4)
+    );
+}
+
+#[test]
+fn advance() {
+    let before = [0, 3, 100, 200, 300, 400, 500, u64::MAX];
+    let after = [1, 5, 101, 233, 957, 437, 1289, 15_668];
+    let mut record = before;
+    assert_eq!(slices::advance(&mut record, &MINUTES, &VALUES, 16, 0), 9);
+    assert_eq!(record, before);
+    assert_eq!(slices::advance(&mut record, &MINUTES, &VALUES, 16, 8), 0);
+    assert_eq!(record, after);
+    let mut long = [1; 9];
+    assert_eq!(slices::advance(&mut long, &MINUTES, &VALUES, 16, 8), 8);
+    assert_eq!(long, [1; 9]);
+
+    let sums = RunningSums {
+        left: 0,
+        right: 3,
+        s00: 100,
+        s10: 200,
+        s20: 300,
+        s01: 400,
+        s11: 500,
+        s21: u64::MAX,
+    };
+    let mut running = sums;
+    assert_eq!(
+        tankcurve::advance(&mut running, &MINUTES, &VALUES, 16, 0),
+        refused(Report::BandwidthOutOfRange, 0)
+    );
+    assert_eq!(running, sums);
+    assert_eq!(
+        tankcurve::advance(&mut running, &MINUTES, &VALUES, 16, 8),
+        Ok(())
+    );
+    let moved = RunningSums {
+        left: 1,
+        right: 5,
+        s00: 101,
+        s10: 233,
+        s20: 957,
+        s01: 437,
+        s11: 1289,
+        s21: 15_668,
+    };
+    assert_eq!(running, moved);
+}
+
+#[test]
+fn smooth() {
+    let before: [u64; 15] = std::array::from_fn(|i| 90 + i as u64);
+    let after = [0, 4, 70, 630, 9, 1, 5, 74, 858, 12, 3, 5, 78, 2022, 26];
+    let mut rows = before;
+    assert_eq!(
+        slices::smooth(&MINUTES, &VALUES, &[9, 14, 22], &[6, 7, 16], &mut rows),
+        16 * 2 + 10
+    );
+    assert_eq!(rows, before);
+    assert_eq!(
+        slices::smooth(&MINUTES, &VALUES, &[9, 14, 22], &[6, 7, 8], &mut rows),
+        16 * 8
+    );
+    assert_eq!(rows, after);
+    let mut long = [90; 16];
+    assert_eq!(
+        slices::smooth(&MINUTES, &VALUES, &[9, 14, 22], &[6, 7, 8], &mut long),
+        8
+    );
+    assert_eq!(long, [90; 16]);
+
+    let mut typed = before;
+    assert_eq!(
+        tankcurve::smooth(&MINUTES, &VALUES, &[9, 14, 22], &[6, 7, 16], &mut typed),
+        refused(Report::EdgeDecreases, 2)
+    );
+    assert_eq!(
+        tankcurve::smooth(&MINUTES, &VALUES, &[9, 14, 22], &[6, 7, 8], &mut typed),
+        Ok(8)
+    );
+    assert_eq!(typed, after);
+}
+
+/// As many points as samples, so that no exchange of lists shows in their lengths.
+#[test]
+fn smooth_lists_of_one_length() {
+    let points = [9, 14, 22, 30, 31, 40];
+    let bandwidths = [6, 7, 8, 9, 10, 11];
+    let mut rows = [90; 30];
+    assert_eq!(
+        slices::smooth(&MINUTES, &VALUES, &points, &bandwidths, &mut rows),
+        16 * 11
+    );
+    assert_eq!(
+        rows,
+        [
+            0, 4, 70, 630, 9, 1, 5, 74, 858, 12, 3, 5, 78, 2022, 26, 4, 5, 0, 0, 65_536, 4, 6, 19,
+            589, 31, 5, 6, 121, 3751, 31
+        ]
+    );
+}
+
+#[test]
+fn fill() {
+    let mut points = [90, 91, 92];
+    let mut bandwidths = [93, 94, 95];
+    assert_eq!(slices::fill(100, 7, 12, &mut points, &mut bandwidths), 12);
+    assert_eq!((points, bandwidths), ([90, 91, 92], [93, 94, 95]));
+    assert_eq!(slices::fill(100, 7, 4, &mut points, &mut bandwidths), 0);
+    assert_eq!((points, bandwidths), ([100, 107, 114], [120, 120, 120]));
+    assert_eq!(slices::fill(100, 7, 4, &mut points, &mut [90, 91]), 8);
+
+    assert_eq!(
+        tankcurve::fill(65_530, 3, 4, &mut points, &mut bandwidths),
+        refused(Report::GridOverflow, 0)
+    );
+    assert_eq!(
+        tankcurve::fill(100, 9, 5, &mut points, &mut bandwidths),
+        Ok(())
+    );
+    assert_eq!((points, bandwidths), ([100, 109, 118], [180, 180, 180]));
+}
+
+#[test]
+fn read() {
+    let mut minutes = [90; 1024];
+    let mut values = [91; 1024];
+    let mut points = [92; 512];
+    let mut bandwidths = [93; 512];
+    let mut counts = [94, 95];
+    assert_eq!(
+        slices::read(
+            FALLING_SHEET,
+            &mut minutes,
+            &mut values,
+            &mut points,
+            &mut bandwidths,
+            &mut counts
+        ),
+        16 * 52 + 4
+    );
+    assert_eq!((minutes, values), ([90; 1024], [91; 1024]));
+    assert_eq!((points, bandwidths), ([92; 512], [93; 512]));
+    assert_eq!(counts, [94, 95]);
+    assert_eq!(
+        slices::read(
+            SHEET,
+            &mut minutes,
+            &mut values,
+            &mut points,
+            &mut bandwidths,
+            &mut counts
+        ),
+        0
+    );
+    assert_eq!(
+        (&minutes[..3], &minutes[3..]),
+        (&[11, 13, 30][..], &[90; 1021][..])
+    );
+    assert_eq!(
+        (&values[..3], &values[3..]),
+        (&[21, 23, 24][..], &[91; 1021][..])
+    );
+    assert_eq!(
+        (&points[..2], &points[2..]),
+        (&[12, 14][..], &[92; 510][..])
+    );
+    assert_eq!(
+        (&bandwidths[..2], &bandwidths[2..]),
+        (&[7, 9][..], &[93; 510][..])
+    );
+    assert_eq!(counts, [3, 2]);
+    // A list of another length, each in turn.
+    for place in 0..5 {
+        let lengths: [usize; 5] =
+            std::array::from_fn(|i| [1024, 1024, 512, 512, 2][i] - usize::from(i == place));
+        assert_eq!(
+            slices::read(
+                SHEET,
+                &mut minutes[..lengths[0]],
+                &mut values[..lengths[1]],
+                &mut points[..lengths[2]],
+                &mut bandwidths[..lengths[3]],
+                &mut counts[..lengths[4]]
+            ),
+            8
+        );
+    }
+
+    let mut typed = ([90; 1024], [91; 1024], [92; 512], [93; 512]);
+    assert_eq!(
+        tankcurve::read(
+            FALLING_SHEET,
+            &mut typed.0,
+            &mut typed.1,
+            &mut typed.2,
+            &mut typed.3
+        ),
+        refused(Report::SampleOutOfOrder, 52)
+    );
+    assert_eq!(
+        tankcurve::read(
+            SHEET,
+            &mut typed.0,
+            &mut typed.1,
+            &mut typed.2,
+            &mut typed.3
+        ),
+        Ok(Counts {
+            samples: 3,
+            points: 2
+        })
+    );
+    assert_eq!(typed, (minutes, values, points, bandwidths));
+}
+
+#[test]
+fn text() {
+    let mut out = [90; 31_291];
+    assert_eq!(slices::text(FALLING_SHEET, &mut out), 16 * 19);
+    assert_eq!((&out[..19], &out[19..]), (REFUSED, &[90; 31_272][..]));
+    assert_eq!(slices::text(SHEET, &mut out), 16 * 94);
+    assert_eq!((&out[..94], &out[94..]), (TEXT, &[90; 31_197][..]));
+    let mut long = [90; 31_292];
+    assert_eq!(slices::text(SHEET, &mut long), 8);
+    assert_eq!(long, [90; 31_292]);
+
+    assert_eq!(tankcurve::text(FALLING_SHEET, &mut out), REFUSED);
+    assert_eq!(tankcurve::text(SHEET, &mut out), TEXT);
+}

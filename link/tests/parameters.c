@@ -1,0 +1,254 @@
+/*
+ * Calls each export through tankcurve.h with values that tell all its parameters apart: where two of them were exchanged in a declaration,
+ * an answer here would be another one. Ends with a message and status 1 at the first difference.
+ *
+ * The expected numbers are those of the second implementation in reference/.
+ */
+#include "tankcurve.h"
+
+#include <inttypes.h>
+#include <stdio.h>
+#include <stdlib.h>
+#include <string.h>
+
+#define SAMPLES 6
+
+static const uint16_t minutes[SAMPLES] = {3, 8, 8, 15, 21, 40};
+static const uint16_t values[SAMPLES] = {5, 7, 11, 13, 29, 31};
+/* Minutes of which that at position 4 is below the one before. */
+static const uint16_t falling[SAMPLES] = {3, 8, 8, 15, 14, 40};
+
+static const char sheet[] = "mark,half\n12,7\n14,9\n\nminute,inj,vdk\n11,3,21\n12,1,22\n13,4,23\n30,5,24\n";
+static const char curve[] = "mark,half,left,right,weight,sum,vdk\n12,7,0,2,96,2112,22\n14,9,0,2,152,3352,22\n\nkept,passes\n3,2\n";
+/* A sheet whose line at byte 52 has a minute below the one before. */
+static const char falling_sheet[] = "mark,half\n12,7\n14,9\n\nminute,inj,vdk\n11,3,21\n12,1,22\n11,4,23\n30,5,24\n";
+static const char refused[] = "refused,place\n4,52\n";
+
+static int compared;
+
+static void same(const char *what, uint64_t got, uint64_t expected)
+{
+    if (got != expected) {
+        printf("parameters: %s: %" PRIu64 " and not %" PRIu64 "\n", what, got, expected);
+        exit(1);
+    }
+    compared++;
+}
+
+/* Compares a list as it is in memory. */
+static void same_list(const char *what, const void *got, const void *expected, size_t size)
+{
+    for (size_t i = 0; i < size; i++) {
+        if (((const uint8_t *)got)[i] != ((const uint8_t *)expected)[i]) {
+            printf("parameters: %s differs at byte %zu\n", what, i);
+            exit(1);
+        }
+    }
+    compared++;
+}
+
+static void answers(void)
+{
+    same("number of an answer", tankcurve_number(16 * 52 + 13), TANKCURVE_GRID_OVERFLOW);
+    same("detail of an answer", tankcurve_detail(16 * 52 + 13), 52);
+}
+
+static void evaluate(void)
+{
+    const uint64_t before[] = {90, 91, 92, 93, 94, 95};
+    const uint64_t after[] = {1, 5, 74, 858, 12, 95};
+    uint64_t row[TANKCURVE_ROW_LEN + 1] = {90, 91, 92, 93, 94, 95};
+    same("evaluate, falling minutes", tankcurve_evaluate(falling, SAMPLES, values, SAMPLES, 14, 7, row, TANKCURVE_ROW_LEN),
+         16 * 4 + TANKCURVE_SAMPLE_OUT_OF_ORDER);
+    same("evaluate, one value less", tankcurve_evaluate(minutes, SAMPLES, values, SAMPLES - 1, 14, 7, row, TANKCURVE_ROW_LEN),
+         TANKCURVE_LENGTH_MISMATCH);
+    same("evaluate, a longer row", tankcurve_evaluate(minutes, SAMPLES, values, SAMPLES, 14, 7, row, TANKCURVE_ROW_LEN + 1),
+         TANKCURVE_LENGTH_MISMATCH);
+    same_list("evaluate, row of a refusal", row, before, sizeof before);
+    same("evaluate", tankcurve_evaluate(minutes, SAMPLES, values, SAMPLES, 14, 7, row, TANKCURVE_ROW_LEN), 0);
+    same_list("evaluate, row", row, after, sizeof after);
+}
+
+/* Empty lists have a pointer that is not null: case C4 of document 01. */
+static void empty_lists(void)
+{
+    const uint64_t after[] = {0, 0, 0, 0, TANKCURVE_MISSING};
+    uint64_t row[TANKCURVE_ROW_LEN] = {90, 91, 92, 93, 94};
+    same("evaluate, no samples", tankcurve_evaluate(minutes, 0, values, 0, 5, 1, row, TANKCURVE_ROW_LEN), 0);
+    same_list("evaluate, row of no samples", row, after, sizeof after);
+}
+
+static void window(void)
+{
+    const uint64_t before[] = {90, 91, 92};
+    const uint64_t after[] = {1, 5, 92};
+    uint64_t bounds[TANKCURVE_BOUNDS_LEN + 1] = {90, 91, 92};
+    same("window, falling minutes", tankcurve_window(falling, SAMPLES, values, SAMPLES, 14, 7, bounds, TANKCURVE_BOUNDS_LEN),
+         16 * 4 + TANKCURVE_SAMPLE_OUT_OF_ORDER);
+    same("window, one value less", tankcurve_window(minutes, SAMPLES, values, SAMPLES - 1, 14, 7, bounds, TANKCURVE_BOUNDS_LEN),
+         TANKCURVE_LENGTH_MISMATCH);
+    same("window, longer bounds", tankcurve_window(minutes, SAMPLES, values, SAMPLES, 14, 7, bounds, TANKCURVE_BOUNDS_LEN + 1),
+         TANKCURVE_LENGTH_MISMATCH);
+    same_list("window, bounds of a refusal", bounds, before, sizeof before);
+    same("window", tankcurve_window(minutes, SAMPLES, values, SAMPLES, 14, 7, bounds, TANKCURVE_BOUNDS_LEN), 0);
+    same_list("window, bounds", bounds, after, sizeof after);
+}
+
+static void advance(void)
+{
+    const uint64_t before[] = {0, 3, 100, 200, 300, 400, 500, UINT64_MAX, 90};
+    const uint64_t after[] = {1, 5, 101, 233, 957, 437, 1289, 15668, 90};
+    const uint64_t crossed[] = {3, 1, 0, 0, 0, 0, 0, 0};
+    uint64_t record[TANKCURVE_RECORD_LEN + 1] = {0, 3, 100, 200, 300, 400, 500, UINT64_MAX, 90};
+    uint64_t other[TANKCURVE_RECORD_LEN] = {3, 1, 0, 0, 0, 0, 0, 0};
+    same("advance, bandwidth 0", tankcurve_advance(record, TANKCURVE_RECORD_LEN, minutes, SAMPLES, values, SAMPLES, 16, 0),
+         TANKCURVE_BANDWIDTH_OUT_OF_RANGE);
+    same("advance, one value less", tankcurve_advance(record, TANKCURVE_RECORD_LEN, minutes, SAMPLES, values, SAMPLES - 1, 16, 8),
+         TANKCURVE_LENGTH_MISMATCH);
+    same("advance, a longer record", tankcurve_advance(record, TANKCURVE_RECORD_LEN + 1, minutes, SAMPLES, values, SAMPLES, 16, 8),
+         TANKCURVE_LENGTH_MISMATCH);
+    same_list("advance, record of a refusal", record, before, sizeof before);
+    same("advance, a crossed record", tankcurve_advance(other, TANKCURVE_RECORD_LEN, minutes, SAMPLES, values, SAMPLES, 16, 8),
+         TANKCURVE_INVALID_RECORD);
+    same_list("advance, the crossed record", other, crossed, sizeof crossed);
+    same("advance", tankcurve_advance(record, TANKCURVE_RECORD_LEN, minutes, SAMPLES, values, SAMPLES, 16, 8), 0);
+    same_list("advance, record", record, after, sizeof after);
+}
+
+static void smooth(void)
+{
+    const uint16_t points[] = {9, 14, 22};
+    const uint32_t bandwidths[] = {6, 7, 8};
+    const uint32_t widening[] = {6, 7, 16};
+    const uint64_t before[] = {90, 91, 92, 93, 94, 95, 96, 97, 98, 99, 100, 101, 102, 103, 104, 105};
+    const uint64_t after[] = {0, 4, 70, 630, 9, 1, 5, 74, 858, 12, 3, 5, 78, 2022, 26, 105};
+    uint64_t rows[] = {90, 91, 92, 93, 94, 95, 96, 97, 98, 99, 100, 101, 102, 103, 104, 105};
+    same("smooth, an edge decreases", tankcurve_smooth(minutes, SAMPLES, values, SAMPLES, points, 3, widening, 3, rows, 15),
+         16 * 2 + TANKCURVE_EDGE_DECREASES);
+    same("smooth, one value less", tankcurve_smooth(minutes, SAMPLES, values, SAMPLES - 1, points, 3, bandwidths, 3, rows, 15),
+         TANKCURVE_LENGTH_MISMATCH);
+    same("smooth, one bandwidth less", tankcurve_smooth(minutes, SAMPLES, values, SAMPLES, points, 3, bandwidths, 2, rows, 15),
+         TANKCURVE_LENGTH_MISMATCH);
+    same("smooth, longer rows", tankcurve_smooth(minutes, SAMPLES, values, SAMPLES, points, 3, bandwidths, 3, rows, 16),
+         TANKCURVE_LENGTH_MISMATCH);
+    same_list("smooth, rows of a refusal", rows, before, sizeof before);
+    same("smooth", tankcurve_smooth(minutes, SAMPLES, values, SAMPLES, points, 3, bandwidths, 3, rows, 15), 16 * 8);
+    same_list("smooth, rows", rows, after, sizeof after);
+}
+
+/* As many points as samples, so that no exchange of lists shows in their lengths. */
+static void smooth_lists_of_one_length(void)
+{
+    const uint16_t points[SAMPLES] = {9, 14, 22, 30, 31, 40};
+    const uint32_t bandwidths[SAMPLES] = {6, 7, 8, 9, 10, 11};
+    const uint64_t after[] = {0, 4, 70, 630, 9, 1, 5, 74, 858, 12, 3, 5, 78, 2022, 26, 4, 5, 0, 0, TANKCURVE_MISSING,
+                              4, 6, 19, 589, 31, 5, 6, 121, 3751, 31};
+    uint64_t rows[SAMPLES * TANKCURVE_ROW_LEN] = {0};
+    same("smooth, six points",
+         tankcurve_smooth(minutes, SAMPLES, values, SAMPLES, points, SAMPLES, bandwidths, SAMPLES, rows, SAMPLES * TANKCURVE_ROW_LEN),
+         16 * 11);
+    same_list("smooth, rows of six points", rows, after, sizeof after);
+}
+
+static void fill(void)
+{
+    const uint16_t points_before[] = {90, 91, 92};
+    const uint32_t bandwidths_before[] = {93, 94, 95};
+    const uint16_t points_after[] = {100, 107, 114};
+    const uint32_t bandwidths_after[] = {120, 120, 120};
+    uint16_t points[] = {90, 91, 92};
+    uint32_t bandwidths[] = {93, 94, 95};
+    same("fill, preset 12", tankcurve_fill(100, 7, 12, points, 3, bandwidths, 3), TANKCURVE_UNKNOWN_PRESET);
+    same("fill, past 65535", tankcurve_fill(65530, 3, 4, points, 3, bandwidths, 3), TANKCURVE_GRID_OVERFLOW);
+    same("fill, no points", tankcurve_fill(100, 7, 4, points, 0, bandwidths, 0), TANKCURVE_NO_POINTS);
+    same("fill, one bandwidth less", tankcurve_fill(100, 7, 4, points, 3, bandwidths, 2), TANKCURVE_LENGTH_MISMATCH);
+    same_list("fill, points of a refusal", points, points_before, sizeof points_before);
+    same_list("fill, bandwidths of a refusal", bandwidths, bandwidths_before, sizeof bandwidths_before);
+    same("fill", tankcurve_fill(100, 7, 4, points, 3, bandwidths, 3), 0);
+    same_list("fill, points", points, points_after, sizeof points_after);
+    same_list("fill, bandwidths", bandwidths, bandwidths_after, sizeof bandwidths_after);
+}
+
+static void read(void)
+{
+    static uint16_t read_minutes[TANKCURVE_MAX_SAMPLES], read_values[TANKCURVE_MAX_SAMPLES], points[TANKCURVE_MAX_POINTS];
+    static uint32_t bandwidths[TANKCURVE_MAX_POINTS];
+    uint64_t counts[] = {94, 95};
+    /* The expected lists: at first the lent ones, then with the used parts in front. */
+    static uint16_t all_minutes[TANKCURVE_MAX_SAMPLES], all_values[TANKCURVE_MAX_SAMPLES], all_points[TANKCURVE_MAX_POINTS];
+    static uint32_t all_bandwidths[TANKCURVE_MAX_POINTS];
+    const uint64_t counts_before[] = {94, 95};
+    const uint16_t used_minutes[] = {11, 13, 30}, used_values[] = {21, 23, 24}, used_points[] = {12, 14};
+    const uint32_t used_bandwidths[] = {7, 9};
+    const uint64_t counts_after[] = {3, 2};
+    for (size_t i = 0; i < TANKCURVE_MAX_SAMPLES; i++) {
+        read_minutes[i] = all_minutes[i] = 90;
+        read_values[i] = all_values[i] = 91;
+    }
+    for (size_t i = 0; i < TANKCURVE_MAX_POINTS; i++) {
+        points[i] = all_points[i] = 92;
+        bandwidths[i] = all_bandwidths[i] = 93;
+    }
+    same("read, a line out of order",
+         tankcurve_read((const uint8_t *)falling_sheet, strlen(falling_sheet), read_minutes, TANKCURVE_MAX_SAMPLES, read_values,
+                        TANKCURVE_MAX_SAMPLES, points, TANKCURVE_MAX_POINTS, bandwidths, TANKCURVE_MAX_POINTS, counts,
+                        TANKCURVE_COUNTS_LEN),
+         16 * 52 + TANKCURVE_SAMPLE_OUT_OF_ORDER);
+    /* A list of another length, each in turn. */
+    for (int k = 0; k < 5; k++)
+        same("read, a shorter list",
+             tankcurve_read((const uint8_t *)sheet, strlen(sheet), read_minutes, TANKCURVE_MAX_SAMPLES - (k == 0), read_values,
+                            TANKCURVE_MAX_SAMPLES - (k == 1), points, TANKCURVE_MAX_POINTS - (k == 2), bandwidths,
+                            TANKCURVE_MAX_POINTS - (k == 3), counts, TANKCURVE_COUNTS_LEN - (k == 4)),
+             TANKCURVE_LENGTH_MISMATCH);
+    same_list("read, minutes of a refusal", read_minutes, all_minutes, sizeof all_minutes);
+    same_list("read, values of a refusal", read_values, all_values, sizeof all_values);
+    same_list("read, points of a refusal", points, all_points, sizeof all_points);
+    same_list("read, bandwidths of a refusal", bandwidths, all_bandwidths, sizeof all_bandwidths);
+    same_list("read, counts of a refusal", counts, counts_before, sizeof counts_before);
+
+    same("read",
+         tankcurve_read((const uint8_t *)sheet, strlen(sheet), read_minutes, TANKCURVE_MAX_SAMPLES, read_values, TANKCURVE_MAX_SAMPLES,
+                        points, TANKCURVE_MAX_POINTS, bandwidths, TANKCURVE_MAX_POINTS, counts, TANKCURVE_COUNTS_LEN),
+         0);
+    memcpy(all_minutes, used_minutes, sizeof used_minutes);
+    memcpy(all_values, used_values, sizeof used_values);
+    memcpy(all_points, used_points, sizeof used_points);
+    memcpy(all_bandwidths, used_bandwidths, sizeof used_bandwidths);
+    same_list("read, minutes", read_minutes, all_minutes, sizeof all_minutes);
+    same_list("read, values", read_values, all_values, sizeof all_values);
+    same_list("read, points", points, all_points, sizeof all_points);
+    same_list("read, bandwidths", bandwidths, all_bandwidths, sizeof all_bandwidths);
+    same_list("read, counts", counts, counts_after, sizeof counts_after);
+}
+
+static void text(void)
+{
+    static uint8_t out[TANKCURVE_MAX_OUTPUT], all[TANKCURVE_MAX_OUTPUT];
+    memset(out, 90, sizeof out);
+    memset(all, 90, sizeof all);
+    same("text, a shorter buffer", tankcurve_text((const uint8_t *)sheet, strlen(sheet), out, sizeof out - 1), TANKCURVE_LENGTH_MISMATCH);
+    same_list("text, buffer of a refusal", out, all, sizeof all);
+    same("text, a refused sheet", tankcurve_text((const uint8_t *)falling_sheet, strlen(falling_sheet), out, sizeof out), 16 * 19);
+    memcpy(all, refused, strlen(refused));
+    same_list("text, buffer of a refused sheet", out, all, sizeof all);
+    same("text", tankcurve_text((const uint8_t *)sheet, strlen(sheet), out, sizeof out), 16 * 94);
+    memcpy(all, curve, strlen(curve));
+    same_list("text, buffer", out, all, sizeof all);
+}
+
+int main(void)
+{
+    answers();
+    evaluate();
+    empty_lists();
+    window();
+    advance();
+    smooth();
+    smooth_lists_of_one_length();
+    fill();
+    read();
+    text();
+    printf("parameters: %d comparisons passed\n", compared);
+    return 0;
+}
