@@ -6,6 +6,7 @@ pub mod Cases
 pub mod Checks
 pub mod Claim
 pub mod Decimal
+pub mod EqualSamples
 pub mod Grids
 pub mod Kernel
 pub mod Modulo

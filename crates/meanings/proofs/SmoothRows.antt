@@ -5,7 +5,7 @@ use mathlib.Core.Path.{_≡_, refl, sym, ap, _∙_}
 use mathlib.Core.Logic.{_⊎_, inl, inr}
 use mathlib.Core.Option.{none}
 use mathlib.Core.List.{List, [], _∷_, _++_}
-use native.Mathlib.Nat.{not-suc-le-zero, le-of-suc-le-suc, eq-or-lt-of-le}
+use native.Mathlib.Nat.{not-suc-le-zero, le-of-suc-le, le-of-suc-le-suc, eq-or-lt-of-le}
 use native.Mathlib.Omega.{arith}
 use borrow.Author.Tests.{le-ltb, ne-eqb}
 use lib.ListN.{length, getD, take, drop, length-append, length-drop}
@@ -16,8 +16,8 @@ use Rattle.meanings.specs.Limits.{full, max-u16}
 use Rattle.meanings.specs.Moves.{Move, moves}
 use Rattle.meanings.specs.Reports.{Answer, given, first-of, decreases, smooth-checks, smooth-size-checks, smooth-order-checks, evaluate-checks}
 use Rattle.meanings.specs.Estimate.{estimate, fields, rows}
-use Rattle.meanings.specs.Running.{fresh, settled, after, passes}
-use Rattle.meanings.specs.Calls.{evaluate, smooth, smooth-refusal, smooth-rows}
+use Rattle.meanings.specs.Running.{fresh, settled, after-step, after, passes}
+use Rattle.meanings.specs.Calls.{evaluate, evaluate-refusal, smooth, smooth-refusal, smooth-rows}
 use Rattle.meanings.proofs.Checks.{differ-same, given-accepted, none-holds, none-of-both}
 use Rattle.meanings.proofs.Passes.{after-append}
 use Rattle.meanings.proofs.Steps.{Small}
@@ -47,6 +47,14 @@ row-at-point ts vs zs hs (suc n) k l = by (eq-or-lt-of-le (le-of-suc-le-suc l)) 
         let d = length-drop (5 * k) M in
         rw (drop-append-le (5 * k) M F (omega arith), take-append-le 5 (drop (5 * k) M) F (omega arith)) (f m)
 
+-- the question at one mark refuses none of what an accepted sweep holds
+point-accepted : (ts vs zs hs : List ℕ) (r k : ℕ) → SmoothAccepted ts vs zs hs r → lowest (decreases ts) (length ts) ≡ none → k < length zs
+    → evaluate-refusal full ts vs (getD hs k 0) ≡ none
+point-accepted ts vs zs hs r k a ordered l =
+    let b = a .bandwidths k l in
+    let positive : getD hs k 0 ≡ 0 → ⊥ = λ e. omega arith in
+    rw (differ-same _ _ (a .even), le-ltb _ _ (a .few), ordered, ne-eqb _ 0 positive, le-ltb _ _ (b .1))
+
 pub smooth-row-is-evaluate : (ts vs zs hs rs : List ℕ) (n k : ℕ) → smooth full ts vs zs hs rs ≡ given n → k < length zs
     → (evaluate full ts vs (getD zs k 0) (getD hs k 0) ≡ given (estimate ts vs (getD zs k 0) (getD hs k 0)))
     × (take 5 (drop (5 * k) (smooth-rows full ts vs zs hs rs)) ≡ fields (estimate ts vs (getD zs k 0) (getD hs k 0)))
@@ -57,11 +65,7 @@ smooth-row-is-evaluate ts vs zs hs rs n k q l =
     let o =
     none-holds (smooth-order-checks ts zs hs)
     (none-of-both (smooth-size-checks full ts vs zs hs (length rs)) (smooth-order-checks ts zs hs) f .1) in
-    let b = a .bandwidths k l in (
-      rw
-          (differ-same _ _ (a .even), le-ltb _ _ (a .few), o .0, ne-eqb _ 0 (λ (e : getD hs k 0 ≡ 0). omega arith), le-ltb _ _ (b .1)),
-      rw f (row-at-point ts vs zs hs (length zs) k l),
-    )
+    (rw (point-accepted ts vs zs hs (length rs) k a (o .0) l), rw f (row-at-point ts vs zs hs (length zs) k l))
 
 -- one step more in front of the rest
 moves-suc : (zs hs : List ℕ) (k : ℕ) → k < length zs → k < length hs
@@ -76,7 +80,10 @@ pub smooth-is-one-step-a-point : (ts vs zs hs : List ℕ) (r : ℕ) → Small ts
     → after ts vs fresh (moves (take k zs) (take k hs)) ≡ running-at ts vs zs hs k
 smooth-is-one-step-a-point ts vs zs hs r s a zero l = refl
 smooth-is-one-step-a-point ts vs zs hs r s a (suc k) l =
-    let m : Move = record { point = getD zs k 0; bandwidth = getD hs k 0 } in
-    let before = smooth-is-one-step-a-point ts vs zs hs r s a k (omega arith) in
-    rw (moves-suc zs hs k l (let e = a .even-points in omega arith), after-append ts vs fresh (moves (take k zs) (take k hs)) (m ∷ []), before)
-    (ap (settled (running-at ts vs zs hs k)) (step-accepted ts vs zs hs r s a k l))
+    let m : k < length hs = rw (a .even-points) at l in
+    let before = smooth-is-one-step-a-point ts vs zs hs r s a k (le-of-suc-le l) in
+    let step : Move = record { point = getD zs k 0; bandwidth = getD hs k 0 } in
+    ap (after ts vs fresh) (moves-suc zs hs k l m)
+    ∙ after-append ts vs fresh (moves (take k zs) (take k hs)) (step ∷ [])
+    ∙ ap (λ (x : RunningSums). after-step ts vs x step) before
+    ∙ ap (settled (running-at ts vs zs hs k)) (step-accepted ts vs zs hs r s a k l)
