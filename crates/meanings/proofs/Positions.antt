@@ -1,11 +1,11 @@
 -- The book's positions: a test that is true exactly from a up to but without b lists the positions between a and b. So what an accepted
 -- step adds is between the old edge and the new one, and taken and let go always hold the positions from 0 up to an edge.
-use Prim.Native.Nat.{ℕ, zero, suc, _+_, _-_, _≤_, _<_, min, zero-le}
+use Prim.Native.Nat.{ℕ, zero, suc, _+_, _-_, _≤_, _<_, min, zero-le, suc-le-suc}
 use mathlib.Core.Path.{_≡_, refl, sym, ap, _∙_}
 use mathlib.Core.Logic.{_↔_}
 use mathlib.Core.Bool.{Bool, true, false, true≢false, not, _||_}
 use mathlib.Core.List.{List, [], _∷_, _++_, append-nil, append-assoc}
-use native.Mathlib.Nat.{add-zero, add-suc, add-assoc, sub-zero}
+use native.Mathlib.Nat.{add-zero, add-suc, add-assoc, sub-zero, le-refl, le-of-lt, min-le-right}
 use native.Mathlib.Decide.{decLt}
 use native.Mathlib.Omega.{arith}
 use borrow.Author.Tests.{ltb-true, ltb-false, lt-ltb, le-ltb, eqb-true, eqb-false, not-true}
@@ -60,24 +60,30 @@ already-listed i n = rw (listed-below i n) (λ e. ltb-true i n e, λ l. lt-ltb i
 pub not-yet-listed : (i n : ℕ) → (not (listed i (between 0 n)) ≡ true) ↔ (n ≤ i)
 not-yet-listed i n = rw (listed-below i n) (λ e. ltb-false i n (not-true _ e), λ l. ap not (le-ltb i n l))
 
+-- a position below n, of a stretch that ends at b or at n
+below-the-cut : (a b i n : ℕ) → i < n → ((a ≤ i) × (i < b)) ↔ ((a ≤ i) × (i < min b n))
+below-the-cut a b i n l = (λ w. omega arith, λ w. omega arith)
+
+-- the stretch with its last position, and one without it
+cut-last : (a b n : ℕ) → b ≤ suc n → (a ≤ n) × (n < b) → (min b n - a ≡ n - a) × (b - a ≡ suc (n - a)) × (a + (n - a) ≡ n)
+cut-last a b n l w = (omega arith, omega arith, omega arith)
+
+cut-nothing : (a b n : ℕ) → b ≤ suc n → ¬ ((a ≤ n) × (n < b)) → min b n - a ≡ b - a
+cut-nothing a b n l outside = by (decLt n b)
+  where
+    by : Dec (n < b) → min b n - a ≡ b - a
+    by (no q) = omega arith
+    by (yes q) = let m : ¬ (a ≤ n) = λ w. outside (w, q) in omega arith
+
 -- a test that is true exactly from a up to but without b
 pub positions-between : (p : ℕ → Bool) (a b n : ℕ) → b ≤ n → ((i : ℕ) → i < n → (p i ≡ true) ↔ ((a ≤ i) × (i < b)))
     → positions p n ≡ between a b
 positions-between p a b zero l exact = let e : b - a ≡ 0 = omega arith in rw e
 positions-between p a b (suc n) l exact =
     by (p n) refl
-    (positions-between p a (min b n) n (omega arith)
-    (λ i m. (λ t. omega (arith, exact i (omega arith) .0 t), λ w. exact i (omega arith) .1 (omega arith))))
+    (positions-between p a (min b n) n (min-le-right b n)
+    (λ i m. (λ t. below-the-cut a b i n m .0 (exact i (le-of-lt (suc-le-suc m)) .0 t), λ w. exact i (le-of-lt (suc-le-suc m)) .1 (below-the-cut a b i n m .1 w))))
   where
     by : (t : Bool) → p n ≡ t → positions p n ≡ between a (min b n) → positions p n ++ pick t (n ∷ []) [] ≡ between a b
-    by true e k =
-        let w = exact n (omega arith) .0 e in
-        let f : min b n - a ≡ n - a = omega arith in
-        let g : b - a ≡ suc (n - a) = omega arith in
-        let s : a + (n - a) ≡ n = omega arith in
-        rw (k, f, g, s)
-    by false e k = let f : min b n - a ≡ b - a = outside (decLt n b) in rw (append-nil, k, f)
-      where
-        outside : Dec (n < b) → min b n - a ≡ b - a
-        outside (no q) = omega arith
-        outside (yes q) = let m : ¬ (a ≤ n) = λ w. true≢false (sym (exact n (omega arith) .1 (w, q)) ∙ e) in omega arith
+    by true e k = let c = cut-last a b n l (exact n (le-refl (suc n)) .0 e) in rw (k, c .0, c .1, c .2)
+    by false e k = let f = cut-nothing a b n l (λ w. true≢false (sym (exact n (le-refl (suc n)) .1 w) ∙ e)) in rw (append-nil, k, f)
