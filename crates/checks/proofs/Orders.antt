@@ -1,10 +1,9 @@
 -- The lists of checks of one mark and of a step begin with those of the sizes. Where these find nothing, the rest decides.
-use Prim.Native.Nat.{ℕ, _*_, _/_, _%_, _≤_, _<_}
-use mathlib.Core.Path.{_≡_, refl, sym, ap, _∙_}
-use mathlib.Core.Bool.{true, false, _||_}
+use Prim.Native.Nat.{ℕ, _≤_, _<_}
+use mathlib.Core.Path.{_≡_, sym, ap, _∙_}
+use mathlib.Core.Bool.{_||_}
 use mathlib.Core.Option.{none, some}
 use mathlib.Core.List.{List, _∷_}
-use native.Mathlib.Omega.{arith}
 use borrow.Author.Tests.{lt-ltb, le-ltb}
 use lib.Dec.{ltb}
 use lib.ListN.{length}
@@ -15,19 +14,8 @@ use Rattle.meanings.specs.declared.Verdict.the-variants.{Fit, Faulty}
 use Rattle.meanings.specs.declared.Found.{Found}
 use Rattle.meanings.specs.declared.Found.the-variants.{At, Nothing}
 use Rattle.meanings.specs.Lists.{lowest}
-use Rattle.meanings.specs.Reports.{Check, report, at, told, told-verdict, told-found, first-of, differ, decreases, size-checks, bandwidth-checks, evaluate-checks, advance-checks}
-use Rattle.meanings.proofs.Checks.{differ-true, differ-same, found-in-front, found-none-in-front}
-
--- a list of five numbers a mark, by quotient and remainder
-module _ (rows n : ℕ) where
-  pub rows-five : rows % 5 ≡ 0 → rows / 5 ≡ n → differ rows (5 * n) ≡ false
-  rows-five r q = differ-same rows (5 * n) (omega arith)
-
-  pub rows-remainder : (rows % 5 ≡ 0 → ⊥) → differ rows (5 * n) ≡ true
-  rows-remainder r = differ-true rows (5 * n) (λ e. r (omega arith))
-
-  pub rows-other : (rows / 5 ≡ n → ⊥) → differ rows (5 * n) ≡ true
-  rows-other q = differ-true rows (5 * n) (λ e. q (omega arith))
+use Rattle.meanings.specs.Reports.{Check, report, at, told, told-verdict, told-found, first-of, decreases, size-checks, bandwidth-checks, evaluate-checks, advance-checks}
+use Rattle.meanings.proofs.Checks.{found-in-front, found-none-in-front}
 
 module _ (L : Limits) (ts vs : List ℕ) (v : Verdict) (e : told-verdict v ≡ first-of (size-checks L ts vs)) where
   module _ (h : ℕ) where

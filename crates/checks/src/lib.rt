@@ -1,6 +1,4 @@
-// The refusals of document 01 over lists of numbers, for any pair of limits. Every function takes every input.
-pub mod smoothing;
-
+// The refusals of document 01 over readings and half widths, for any pair of limits. Every function takes every input.
 use meanings::Found;
 use meanings::Limits;
 use meanings::Refusal;

@@ -1,11 +1,11 @@
 // The mark lines of the sheet.
 use checks::out_of_range;
-use checks::smoothing::edge_below;
 use lines::Line;
 use lines::PointLine;
 use meanings::Refusal;
 use meanings::Report;
 use meanings::Verdict;
+use smooth_checks::edge_below;
 ghost use mathlib.Core.Path.{_≡_};
 ghost use Prim.Native.Nat.{ℕ, _+_, _≤_};
 ghost use mathlib.Core.List.{List, [], _∷_, _++_};

@@ -3,8 +3,8 @@ use mathlib.Core.Path.{sym, ap, _∙_}
 use borrow.Author.Needs.{needs}
 use Rattle.meanings.specs.Reports.{told-verdict, smooth-size-checks, smooth-order-checks}
 use Rattle.meanings.proofs.Checks.{found-in-front, found-none-in-front, smooth-sizes-accept}
-use Rattle.checks.proofs.smoothing.smooth_fault.Statement.{statement}
-use Rattle.checks.proofs.smoothing.smooth_fault.Tie as tie
+use Rattle.smooth_checks.proofs.smooth_fault.Statement.{statement}
+use Rattle.smooth_checks.proofs.smooth_fault.Tie as tie
 
 smooth-size-fault-requires : tie.Need-smooth-size-fault-requires
 smooth-size-fault-requires c κs = search needs

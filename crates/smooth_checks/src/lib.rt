@@ -1,6 +1,6 @@
-// The refusals of a sweep, for any pair of limits.
-use crate::first_decrease;
-use crate::out_of_range;
+// The refusals of a sweep, for any pair of limits. Every public function takes every input.
+use checks::first_decrease;
+use checks::out_of_range;
 use meanings::Found;
 use meanings::Limits;
 use meanings::Refusal;

@@ -3,9 +3,9 @@ use mathlib.Core.Path.{sym}
 use borrow.Author.Needs.{needs}
 use lib.ListN.{length}
 use Rattle.meanings.proofs.Checks.{differ-true, differ-same}
-use Rattle.checks.proofs.Orders.{rows-five, rows-remainder, rows-other}
-use Rattle.checks.proofs.smoothing.uneven.Statement.{statement}
-use Rattle.checks.proofs.smoothing.uneven.Tie as tie
+use Rattle.smooth_checks.proofs.RowCounts.{rows-five, rows-remainder, rows-other}
+use Rattle.smooth_checks.proofs.uneven.Statement.{statement}
+use Rattle.smooth_checks.proofs.uneven.Tie as tie
 
 returns : tie.Need-returns
 returns c = sym (rw (differ-true _ _ (c .if1 .taken)))

@@ -7,8 +7,8 @@ use lib.ListN.{length}
 use Rattle.meanings.specs.Reports.{edge-decreases}
 use Rattle.meanings.proofs.Checks.{edge-decreases-at}
 use Rattle.meanings.proofs.Search.{NoneBelow, one-more-below, lowest-at, none-lowest}
-use Rattle.checks.proofs.smoothing.first_edge_decrease.Statement.{statement}
-use Rattle.checks.proofs.smoothing.first_edge_decrease.Tie as tie
+use Rattle.smooth_checks.proofs.first_edge_decrease.Statement.{statement}
+use Rattle.smooth_checks.proofs.first_edge_decrease.Tie as tie
 
 abbrev Inv-loop : tie.InvT-loop
 Inv-loop points bandwidths i₀ i = (1 ≤ i) × NoneBelow (edge-decreases points bandwidths) i

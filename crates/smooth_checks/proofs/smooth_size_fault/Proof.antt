@@ -2,8 +2,8 @@
 use mathlib.Core.Path.{sym, _∙_}
 use borrow.Author.Needs.{needs}
 use borrow.Author.Tests.{lt-ltb, le-ltb, eq-eqb, ne-eqb}
-use Rattle.checks.proofs.smoothing.smooth_size_fault.Statement.{statement}
-use Rattle.checks.proofs.smoothing.smooth_size_fault.Tie as tie
+use Rattle.smooth_checks.proofs.smooth_size_fault.Statement.{statement}
+use Rattle.smooth_checks.proofs.smooth_size_fault.Tie as tie
 
 uneven-requires : tie.Need-uneven-requires
 uneven-requires c κs = search needs

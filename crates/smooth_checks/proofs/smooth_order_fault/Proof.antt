@@ -2,8 +2,8 @@
 use mathlib.Core.Path.{sym, ap, _∙_}
 use borrow.Author.Needs.{needs}
 use Rattle.meanings.specs.Reports.{told-found}
-use Rattle.checks.proofs.smoothing.smooth_order_fault.Statement.{statement}
-use Rattle.checks.proofs.smoothing.smooth_order_fault.Tie as tie
+use Rattle.smooth_checks.proofs.smooth_order_fault.Statement.{statement}
+use Rattle.smooth_checks.proofs.smooth_order_fault.Tie as tie
 
 first-decrease-requires : tie.Need-first-decrease-requires
 first-decrease-requires c κs = search needs

@@ -6,8 +6,8 @@ use borrow.Author.Needs.{needs}
 use lib.ListN.{length, getD}
 use Rattle.meanings.specs.Reports.{bad-bandwidth}
 use Rattle.meanings.proofs.Search.{NoneBelow, one-more-below, lowest-at, none-lowest}
-use Rattle.checks.proofs.smoothing.first_out_of_range.Statement.{statement}
-use Rattle.checks.proofs.smoothing.first_out_of_range.Tie as tie
+use Rattle.smooth_checks.proofs.first_out_of_range.Statement.{statement}
+use Rattle.smooth_checks.proofs.first_out_of_range.Tie as tie
 
 abbrev Inv-loop : tie.InvT-loop
 Inv-loop bandwidths i₀ i = NoneBelow (λ k. bad-bandwidth (getD bandwidths k 0)) i
