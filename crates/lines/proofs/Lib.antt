@@ -1,4 +1,2 @@
-pub mod Fields
 pub mod LineEnds
 pub mod SameTexts
-pub mod Values

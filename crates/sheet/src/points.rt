@@ -1,7 +1,7 @@
 // The mark lines of the sheet.
 use checks::out_of_range;
+use fields::PointLine;
 use lines::Line;
-use lines::PointLine;
 use meanings::Refusal;
 use meanings::Report;
 use meanings::Verdict;
@@ -100,7 +100,7 @@ pub(crate) fn store_point(
     ensures { λ r. ⌜ ((next : List ℕ → List ℕ → Outcome) → with-point full place (take count (now (points .entry))) (take count (now (bandwidths .entry))) (point-line (now (text .entry))) next ≡ or-next (told-verdict r) (next (take (count + 1) (now (points .exit))) (take (count + 1) (now (bandwidths .exit))))) ⌝ }
     ensures { λ r. ⌜ room-after r count ⌝ }
 {
-    let PointLine::Point { point, bandwidth } = lines::point_line(text) else {
+    let PointLine::Point { point, bandwidth } = fields::point_line(text) else {
         return Verdict::Faulty(Refusal {
             report: Report::MalformedLine,
             place,

@@ -1,7 +1,7 @@
 // The reading lines of the sheet.
 use crate::skip_header;
+use fields::SampleLine;
 use lines::Line;
-use lines::SampleLine;
 use meanings::Found;
 use meanings::Refusal;
 use meanings::Report;
@@ -44,7 +44,7 @@ pub(crate) fn store_sample(
         minute,
         injection,
         value,
-    } = lines::sample_line(text)
+    } = fields::sample_line(text)
     else {
         return SampleStored::Refused(Refusal {
             report: Report::MalformedLine,

@@ -7,10 +7,10 @@ use mathlib.Core.Logic.{⊎-elim}
 use native.Mathlib.Omega.{arith}
 use borrow.Author.Needs.{needs}
 use lib.ListN.{length, drop}
-use Rattle.lines.specs.Lines.{first-part}
-use Rattle.lines.proofs.Fields.{Passed, passed-begins, passed-small, passed-goes-on, passed-inside, low-byte-no-number, high-byte-no-number, sixth-byte-no-number, part-ends-at-end, part-ends-at-comma, no-byte-no-number, leading-zero-no-field, passed-number}
-use Rattle.lines.proofs.number_at.Statement.{statement}
-use Rattle.lines.proofs.number_at.Tie as tie
+use Rattle.fields.specs.Fields.{first-part}
+use Rattle.fields.proofs.Fields.{Passed, passed-begins, passed-small, passed-goes-on, passed-inside, low-byte-no-number, high-byte-no-number, sixth-byte-no-number, part-ends-at-end, part-ends-at-comma, no-byte-no-number, leading-zero-no-field, passed-number}
+use Rattle.fields.proofs.number_at.Statement.{statement}
+use Rattle.fields.proofs.number_at.Tie as tie
 
 abbrev Inv-loop : tie.InvT-loop
 Inv-loop text from at₀ value₀ at value = Passed text from at value

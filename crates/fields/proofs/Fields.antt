@@ -17,7 +17,7 @@ use Rattle.meanings.specs.Sheet.{digit, digits, said, number-form}
 use Rattle.meanings.proofs.Decimal.{said-append}
 use Rattle.meanings.proofs.Numbers.{and-true-both, digits-more, said-below}
 use Rattle.meanings.proofs.Texts.{Free, digits-free}
-use Rattle.lines.specs.Lines.{first-part, number-of, field-at}
+use Rattle.fields.specs.Fields.{first-part, number-of, field-at}
 
 and-false : (a : Bool) → (a && false) ≡ false
 and-false true = refl
