@@ -1,80 +1,16 @@
--- Laws over plain variables that the functions' proofs cite: sums and differences modulo 2^w, runs of readings, searching, rounding.
-use Prim.Native.Nat.{ℕ, suc, _+_, _-_, _*_, _/_, _%_, _^_, _≤_, _<_}
+-- Laws over plain variables that the functions' proofs cite: runs of readings, searching.
+use Prim.Native.Nat.{ℕ, suc, _+_, _-_, _^_, _≤_, _<_}
 use mathlib.Core.Path.{_≡_, sym, ap, _∙_}
 use mathlib.Core.Bool.{Bool, true, false}
 use mathlib.Core.List.{List}
-use native.Mathlib.Nat.{add-assoc, add-zero, one-mul, mul-one, pow-zero, le-refl, sub-self, add-sub-of-le, mul-le-mul-left, mul-lt-mul-of-pos-right, div-add-mod', mod-lt, mod-mod, mod-eq-of-lt, mod-add-mod, add-mod-mod, add-mod-right}
+use native.Mathlib.Nat.{le-refl, sub-self, add-sub-of-le}
 use native.Mathlib.Numerals.{add-one}
 use native.Mathlib.Omega.{arith}
-use borrow.Author.Tests.{le-leb, lt-leb}
-use lib.Pow.{pow-pos, pow-add}
 use Rattle.meanings.specs.declared.PowerSums.{PowerSums}
 use Rattle.meanings.specs.Lists.{first, total}
-use Rattle.meanings.specs.Estimate.{rounded, value-of}
-use Rattle.meanings.specs.Running.{six, sum-at, plus, minus, power-sum, term}
-use Rattle.meanings.proofs.Modulo.{minus-undone}
-use Rattle.meanings.proofs.Moments.{power-one, power-two}
-use Rattle.meanings.proofs.Rounding.{value-present}
+use Rattle.meanings.specs.Running.{six, sum-at, power-sum, term}
 
-pub product-fits : {a b : ℕ} (j k : ℕ) → a < 2 ^ j → b < 2 ^ k → a * b < 2 ^ (j + k)
-product-fits {a} {b} j k l m =
-    rw (pow-add 2 j k)
-    (omega (arith, mul-le-mul-left {m = b} {n = 2 ^ k} a (omega arith), mul-lt-mul-of-pos-right l (pow-pos k)))
-
-pub plus-zero : (w a : ℕ) → a < 2 ^ w → plus w a 0 ≡ a
-plus-zero w a l = rw (add-zero a) (mod-eq-of-lt l)
-
-pub plus-plus : (w a b c : ℕ) → plus w (plus w a b) c ≡ plus w a (b + c)
-plus-plus w a b c = mod-add-mod (a + b) (2 ^ w) c ∙ rw add-assoc
-
--- b and what b lacks of 2^w, added
-plus-full-turn : (w a b : ℕ) → (a + b + (2 ^ w - b % 2 ^ w)) % 2 ^ w ≡ a % 2 ^ w
-plus-full-turn w a b =
-    let turn : a + b % 2 ^ w + (2 ^ w - b % 2 ^ w) ≡ a + 2 ^ w = omega (arith, mod-lt b (pow-pos w)) in
-    sym (mod-add-mod (a + b) (2 ^ w) _) ∙ rw (← (add-mod-mod a b (2 ^ w)), mod-add-mod, turn) (add-mod-right a (2 ^ w))
-
-minus-unique : (w a b r : ℕ) → r < 2 ^ w → (r + b) % 2 ^ w ≡ a % 2 ^ w → r ≡ minus w a b
-minus-unique w a b r l e = sym (sym (mod-add-mod a (2 ^ w) _) ∙ rw (← e, mod-add-mod) (plus-full-turn w r b ∙ mod-eq-of-lt l))
-
--- the number that b added to wraps back to a
-pub wraps-back-is-minus : (w a b r : ℕ) → r < 2 ^ w → (r + b) % 2 ^ w ≡ a → r ≡ minus w a b
-wraps-back-is-minus w a b r l e = minus-unique w a b r l (sym (mod-mod (r + b) (2 ^ w)) ∙ ap (λ n. n % 2 ^ w) e)
-
-pub minus-zero : (w a : ℕ) → a < 2 ^ w → minus w a 0 ≡ a
-minus-zero w a l = sym (minus-unique w a 0 a l (rw (add-zero a)))
-
-pub minus-minus : (w a b c : ℕ) → minus w (minus w a b) c ≡ minus w a (b + c)
-minus-minus w a b c =
-    minus-unique w a (b + c) _ (mod-lt _ (pow-pos w))
-    (both (minus w a b) _ (minus-undone w a b) (minus-undone w (minus w a b) c))
-  where
-    both : (m r : ℕ) → (m + b) % 2 ^ w ≡ a % 2 ^ w → (r + c) % 2 ^ w ≡ m % 2 ^ w → (r + (b + c)) % 2 ^ w ≡ a % 2 ^ w
-    both m r e d =
-        let regroup : r + (b + c) ≡ r + c + b = omega arith in
-        rw (regroup, ← (mod-add-mod (r + c) (2 ^ w) b), d, mod-add-mod m (2 ^ w) b) e
-
--- below, op is plus w or minus w: each of the six sums is joined by it with its term of a reading, or with the terms of a run
-
-pub sample-joined : (op : ℕ → ℕ → ℕ) (s r : PowerSums) (t v : ℕ)
-    → r .s00 ≡ op (s .s00) 1
-    → r .s10 ≡ op (s .s10) t
-    → r .s20 ≡ op (s .s20) (t * t)
-    → r .s01 ≡ op (s .s01) v
-    → r .s11 ≡ op (s .s11) (t * v)
-    → r .s21 ≡ op (s .s21) (t * t * v)
-    → r ≡ six (λ p q. op (sum-at s p q) (t ^ p * v ^ q))
-sample-joined op s r t v e00 e10 e20 e01 e11 e21 =
-    rw (pow-zero t, pow-zero v, power-one t, power-one v, power-two t, one-mul v, mul-one t, mul-one (t * t)) fields
-  where
-    fields : six (sum-at r) ≡ record {
-      s00 = op (s .s00) 1;
-      s10 = op (s .s10) t;
-      s20 = op (s .s20) (t * t);
-      s01 = op (s .s01) v;
-      s11 = op (s .s11) (t * v);
-      s21 = op (s .s21) (t * t * v);
-    }
-    fields = cc
+-- below, op is plus w or minus w: each of the six sums is joined by it with the terms of a run
 
 -- of the run from a up to e the readings before i are joined to s, which makes r
 pub record Joined (op : ℕ → ℕ → ℕ) (s : PowerSums) (ts vs : List ℕ) (a e i : ℕ) (r : PowerSums) : Type 0 where
@@ -148,14 +84,3 @@ module _ {p : ℕ → Bool} {a e i : ℕ} (s : Searched p a e i) where
 
   pub search-ends : e ≤ i → e ≡ first p a (e - a)
   search-ends l = let q : i ≡ e = omega (arith, s .upto) in sym (s .same ∙ rw (q, sub-self e))
-
-pub rounded-up-at-most-sum : (s w : ℕ) → 0 < w → w - s % w ≤ s % w → s / w + 1 ≤ s
-rounded-up-at-most-sum s w p l = omega (arith, div-add-mod' s w, mod-lt s p, mul-le-mul-left (s / w) p)
-
-pub value-rounds-up : (s w : ℕ) → 0 < w → w - s % w ≤ s % w → value-of s w ≡ s / w + 1
-unfolding rounded
-value-rounds-up s w p l = value-present s w p ∙ rw (le-leb w (2 * (s % w)) (omega arith))
-
-pub value-rounds-down : (s w : ℕ) → 0 < w → s % w < w - s % w → value-of s w ≡ s / w
-unfolding rounded
-value-rounds-down s w p l = value-present s w p ∙ rw (lt-leb w (2 * (s % w)) (omega arith))

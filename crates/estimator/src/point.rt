@@ -2,7 +2,8 @@
 use crate::edges::first_from;
 use crate::row::row_of;
 use crate::sums::with_run;
-use crate::sums::zero_sums;
+use arithmetic::lowest_minute;
+use arithmetic::zero_sums;
 use meanings::Estimate;
 ghost use mathlib.Core.Path.{_≡_};
 ghost use Prim.Native.Nat.{_-_};
@@ -14,15 +15,6 @@ ghost use Rattle.meanings.proofs.Checks.{Accepted};
 pub(crate) struct Span {
     pub(crate) left: usize,
     pub(crate) right: usize,
-}
-
-// The least minute that is not under the left edge: z − h, or 0 where that is negative.
-pub(crate) fn lowest_minute(point: u16, bandwidth: u32) -> u64
-    ensures { λ r. ⌜ r ≡ point - bandwidth ⌝ }
-{
-    let z = point as u64;
-    let h = bandwidth as u64;
-    if h < z { z - h } else { 0 }
 }
 
 pub(crate) fn span_at(minutes: &[u16], point: u16, bandwidth: u32) -> Span

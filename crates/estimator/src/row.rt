@@ -1,8 +1,7 @@
 // A row from edges and six sums: weight and sum, and their rounded quotient.
+use arithmetic::value;
 use meanings::Estimate;
 use meanings::PowerSums;
-ghost use mathlib.Core.Path.{_≡_};
-ghost use Rattle.meanings.specs.Estimate.{value-of};
 ghost use Rattle.estimator.specs.Rows.{Combines, IsCombined, SumsFit, RowOf};
 
 // Document 01's formula without negative numbers: (h² − z²) s0 + 2 z s1 − s2.
@@ -13,21 +12,6 @@ pub(crate) fn combined(s0: u64, s1: u64, s2: u64, point: u16, bandwidth: u32) ->
     let z = point as u64;
     let h = bandwidth as u64;
     h * h * s0 + 2 * z * s1 - (z * z * s0 + s2)
-}
-
-// A sum divided by its weight to the nearest whole number, halves upward; 65,536 for missing if the weight is 0.
-pub fn value(sum: u64, weight: u64) -> u64
-    ensures { λ r. ⌜ r ≡ value-of sum weight ⌝ }
-{
-    if weight == 0 {
-        return 65536;
-    }
-    let quotient = sum / weight;
-    let rest = sum % weight;
-    if weight - rest <= rest {
-        return quotient + 1;
-    }
-    quotient
 }
 
 // The row with these edges and sums.

@@ -1,7 +1,7 @@
 // The whole sweep: one step a mark from a fresh record, and a row after each.
 use crate::row::row_of;
 use crate::step::moved;
-use crate::sums::zero_sums;
+use arithmetic::zero_sums;
 use meanings::Estimate;
 use meanings::RunningSums;
 ghost use mathlib.Core.Path.{_≡_};

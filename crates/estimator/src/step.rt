@@ -1,8 +1,8 @@
 // One step of a running record: the right edge moves on, then the left one, up to the new right.
 use crate::edges::first_from;
-use crate::point::lowest_minute;
 use crate::sums::with_run;
 use crate::sums::without_run;
+use arithmetic::lowest_minute;
 use meanings::RunningSums;
 ghost use mathlib.Core.Path.{_≡_};
 ghost use Prim.Native.Nat.{_≤_};

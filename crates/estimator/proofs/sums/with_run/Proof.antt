@@ -4,7 +4,8 @@ use Prim.Native.Nat.{_-_}
 use native.Mathlib.Omega.{arith}
 use borrow.Author.Needs.{needs}
 use Rattle.meanings.specs.Running.{plus}
-use Rattle.estimator.proofs.Laws.{Joined, run-begins, run-grows, run-ends, plus-zero, plus-plus}
+use Rattle.arithmetic.proofs.Wrapping.{plus-zero, plus-plus}
+use Rattle.estimator.proofs.Laws.{Joined, run-begins, run-grows, run-ends}
 use Rattle.estimator.proofs.sums.with_run.Statement.{statement}
 use Rattle.estimator.proofs.sums.with_run.Tie as tie
 

@@ -4,7 +4,8 @@ use Prim.Native.Nat.{_-_}
 use native.Mathlib.Omega.{arith}
 use borrow.Author.Needs.{needs}
 use Rattle.meanings.specs.Running.{minus}
-use Rattle.estimator.proofs.Laws.{Joined, run-begins, run-grows, run-ends, minus-zero, minus-minus}
+use Rattle.arithmetic.proofs.Wrapping.{minus-zero, minus-minus}
+use Rattle.estimator.proofs.Laws.{Joined, run-begins, run-grows, run-ends}
 use Rattle.estimator.proofs.sums.without_run.Statement.{statement}
 use Rattle.estimator.proofs.sums.without_run.Tie as tie
 

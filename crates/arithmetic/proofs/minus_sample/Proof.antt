@@ -3,9 +3,10 @@
 use native.Mathlib.Omega.{arith}
 use borrow.Author.Needs.{needs}
 use Rattle.meanings.specs.Running.{minus}
-use Rattle.estimator.proofs.Laws.{product-fits, wraps-back-is-minus, sample-joined}
-use Rattle.estimator.proofs.sums.minus_sample.Statement.{statement}
-use Rattle.estimator.proofs.sums.minus_sample.Tie as tie
+use Rattle.arithmetic.proofs.OneSample.{product-fits, sample-joined}
+use Rattle.arithmetic.proofs.Wrapping.{wraps-back-is-minus}
+use Rattle.arithmetic.proofs.minus_sample.Statement.{statement}
+use Rattle.arithmetic.proofs.minus_sample.Tie as tie
 
 mul-tt : tie.Need-mul-tt
 mul-tt c = let t = c .fits .time .fits in omega (arith, product-fits 16 16 t t)

@@ -3,9 +3,9 @@
 use native.Mathlib.Omega.{arith}
 use borrow.Author.Needs.{needs}
 use Rattle.meanings.specs.Running.{plus}
-use Rattle.estimator.proofs.Laws.{product-fits, sample-joined}
-use Rattle.estimator.proofs.sums.plus_sample.Statement.{statement}
-use Rattle.estimator.proofs.sums.plus_sample.Tie as tie
+use Rattle.arithmetic.proofs.OneSample.{product-fits, sample-joined}
+use Rattle.arithmetic.proofs.plus_sample.Statement.{statement}
+use Rattle.arithmetic.proofs.plus_sample.Tie as tie
 
 mul-tt : tie.Need-mul-tt
 mul-tt c = let t = c .fits .time .fits in omega (arith, product-fits 16 16 t t)

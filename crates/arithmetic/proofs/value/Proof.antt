@@ -6,9 +6,9 @@ use native.Mathlib.Nat.{mod-lt}
 use native.Mathlib.Omega.{arith}
 use borrow.Author.Needs.{needs}
 use Rattle.meanings.proofs.Rounding.{value-missing}
-use Rattle.estimator.proofs.Laws.{rounded-up-at-most-sum, value-rounds-up, value-rounds-down}
-use Rattle.estimator.proofs.row.value.Statement.{statement}
-use Rattle.estimator.proofs.row.value.Tie as tie
+use Rattle.arithmetic.proofs.Quotients.{rounded-up-at-most-sum, value-rounds-up, value-rounds-down}
+use Rattle.arithmetic.proofs.value.Statement.{statement}
+use Rattle.arithmetic.proofs.value.Tie as tie
 
 returns : tie.Need-returns
 returns c = rw (c .if1 .taken) (sym (value-missing _))

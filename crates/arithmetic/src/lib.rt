@@ -1,0 +1,79 @@
+// The estimator's arithmetic on single numbers: the six running sums with one reading more or less, kept modulo 2^64, a row's value, and the
+// least minute of a window. Every function takes every input.
+use meanings::PowerSums;
+ghost use mathlib.Core.Path.{_≡_};
+ghost use Prim.Native.Nat.{_-_, _*_, _^_};
+ghost use Rattle.meanings.specs.Estimate.{value-of};
+ghost use Rattle.meanings.specs.Running.{six, sum-at, plus, minus};
+
+// All six zero.
+pub fn zero_sums() -> PowerSums
+    ensures { λ r. ⌜ r ≡ six (λ p q. 0) ⌝ }
+{
+    PowerSums {
+        s00: 0,
+        s10: 0,
+        s20: 0,
+        s01: 0,
+        s11: 0,
+        s21: 0,
+    }
+}
+
+// With one reading more.
+pub fn plus_sample(s: PowerSums, time: u16, value: u16) -> PowerSums
+    ensures { λ r. ⌜ r ≡ six (λ p q. plus 64 (sum-at s p q) (time ^ p * value ^ q)) ⌝ }
+{
+    let t = time as u64;
+    let v = value as u64;
+    let tt = t * t;
+    PowerSums {
+        s00: std::num::wrapping_add_u64(s.s00, 1),
+        s10: std::num::wrapping_add_u64(s.s10, t),
+        s20: std::num::wrapping_add_u64(s.s20, tt),
+        s01: std::num::wrapping_add_u64(s.s01, v),
+        s11: std::num::wrapping_add_u64(s.s11, t * v),
+        s21: std::num::wrapping_add_u64(s.s21, tt * v),
+    }
+}
+
+// With one reading less.
+pub fn minus_sample(s: PowerSums, time: u16, value: u16) -> PowerSums
+    ensures { λ r. ⌜ r ≡ six (λ p q. minus 64 (sum-at s p q) (time ^ p * value ^ q)) ⌝ }
+{
+    let t = time as u64;
+    let v = value as u64;
+    let tt = t * t;
+    PowerSums {
+        s00: std::num::wrapping_sub_u64(s.s00, 1),
+        s10: std::num::wrapping_sub_u64(s.s10, t),
+        s20: std::num::wrapping_sub_u64(s.s20, tt),
+        s01: std::num::wrapping_sub_u64(s.s01, v),
+        s11: std::num::wrapping_sub_u64(s.s11, t * v),
+        s21: std::num::wrapping_sub_u64(s.s21, tt * v),
+    }
+}
+
+// A sum divided by its weight to the nearest whole number, halves upward; 65,536 for missing if the weight is 0.
+pub fn value(sum: u64, weight: u64) -> u64
+    ensures { λ r. ⌜ r ≡ value-of sum weight ⌝ }
+{
+    if weight == 0 {
+        return 65536;
+    }
+    let quotient = sum / weight;
+    let rest = sum % weight;
+    if weight - rest <= rest {
+        return quotient + 1;
+    }
+    quotient
+}
+
+// The least minute that is not under the left edge: z − h, or 0 where that is negative.
+pub fn lowest_minute(point: u16, bandwidth: u32) -> u64
+    ensures { λ r. ⌜ r ≡ point - bandwidth ⌝ }
+{
+    let z = point as u64;
+    let h = bandwidth as u64;
+    if h < z { z - h } else { 0 }
+}
