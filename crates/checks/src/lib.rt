@@ -9,6 +9,7 @@ ghost use lib.ListN.{length};
 ghost use Rattle.meanings.specs.Limits.{full as full-limits};
 ghost use Rattle.meanings.specs.Lists.{lowest};
 ghost use Rattle.meanings.specs.Reports.{number, told-verdict, told-found, first-of, decreases, bad-bandwidth, size-checks, bandwidth-checks, evaluate-checks, advance-checks};
+ghost use Rattle.checks.specs.ReaderLists.{uneven-lists};
 
 // Document 01's limits: 1,024 kept readings and 512 marks.
 pub fn full() -> Limits
@@ -142,4 +143,23 @@ pub fn advance_fault(
             bandwidth_fault(bandwidth)
         }
     }
+}
+
+// Whether the reader's lists are of another length than 1,024, 1,024, 512, 512.
+pub fn uneven_lists(minutes: usize, values: usize, points: usize, bandwidths: usize) -> bool
+    ensures { λ r. ⌜ r ≡ uneven-lists full-limits minutes values points bandwidths ⌝ }
+{
+    if minutes != 1024 {
+        return true;
+    }
+    if values != 1024 {
+        return true;
+    }
+    if points != 512 {
+        return true;
+    }
+    if bandwidths != 512 {
+        return true;
+    }
+    false
 }

@@ -14,7 +14,8 @@ use Rattle.meanings.specs.Reports.{given}
 use Rattle.meanings.specs.Sheet.{Lines, lines, Contents, Outcome, refused-at, header, read-points, read-sheet}
 use Rattle.meanings.specs.Calls.{read, filled-front}
 use Rattle.meanings.proofs.Checks.{or-false, differ-false}
-use Rattle.sheet.specs.Stages.{uneven-lists, after-header}
+use Rattle.checks.specs.ReaderLists.{uneven-lists}
+use Rattle.sheet.specs.Stages.{after-header}
 
 pub too-long : (s : List ℕ) → max-sheet < length s → read-sheet full s ≡ refused-at max-sheet 1
 unfolding read-sheet

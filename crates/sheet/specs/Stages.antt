@@ -2,10 +2,8 @@
 -- the meaning of what it gives.
 use Prim.Native.Nat.{ℕ, _+_, _≤_}
 use mathlib.Core.Path.{_≡_}
-use mathlib.Core.Bool.{Bool, _||_}
 use mathlib.Core.List.{List, [], _∷_}
 use lib.ListN.{take, drop}
-use Rattle.meanings.specs.declared.Limits.{Limits}
 use Rattle.meanings.specs.declared.Verdict.{Verdict}
 use Rattle.meanings.specs.declared.Verdict.the-variants.{Fit, Faulty}
 use Rattle.meanings.specs.declared.Found.{Found}
@@ -14,7 +12,7 @@ use Rattle.meanings.specs.declared.Reading.{Reading}
 use Rattle.meanings.specs.declared.Reading.the-variants.{Used, Unread}
 use Rattle.meanings.specs.Limits.{full}
 use Rattle.meanings.specs.Bytes.{sample-header}
-use Rattle.meanings.specs.Reports.{given, refused, told, differ}
+use Rattle.meanings.specs.Reports.{given, refused, told}
 use Rattle.meanings.specs.Sheet.{Lines, lines, Outcome, refused-at, header, read-samples}
 use Rattle.sheet.specs.declared.points.PointsRead.{PointsRead}
 use Rattle.sheet.specs.declared.points.PointsRead.the-variants.{Points, Unfit as UnfitPoints}
@@ -22,11 +20,6 @@ use Rattle.sheet.specs.declared.samples.SampleStored.{SampleStored}
 use Rattle.sheet.specs.declared.samples.SampleStored.the-variants.{Stored, Refused}
 use Rattle.sheet.specs.declared.samples.SamplesRead.{SamplesRead}
 use Rattle.sheet.specs.declared.samples.SamplesRead.the-variants.{Kept, Unfit as UnfitSamples}
-
--- the reader's lists are not of the lengths that the limits give
-abbrev pub uneven-lists : Limits → ℕ → ℕ → ℕ → ℕ → Bool
-uneven-lists L minutes values points bandwidths =
-    differ minutes (L .samples) || differ values (L .samples) || differ points (L .points) || differ bandwidths (L .points)
 
 -- after the names line at byte p
 abbrev pub after-header : Found → List ℕ → ℕ → (ℕ → Lines → Outcome) → Outcome

@@ -4,6 +4,7 @@ pub(crate) mod samples;
 
 use crate::points::PointsRead;
 use crate::samples::SamplesRead;
+use checks::uneven_lists;
 use lines::Line;
 use meanings::Found;
 use meanings::Reading;
@@ -16,7 +17,7 @@ ghost use lib.ListN.{length, take, drop};
 ghost use Rattle.meanings.specs.Limits.{full};
 ghost use Rattle.meanings.specs.Sheet.{Lines, Outcome, lines, header, read-sheet};
 ghost use Rattle.meanings.specs.Calls.{told-reading, counts, read, read-minutes, read-values, read-evaluation-points, read-bandwidths};
-ghost use Rattle.sheet.specs.Stages.{after-header, uneven-lists, scanned, used-within};
+ghost use Rattle.sheet.specs.Stages.{after-header, scanned, used-within};
 
 // Passes the names line at byte `from`, if it is that.
 pub(crate) fn skip_header(sheet: &[u8], from: usize, names: &[u8]) -> Found
@@ -94,25 +95,6 @@ pub(crate) fn put_front_u32(xs: &[u32], n: usize, out: &mut [u32])
         out[i] = xs[i];
         i += 1;
     }
-}
-
-// Whether the reader's lists are of another length than 1,024, 1,024, 512, 512.
-pub fn uneven_lists(minutes: usize, values: usize, points: usize, bandwidths: usize) -> bool
-    ensures { λ r. ⌜ r ≡ uneven-lists full minutes values points bandwidths ⌝ }
-{
-    if minutes != 1024 {
-        return true;
-    }
-    if values != 1024 {
-        return true;
-    }
-    if points != 512 {
-        return true;
-    }
-    if bandwidths != 512 {
-        return true;
-    }
-    false
 }
 
 // The reader. The sheet is read into lists of its own, so that a refusal leaves the lent ones as they were.

@@ -16,7 +16,7 @@ use Rattle.meanings.specs.Calls.{Counts, counts, read, read-minutes, read-value
 use Rattle.meanings.proofs.Checks.{differ-true, differ-same}
 use Rattle.output_laws.proofs.AcceptedSheet.{accepted-contents}
 use Rattle.output_laws.proofs.Refusals.{refusal-text-fits}
-use Rattle.sheet.specs.Stages.{uneven-lists}
+use Rattle.checks.specs.ReaderLists.{uneven-lists}
 use Rattle.sheet.proofs.Scans.{even-read}
 use Rattle.text.specs.Written.{written}
 use Rattle.text.specs.Table.{contents-of, curve-of, Accepted}

@@ -1,8 +1,8 @@
 -- Each way out has passed the tests before it.
 use mathlib.Core.Path.{sym}
 use Rattle.meanings.proofs.Checks.{differ-true, differ-same}
-use Rattle.sheet.proofs.uneven_lists.Statement.{statement}
-use Rattle.sheet.proofs.uneven_lists.Tie as tie
+use Rattle.checks.proofs.uneven_lists.Statement.{statement}
+use Rattle.checks.proofs.uneven_lists.Tie as tie
 
 returns : tie.Need-returns
 returns c = sym (rw (differ-true _ _ (c .if1 .taken)))
