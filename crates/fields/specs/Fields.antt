@@ -1,5 +1,4 @@
--- What the functions over a line's text say: which number stands before the next comma. The values of a whole line are point-line and
--- sample-line of the meanings.
+-- What the function over a line's text says: which number stands before the next comma.
 use Prim.Native.Nat.{ℕ, _+_}
 use mathlib.Core.List.{List, [], _∷_}
 use mathlib.Core.Option.{Option, none, some}
@@ -7,14 +6,9 @@ use lib.Dec.{eqb}
 use lib.ListN.{length, drop}
 use Rattle.meanings.specs.Lists.{pick}
 use Rattle.meanings.specs.Bytes.{comma}
-use Rattle.meanings.specs.Moves.{Move}
-use Rattle.meanings.specs.Sheet.{number-form, said, Injection}
+use Rattle.meanings.specs.Sheet.{number-form, said}
 use Rattle.fields.specs.declared.Field.{Field}
 use Rattle.fields.specs.declared.Field.the-variants.{Number, NoNumber}
-use Rattle.fields.specs.declared.PointLine.{PointLine}
-use Rattle.fields.specs.declared.PointLine.the-variants.{Point, NoPoint}
-use Rattle.fields.specs.declared.SampleLine.{SampleLine}
-use Rattle.fields.specs.declared.SampleLine.the-variants.{Sample, NoSample}
 
 -- a number, and where it ends
 pub record NumberEnd : Type 0 where
@@ -37,11 +31,3 @@ number-of p a = pick (number-form a) (some (record { value = said 0 a; text-end 
 -- the number that begins at byte p of the text and goes up to the next comma or the end
 unfoldable pub field-at : List ℕ → ℕ → Option NumberEnd
 field-at t p = number-of p (first-part (drop p t))
-
-abbrev pub told-point : PointLine → Option Move
-told-point (Point z h) = some (record { point = z; bandwidth = h })
-told-point NoPoint = none
-
-abbrev pub told-sample : SampleLine → Option Injection
-told-sample (Sample t j v) = some (record { minute = t; injection = j; value = v })
-told-sample NoSample = none

@@ -1,6 +1,6 @@
 // The mark lines of the sheet.
 use checks::out_of_range;
-use fields::PointLine;
+use line_values::PointLine;
 use lines::Line;
 use meanings::Refusal;
 use meanings::Report;
@@ -100,7 +100,7 @@ pub(crate) fn store_point(
     ensures { λ r. ⌜ ((next : List ℕ → List ℕ → Outcome) → with-point full place (take count (now (points .entry))) (take count (now (bandwidths .entry))) (point-line (now (text .entry))) next ≡ or-next (told-verdict r) (next (take (count + 1) (now (points .exit))) (take (count + 1) (now (bandwidths .exit))))) ⌝ }
     ensures { λ r. ⌜ room-after r count ⌝ }
 {
-    let PointLine::Point { point, bandwidth } = fields::point_line(text) else {
+    let PointLine::Point { point, bandwidth } = line_values::point_line(text) else {
         return Verdict::Faulty(Refusal {
             report: Report::MalformedLine,
             place,

@@ -1,6 +1,6 @@
 // The reading lines of the sheet.
 use crate::skip_header;
-use fields::SampleLine;
+use line_values::SampleLine;
 use lines::Line;
 use meanings::Found;
 use meanings::Refusal;
@@ -44,7 +44,7 @@ pub(crate) fn store_sample(
         minute,
         injection,
         value,
-    } = fields::sample_line(text)
+    } = line_values::sample_line(text)
     else {
         return SampleStored::Refused(Refusal {
             report: Report::MalformedLine,

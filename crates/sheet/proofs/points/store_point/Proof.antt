@@ -7,7 +7,7 @@ use lib.ListN.{take}
 use Rattle.meanings.specs.Limits.{full}
 use Rattle.meanings.specs.Reports.{told-verdict, first-of}
 use Rattle.meanings.specs.Sheet.{point-line, point-checks}
-use Rattle.fields.specs.Fields.{told-point}
+use Rattle.line_values.specs.LineValues.{told-point}
 use Rattle.sheet.proofs.Lasts.{point-room}
 use Rattle.sheet.proofs.Stores.{point-stored, point-refused}
 use borrow.Author.Needs.{needs}

@@ -4,7 +4,7 @@ use mathlib.Core.Path.{_≡_, sym, ap, _∙_}
 use mathlib.Core.Option.{none, some}
 use native.Mathlib.Omega.{arith}
 use Rattle.meanings.specs.Sheet.{sample-line}
-use Rattle.fields.specs.Fields.{told-sample}
+use Rattle.line_values.specs.LineValues.{told-sample}
 use Rattle.sheet.proofs.Stores.{sample-falls, sample-dropped, sample-too-many, sample-kept}
 use borrow.Author.Needs.{needs}
 use Rattle.sheet.proofs.samples.store_sample.Statement.{statement}

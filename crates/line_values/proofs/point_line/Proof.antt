@@ -6,9 +6,9 @@ use native.Mathlib.Omega.{arith}
 use borrow.Author.Needs.{needs}
 use borrow.Author.Tests.{le-leb, lt-leb}
 use Rattle.meanings.specs.Limits.{max-u16}
-use Rattle.fields.proofs.Values.{Holds, number-holds, no-number-lacks, point-first-lacks, point-of-one, point-second-lacks, point-of-two, point-of-more}
-use Rattle.fields.proofs.point_line.Statement.{statement}
-use Rattle.fields.proofs.point_line.Tie as tie
+use Rattle.line_values.proofs.Values.{Holds, number-holds, no-number-lacks, point-first-lacks, point-of-one, point-second-lacks, point-of-two, point-of-more}
+use Rattle.line_values.proofs.point_line.Statement.{statement}
+use Rattle.line_values.proofs.point_line.Tie as tie
 
 number-at-requires : tie.Need-number-at-requires
 number-at-requires c κs = search needs

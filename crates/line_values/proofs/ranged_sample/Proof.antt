@@ -3,8 +3,8 @@ use native.Mathlib.Omega.{arith}
 use borrow.Author.Needs.{needs}
 use borrow.Author.Tests.{le-leb, lt-leb}
 use Rattle.meanings.specs.Limits.{max-u16}
-use Rattle.fields.proofs.ranged_sample.Statement.{statement}
-use Rattle.fields.proofs.ranged_sample.Tie as tie
+use Rattle.line_values.proofs.ranged_sample.Statement.{statement}
+use Rattle.line_values.proofs.ranged_sample.Tie as tie
 
 returns : tie.Need-returns
 returns c = rw (lt-leb (c .before .args .minute) max-u16 (omega arith))

@@ -4,9 +4,9 @@ use Prim.Native.Nat.{_+_}
 use mathlib.Core.Path.{sym, _∙_}
 use native.Mathlib.Omega.{arith}
 use borrow.Author.Needs.{needs}
-use Rattle.fields.proofs.Values.{Holds, number-holds, no-number-lacks, sample-first-lacks, sample-of-one, sample-second-lacks, sample-of-two, sample-third-lacks, sample-of-three, sample-of-more}
-use Rattle.fields.proofs.sample_line.Statement.{statement}
-use Rattle.fields.proofs.sample_line.Tie as tie
+use Rattle.line_values.proofs.Values.{Holds, number-holds, no-number-lacks, sample-first-lacks, sample-of-one, sample-second-lacks, sample-of-two, sample-third-lacks, sample-of-three, sample-of-more}
+use Rattle.line_values.proofs.sample_line.Statement.{statement}
+use Rattle.line_values.proofs.sample_line.Tie as tie
 
 number-at-requires : tie.Need-number-at-requires
 number-at-requires c κs = search needs
