@@ -1,0 +1,113 @@
+//! The calls that are measured, over one input and one set of buffers.
+
+use figures::inputs::{Buffers, Input};
+use figures::{direct, plain};
+use tankcurve::slices;
+
+pub struct Contestant {
+    pub name: &'static str,
+    pub call: fn(&Input, &mut Buffers) -> u64,
+}
+
+/// Every contestant answers what the proved call returns: 16 × detail + number.
+pub static CALLS: [Contestant; 8] = [
+    Contestant {
+        name: "tankcurve_smooth",
+        call: |input, lent| {
+            let rows = &mut lent.rows[..5 * input.points.len()];
+            let (minutes, values) = (&input.minutes, &input.values);
+            slices::smooth(minutes, values, &input.points, &input.bandwidths, rows)
+        },
+    },
+    Contestant {
+        name: "plain::smooth",
+        call: |input, lent| {
+            let rows = &mut lent.rows[..5 * input.points.len()];
+            let (minutes, values) = (&input.minutes, &input.values);
+            let passes = plain::smooth(minutes, values, &input.points, &input.bandwidths, rows);
+            passes.map_or_else(|refusal| refusal.code(), |n| 16 * n)
+        },
+    },
+    Contestant {
+        name: "direct::smooth",
+        call: |input, lent| {
+            let rows = &mut lent.rows[..5 * input.points.len()];
+            let (minutes, values) = (&input.minutes, &input.values);
+            let passes = direct::smooth(minutes, values, &input.points, &input.bandwidths, rows);
+            passes.map_or_else(|refusal| refusal.code(), |n| 16 * n)
+        },
+    },
+    Contestant {
+        name: "reference::sweep",
+        call: |input, lent| {
+            let rows = &mut lent.rows[..5 * input.points.len()];
+            let (minutes, values) = (&input.minutes, &input.values);
+            let passes = reference::sweep(minutes, values, &input.points, &input.bandwidths, rows);
+            passes.map_or_else(|r| 16 * r.place + u64::from(r.number), |n| 16 * n)
+        },
+    },
+    Contestant {
+        name: "tankcurve_read",
+        call: |input, lent| {
+            slices::read(
+                &input.sheet,
+                &mut lent.minutes,
+                &mut lent.values,
+                &mut lent.points,
+                &mut lent.bandwidths,
+                &mut lent.counts,
+            )
+        },
+    },
+    Contestant {
+        name: "plain::read",
+        call: |input, lent| {
+            let counts = plain::read(
+                &input.sheet,
+                &mut lent.minutes,
+                &mut lent.values,
+                &mut lent.points,
+                &mut lent.bandwidths,
+            );
+            match counts {
+                Err(refusal) => refusal.code(),
+                Ok((samples, points)) => {
+                    lent.counts = [samples as u64, points as u64];
+                    0
+                }
+            }
+        },
+    },
+    Contestant {
+        name: "tankcurve_text",
+        call: |input, lent| slices::text(&input.sheet, &mut lent.out),
+    },
+    Contestant {
+        name: "plain::text",
+        call: |input, lent| {
+            let length = plain::text(&input.sheet, &mut lent.out);
+            length.map_or_else(|refusal| refusal.code(), |n| 16 * n as u64)
+        },
+    },
+];
+
+pub fn called(name: &str) -> &'static Contestant {
+    CALLS
+        .iter()
+        .find(|c| c.name == name)
+        .expect("a contestant's name")
+}
+
+/// Whether all of them answer the same and leave the same in every buffer.
+pub fn agree(names: &[&str], input: &Input) -> Result<(), String> {
+    let answer = |name: &str| {
+        let mut lent = Buffers::marked();
+        let code = (called(name).call)(input, &mut lent);
+        (code, lent)
+    };
+    let first = answer(names[0]);
+    match names[1..].iter().find(|name| answer(name) != first) {
+        Some(name) => Err(format!("{name} and {} do not agree", names[0])),
+        None => Ok(()),
+    }
+}

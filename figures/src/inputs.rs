@@ -1,0 +1,120 @@
+//! What every contestant gets: the same lists or sheet, and the same buffers.
+
+use crate::plain::{MAX_OUTPUT, MAX_POINTS, MAX_SAMPLES};
+
+/// The lists of a grid and its samples, and the sheet that has them.
+pub struct Input {
+    pub minutes: Vec<u16>,
+    pub values: Vec<u16>,
+    pub points: Vec<u16>,
+    pub bandwidths: Vec<u32>,
+    pub sheet: Vec<u8>,
+}
+
+/// Lent lists, all contestants' alike.
+#[derive(Clone, PartialEq)]
+#[repr(align(64))]
+pub struct Buffers {
+    pub minutes: [u16; MAX_SAMPLES],
+    pub values: [u16; MAX_SAMPLES],
+    pub points: [u16; MAX_POINTS],
+    pub bandwidths: [u32; MAX_POINTS],
+    pub rows: [u64; 5 * MAX_POINTS],
+    pub counts: [u64; 2],
+    pub out: [u8; MAX_OUTPUT],
+}
+
+impl Buffers {
+    /// Buffers with a content that no answer leaves by chance.
+    pub fn marked() -> Box<Buffers> {
+        Box::new(Buffers {
+            minutes: [0xa5a5; MAX_SAMPLES],
+            values: [0xa5a5; MAX_SAMPLES],
+            points: [0xa5a5; MAX_POINTS],
+            bandwidths: [0xa5a5_a5a5; MAX_POINTS],
+            rows: [0xa5a5_a5a5_a5a5_a5a5; 5 * MAX_POINTS],
+            counts: [0xa5a5_a5a5_a5a5_a5a5; 2],
+            out: [0xa5; MAX_OUTPUT],
+        })
+    }
+}
+
+/// 1,024 samples and 512 points, each number divided by `part`, spread over the same minutes, 10,000 to
+/// 65,242. Every number of the sheet has five digits if the bandwidth has.
+pub fn input(part: usize, bandwidth: u32) -> Input {
+    let samples = 0..MAX_SAMPLES / part;
+    let marks = 0..MAX_POINTS / part;
+    let minutes: Vec<u16> = samples
+        .clone()
+        .map(|i| (10_000 + 54 * part * i) as u16)
+        .collect();
+    let values: Vec<u16> = samples
+        .map(|i| (10_000 + i * 40_503 % 55_536) as u16)
+        .collect();
+    let points: Vec<u16> = marks
+        .clone()
+        .map(|k| (10_000 + 108 * part * k) as u16)
+        .collect();
+    let bandwidths: Vec<u32> = marks.map(|_| bandwidth).collect();
+    let mut sheet = b"mark,half\n".to_vec();
+    for (z, h) in points.iter().zip(&bandwidths) {
+        sheet.extend(format!("{z},{h}\n").bytes());
+    }
+    sheet.extend(b"\nminute,inj,vdk\n");
+    for (i, (t, v)) in minutes.iter().zip(&values).enumerate() {
+        sheet.extend(format!("{t},{},{v}\n", 10_000 + i).bytes());
+    }
+    Input {
+        minutes,
+        values,
+        points,
+        bandwidths,
+        sheet,
+    }
+}
+
+impl Input {
+    /// An input with another sheet and the same lists.
+    pub fn with_sheet(&self, sheet: Vec<u8>) -> Input {
+        Input {
+            minutes: self.minutes.clone(),
+            values: self.values.clone(),
+            points: self.points.clone(),
+            bandwidths: self.bandwidths.clone(),
+            sheet,
+        }
+    }
+
+    /// Inputs with one fault or none: a byte of the sheet replaced, the sheet cut short, and a list's number replaced.
+    pub fn edits(&self) -> Vec<Input> {
+        let mut edits = Vec::new();
+        for at in 0..self.sheet.len() {
+            edits.push(self.with_sheet(self.sheet[..at].to_vec()));
+            for byte in [b'\n', b',', b'0', b'2', b'9', b'/', b':'] {
+                let mut sheet = self.sheet.clone();
+                sheet[at] = byte;
+                edits.push(self.with_sheet(sheet));
+            }
+        }
+        edits.push(self.with_sheet(vec![b'\n'; 40_000]));
+        for at in 0..self.minutes.len() {
+            let mut edit = self.with_sheet(Vec::new());
+            edit.minutes[at] /= 2;
+            edits.push(edit);
+        }
+        for at in 0..self.points.len() {
+            let mut edit = self.with_sheet(Vec::new());
+            edit.points[at] /= 2;
+            edits.push(edit);
+            for bandwidth in [0, 1, 60_000, 65_537] {
+                let mut edit = self.with_sheet(Vec::new());
+                edit.bandwidths[at] = bandwidth;
+                edits.push(edit);
+            }
+        }
+        let mut longer = self.with_sheet(Vec::new());
+        longer.minutes.push(65_535);
+        edits.push(longer);
+        edits
+    }
+}

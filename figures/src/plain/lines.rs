@@ -1,0 +1,67 @@
+//! The lines of the sheet and the numbers between their commas.
+
+const LINE_FEED: u8 = b'\n';
+const COMMA: u8 = b',';
+
+/// Where the text of the line that begins at byte `from` ends; the next line begins one further.
+pub fn line_end(sheet: &[u8], from: usize) -> Option<usize> {
+    let rest = sheet.get(from..)?;
+    let length = rest.iter().position(|&b| b == LINE_FEED)?;
+    Some(from + length)
+}
+
+/// The number that begins at byte `from` and goes up to the next comma or the text's end, and where it ends.
+fn number_at(text: &[u8], from: usize) -> Option<(u32, usize)> {
+    let mut at = from;
+    let mut value = 0;
+    while at < text.len() {
+        let b = text[at];
+        if b == COMMA {
+            break;
+        }
+        if !b.is_ascii_digit() || at - from == 5 {
+            return None;
+        }
+        value = value * 10 + u32::from(b - b'0');
+        at += 1;
+    }
+    if at == from || (1 < at - from && text[from] == b'0') {
+        return None;
+    }
+    Some((value, at))
+}
+
+/// The values of a mark line: point and bandwidth, which has no range here.
+pub fn point_line(text: &[u8]) -> Option<(u16, u32)> {
+    let (z, end) = number_at(text, 0)?;
+    if end == text.len() {
+        return None;
+    }
+    let (h, last) = number_at(text, end + 1)?;
+    if last != text.len() {
+        return None;
+    }
+    Some((u16::try_from(z).ok()?, h))
+}
+
+/// The values of a reading line: minute, injection, value.
+pub fn sample_line(text: &[u8]) -> Option<(u16, u16, u16)> {
+    let (t, end) = number_at(text, 0)?;
+    if end == text.len() {
+        return None;
+    }
+    let (j, second) = number_at(text, end + 1)?;
+    if second == text.len() {
+        return None;
+    }
+    let (v, last) = number_at(text, second + 1)?;
+    if last != text.len() {
+        return None;
+    }
+    let minute = u16::try_from(t).ok()?;
+    let injection = u16::try_from(j).ok()?;
+    if injection == 0 {
+        return None;
+    }
+    Some((minute, injection, u16::try_from(v).ok()?))
+}

@@ -1,0 +1,53 @@
+//! The proved calls' algorithms in safe Rust: the same steps and checks in the same order, over slices.
+
+mod checks;
+mod lines;
+mod read;
+mod smooth;
+mod text;
+
+pub use read::read;
+pub use smooth::smooth;
+pub use text::text;
+
+pub(crate) use checks::smooth_fault;
+pub(crate) use smooth::value;
+
+pub const MAX_SAMPLES: usize = 1024;
+pub const MAX_POINTS: usize = 512;
+pub const MAX_SHEET: usize = 32_768;
+pub const MAX_OUTPUT: usize = 31_291;
+pub const MISSING: u64 = 65_536;
+
+/// "What the instrument reports", under document 01's numbers.
+#[derive(Clone, Copy, Debug, PartialEq, Eq)]
+pub enum Report {
+    TooLong = 1,
+    BadHeader = 2,
+    MalformedLine = 3,
+    SampleOutOfOrder = 4,
+    PointOutOfOrder = 5,
+    TooMany = 6,
+    NoPoints = 7,
+    LengthMismatch = 8,
+    BandwidthOutOfRange = 9,
+    EdgeDecreases = 10,
+}
+
+/// A report with its place.
+#[derive(Clone, Copy, Debug, PartialEq, Eq)]
+pub struct Refusal {
+    pub report: Report,
+    pub place: usize,
+}
+
+impl Refusal {
+    /// 16 × place + number, as the proved calls return it.
+    pub fn code(self) -> u64 {
+        16 * self.place as u64 + self.report as u64
+    }
+}
+
+fn refuse<T>(report: Report, place: usize) -> Result<T, Refusal> {
+    Err(Refusal { report, place })
+}

@@ -1,0 +1,102 @@
+//! The program as bytes to bytes.
+
+use super::{read, refuse, smooth, Refusal, Report, MAX_OUTPUT, MAX_POINTS, MAX_SAMPLES, MISSING};
+
+fn put_text(out: &mut [u8], at: usize, text: &[u8]) -> usize {
+    let end = at + text.len();
+    out[at..end].copy_from_slice(text);
+    end
+}
+
+fn put_byte(out: &mut [u8], at: usize, b: u8) -> usize {
+    out[at] = b;
+    at + 1
+}
+
+/// A number in decimal: all digits but the last, then the last.
+fn put_decimal(out: &mut [u8], at: usize, n: u64) -> usize {
+    if n < 10 {
+        return put_byte(out, at, b'0' + n as u8);
+    }
+    let end = put_decimal(out, at, n / 10);
+    put_byte(out, end, b'0' + (n % 10) as u8)
+}
+
+fn put_after_comma(out: &mut [u8], at: usize, n: u64) -> usize {
+    let begin = put_byte(out, at, b',');
+    put_decimal(out, begin, n)
+}
+
+/// A mark's line: point, bandwidth and the row.
+fn put_curve_line(out: &mut [u8], at: usize, point: u16, bandwidth: u32, row: &[u64]) -> usize {
+    let mut at = put_decimal(out, at, u64::from(point));
+    at = put_after_comma(out, at, u64::from(bandwidth));
+    for &n in &row[..4] {
+        at = put_after_comma(out, at, n);
+    }
+    at = put_byte(out, at, b',');
+    at = if row[4] == MISSING {
+        put_byte(out, at, b'-')
+    } else {
+        put_decimal(out, at, row[4])
+    };
+    put_byte(out, at, b'\n')
+}
+
+fn put_pair_line(out: &mut [u8], at: usize, a: u64, b: u64) -> usize {
+    let first_end = put_decimal(out, at, a);
+    let second_end = put_after_comma(out, first_end, b);
+    put_byte(out, second_end, b'\n')
+}
+
+/// Smooths the lists of an accepted sheet and writes the curve.
+fn put_curve(
+    out: &mut [u8],
+    minutes: &[u16],
+    values: &[u16],
+    points: &[u16],
+    bandwidths: &[u32],
+) -> Result<usize, Refusal> {
+    let mut rows = [0; 5 * MAX_POINTS];
+    let rows = &mut rows[..5 * points.len()];
+    let passes = smooth(minutes, values, points, bandwidths, rows)?;
+    let mut at = put_text(out, 0, b"mark,half,left,right,weight,sum,vdk\n");
+    let marks = points.iter().zip(bandwidths);
+    for ((&point, &bandwidth), row) in marks.zip(rows.chunks_exact(5)) {
+        at = put_curve_line(out, at, point, bandwidth, row);
+    }
+    at = put_text(out, at, b"\nkept,passes\n");
+    Ok(put_pair_line(out, at, minutes.len() as u64, passes))
+}
+
+/// The text that the program writes for a sheet, in front of `out`, and its length.
+#[inline(never)]
+pub fn text(sheet: &[u8], out: &mut [u8]) -> Result<usize, Refusal> {
+    if out.len() != MAX_OUTPUT {
+        return refuse(Report::LengthMismatch, 0);
+    }
+    let mut minutes = [0; MAX_SAMPLES];
+    let mut values = [0; MAX_SAMPLES];
+    let mut points = [0; MAX_POINTS];
+    let mut bandwidths = [0; MAX_POINTS];
+    match read(
+        sheet,
+        &mut minutes,
+        &mut values,
+        &mut points,
+        &mut bandwidths,
+    ) {
+        Err(refusal) => {
+            let at = put_text(out, 0, b"refused,place\n");
+            let place = refusal.place as u64;
+            Ok(put_pair_line(out, at, refusal.report as u64, place))
+        }
+        Ok((n, m)) => put_curve(
+            out,
+            &minutes[..n],
+            &values[..n],
+            &points[..m],
+            &bandwidths[..m],
+        ),
+    }
+}

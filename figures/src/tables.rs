@@ -1,0 +1,241 @@
+//! The tables.
+
+use crate::contestants::{agree, called};
+use crate::measure::{
+    instructions, least, median_ratio, process_instructions, process_times, times, written, Times,
+};
+use figures::inputs::{input, Input};
+
+/// The bandwidth of every figure but those that name another.
+const BANDWIDTH: u32 = 20_000;
+
+const SMOOTHS: [&str; 4] = [
+    "tankcurve_smooth",
+    "plain::smooth",
+    "direct::smooth",
+    "reference::sweep",
+];
+const READS: [&str; 2] = ["tankcurve_read", "plain::read"];
+const TEXTS: [&str; 2] = ["tankcurve_text", "plain::text"];
+
+/// A time in microseconds.
+fn micros(nanos: f64) -> String {
+    format!("{:.2} µs", nanos / 1000.0)
+}
+
+/// A whole number with commas between thousands.
+fn grouped(n: u64) -> String {
+    let digits = n.to_string();
+    let mut text = String::new();
+    for (i, digit) in digits.chars().enumerate() {
+        if i != 0 && (digits.len() - i) % 3 == 0 {
+            text.push(',');
+        }
+        text.push(digit);
+    }
+    text
+}
+
+/// Whether a goal is met by the median of the rounds, by the least times and by instructions.
+fn verdict(ratios: [f64; 3], met: impl Fn(f64) -> bool) -> &'static str {
+    match ratios.map(met) {
+        [true, true, _] => "met",
+        [false, false, _] => "missed",
+        _ => "open: the two ratios of times differ",
+    }
+}
+
+/// A line that compares the proved contestant, the first, with another.
+fn line(what: &str, goal: Option<f64>, times: [&Times; 2], counts: [u64; 2]) {
+    let ratios = [
+        median_ratio(times[0], times[1]),
+        least(times[0]) / least(times[1]),
+        counts[0] as f64 / counts[1] as f64,
+    ];
+    let goal = goal.map_or(String::from("none"), |most| {
+        format!("at most {most}: {}", verdict(ratios, |r| r <= most))
+    });
+    println!(
+        "| {what} | {} | {} | {:.2} | {:.2} | {} | {} | {:.2} | {goal} |",
+        micros(least(times[0])),
+        micros(least(times[1])),
+        ratios[0],
+        ratios[1],
+        grouped(counts[0]),
+        grouped(counts[1]),
+        ratios[2],
+    );
+}
+
+fn call_line(what: &str, goal: Option<f64>, names: [&str; 2], given: &Input) -> Result<(), String> {
+    let timed = times(&[(called(names[0]), given), (called(names[1]), given)]);
+    let counts = [
+        instructions(names[0], 1, BANDWIDTH)?,
+        instructions(names[1], 1, BANDWIDTH)?,
+    ];
+    line(what, goal, [&timed[0], &timed[1]], counts);
+    Ok(())
+}
+
+fn beside_rust(program: &str, plain: &str, full: &Input) -> Result<(), String> {
+    println!("### Beside plain Rust\n");
+    println!(
+        "Ratios are proved ÷ plain: the median of the rounds, the least times, the instructions.\n"
+    );
+    println!(
+        "| what | proved, least time | plain, least time | ratio, median | ratio, least | \
+         proved, instructions | plain, instructions | ratio, instructions | goal |"
+    );
+    println!("|---|---|---|---|---|---|---|---|---|");
+    let smooths = [SMOOTHS[0], SMOOTHS[1]];
+    call_line("sweep: `tankcurve_smooth`", Some(1.1), smooths, full)?;
+    call_line("reader: `tankcurve_read`", Some(1.2), READS, full)?;
+    call_line("sheet to text: `tankcurve_text`", None, TEXTS, full)?;
+    let sheets: [(&str, &[u8]); 2] = [("full sheet", &full.sheet), ("empty input", b"")];
+    for (what, sheet) in sheets {
+        let timed = process_times(&[(program, sheet), (plain, sheet)])?;
+        let counts = [
+            process_instructions(program, sheet)?,
+            process_instructions(plain, sheet)?,
+        ];
+        let what = format!("program as a process, {what}");
+        line(&what, None, [&timed[0], &timed[1]], counts);
+    }
+    Ok(())
+}
+
+fn beside_direct_sums() -> Result<(), String> {
+    println!("\n### The sweep beside direct evaluation\n");
+    println!("Ratios are direct ÷ `tankcurve_smooth`. The run is the mean number of samples in a window.\n");
+    println!(
+        "| bandwidth | run | direct evaluation | its least time | ratio, median | ratio, least | \
+         its instructions | ratio, instructions | goal |"
+    );
+    println!("|---|---|---|---|---|---|---|---|---|");
+    for (bandwidth, goal) in [(1440, None), (BANDWIDTH, Some(20.0)), (65_536, Some(20.0))] {
+        let given = input(1, bandwidth);
+        let names = [SMOOTHS[0], SMOOTHS[2], SMOOTHS[3]];
+        let timed = times(&names.map(|name| (called(name), &given)));
+        let proved = instructions(names[0], 1, bandwidth)?;
+        for k in [1, 2] {
+            let count = instructions(names[k], 1, bandwidth)?;
+            let ratios = [
+                median_ratio(&timed[k], &timed[0]),
+                least(&timed[k]) / least(&timed[0]),
+                count as f64 / proved as f64,
+            ];
+            let goal = goal.map_or(String::from("none"), |fewest| {
+                format!("at least {fewest}: {}", verdict(ratios, |r| fewest <= r))
+            });
+            println!(
+                "| {} | {} | `{}` | {} | {:.1} | {:.1} | {} | {:.1} | {goal} |",
+                grouped(u64::from(bandwidth)),
+                mean_run(&given),
+                names[k],
+                micros(least(&timed[k])),
+                ratios[0],
+                ratios[1],
+                grouped(count),
+                ratios[2],
+            );
+        }
+    }
+    Ok(())
+}
+
+/// The mean number of samples in a window.
+fn mean_run(given: &Input) -> usize {
+    let mut all = 0;
+    for (&z, &h) in given.points.iter().zip(&given.bandwidths) {
+        let inside = |&&t: &&u16| u32::from(t.abs_diff(z)) <= h;
+        all += given.minutes.iter().filter(inside).count();
+    }
+    all / given.points.len()
+}
+
+fn growth(parts: &[(usize, Input)]) -> Result<(), String> {
+    println!("\n### Growth\n");
+    println!("Each number is divided by that at full size; linear is 0.25 and 0.50.\n");
+    println!("| call | size | least time | ratio, median | ratio, least | instructions | ratio, instructions |");
+    println!("|---|---|---|---|---|---|---|");
+    for name in [SMOOTHS[0], READS[0], TEXTS[0]] {
+        let call = called(name);
+        let contestants: Vec<_> = parts.iter().map(|(_, given)| (call, given)).collect();
+        let timed = times(&contestants);
+        let whole = instructions(name, 1, BANDWIDTH)?;
+        for (k, (part, given)) in parts.iter().enumerate() {
+            let full = &timed[parts.len() - 1];
+            let count = instructions(name, *part, BANDWIDTH)?;
+            println!(
+                "| `{name}` | {} × {} | {} | {:.3} | {:.3} | {} | {:.3} |",
+                given.minutes.len(),
+                given.points.len(),
+                micros(least(&timed[k])),
+                median_ratio(&timed[k], full),
+                least(&timed[k]) / least(full),
+                grouped(count),
+                count as f64 / whole as f64,
+            );
+        }
+    }
+    Ok(())
+}
+
+/// The contestants agree on every input that is timed, and on inputs with faults.
+fn all_agree(program: &str, plain: &str, parts: &[(usize, Input)]) -> Result<usize, String> {
+    let mut given = input(128, 1440).edits();
+    given.extend([input(1, 1440), input(1, 65_536)]);
+    for given in given.iter().chain(parts.iter().map(|(_, given)| given)) {
+        agree(&SMOOTHS, given)?;
+        agree(&READS, given)?;
+        agree(&TEXTS, given)?;
+    }
+    for sheet in [&parts[2].1.sheet[..], b""] {
+        let expected = reference::program(sheet);
+        if written(program, sheet)? != expected || written(plain, sheet)? != expected {
+            return Err(String::from("the programs do not agree"));
+        }
+    }
+    Ok(given.len() + parts.len())
+}
+
+pub fn print(program: &str, plain: &str) -> Result<(), String> {
+    let parts = [4, 2, 1].map(|part| (part, input(part, BANDWIDTH)));
+    let compared = all_agree(program, plain, &parts)?;
+    let full = &parts[2].1;
+    println!("Before any time was taken the contestants gave equal answers and left equal buffers on {compared} inputs,");
+    println!("those of the tables among them, most of the others with a fault, and the programs wrote the same.\n");
+    println!(
+        "Inputs: {} samples and {} points,",
+        full.minutes.len(),
+        full.points.len()
+    );
+    println!("minutes 10,000 to 65,242 every 54, points 10,000 to 65,188 every 108, bandwidth {BANDWIDTH} where none");
+    println!(
+        "is named: a sweep of {} passes. Their sheet has",
+        passes(full)
+    );
+    println!(
+        "{} bytes, each number five digits, every reading kept. A half and a quarter have every",
+        full.sheet.len()
+    );
+    println!("second and fourth minute and point.");
+    println!();
+    println!("Buffers: lists and sheets on the heap; the lent buffers (minutes and values 1,024 × 2 bytes, points 512 × 2,");
+    println!("bandwidths 512 × 4, rows 2,560 × 8, out 31,291) in one block of the heap, the same block for all contestants.");
+    println!("The reader's own lists (6 KB), the text's lists and rows (26 KB) and the programs' sheet and output (64 KB)");
+    println!("are on the stack, in both languages. Input and buffers stay in the cache from call to call.");
+    println!();
+    println!("Times: contestants take turns in one process, 1,001 rounds of about 150 µs each; a process is timed from");
+    println!("its start to its end, with pipes, 401 rounds. Instructions: callgrind, what 8 calls more add, divided by 8;");
+    println!("of a process all, the loader's too.\n");
+    beside_rust(program, plain, full)?;
+    beside_direct_sums()?;
+    growth(&parts)
+}
+
+fn passes(given: &Input) -> u64 {
+    let mut rows = vec![0; 5 * given.points.len()];
+    let (minutes, values) = (&given.minutes, &given.values);
+    tankcurve::smooth(minutes, values, &given.points, &given.bandwidths, &mut rows).unwrap_or(0)
+}
