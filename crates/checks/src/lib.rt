@@ -1,14 +1,12 @@
-// The refusals of document 01 over readings and half widths, for any pair of limits. Every function takes every input.
+// The single tests that the calls' refusals are made of, the limits, and the reports' numbers. Every function takes every input.
 use meanings::Found;
 use meanings::Limits;
-use meanings::Refusal;
 use meanings::Report;
-use meanings::Verdict;
 ghost use mathlib.Core.Path.{_≡_};
 ghost use lib.ListN.{length};
 ghost use Rattle.meanings.specs.Limits.{full as full-limits};
 ghost use Rattle.meanings.specs.Lists.{lowest};
-ghost use Rattle.meanings.specs.Reports.{number, told-verdict, told-found, first-of, decreases, bad-bandwidth, size-checks, bandwidth-checks, evaluate-checks, advance-checks};
+ghost use Rattle.meanings.specs.Reports.{number, told-found, decreases, bad-bandwidth, edge-below};
 ghost use Rattle.checks.specs.ReaderLists.{uneven-lists};
 
 // Document 01's limits: 1,024 kept readings and 512 marks.
@@ -66,85 +64,6 @@ pub fn out_of_range(bandwidth: u32) -> bool
     65536 < bandwidth
 }
 
-// What is looked at first wherever readings come alone: 8, 6.
-pub fn size_fault(minutes: &[u16], values: &[u16], limits: Limits) -> Verdict
-    ensures { λ r. ⌜ told-verdict r ≡ first-of (size-checks limits (now (minutes .entry)) (now (values .entry))) ⌝ }
-{
-    if minutes.len() != values.len() {
-        return Verdict::Faulty(Refusal {
-            report: Report::LengthMismatch,
-            place: 0,
-        });
-    }
-    if limits.samples < minutes.len() {
-        return Verdict::Faulty(Refusal {
-            report: Report::TooMany,
-            place: 0,
-        });
-    }
-    Verdict::Fit
-}
-
-// What is looked at last wherever one half width is given: 9.
-pub fn bandwidth_fault(bandwidth: u32) -> Verdict
-    ensures { λ r. ⌜ told-verdict r ≡ first-of (bandwidth-checks bandwidth) ⌝ }
-{
-    if out_of_range(bandwidth) {
-        return Verdict::Faulty(Refusal {
-            report: Report::BandwidthOutOfRange,
-            place: 0,
-        });
-    }
-    Verdict::Fit
-}
-
-// What the question at one mark is refused for: 8, 6, 4, 9.
-pub fn evaluate_fault(minutes: &[u16], values: &[u16], bandwidth: u32, limits: Limits) -> Verdict
-    ensures { λ r. ⌜ told-verdict r ≡ first-of (evaluate-checks limits (now (minutes .entry)) (now (values .entry)) bandwidth) ⌝ }
-{
-    match size_fault(minutes, values, limits) {
-        Verdict::Faulty(refusal) => Verdict::Faulty(refusal),
-        Verdict::Fit => match first_decrease(minutes) {
-            Found::At(i) => Verdict::Faulty(Refusal {
-                report: Report::SampleOutOfOrder,
-                place: i,
-            }),
-            Found::Nothing => bandwidth_fault(bandwidth),
-        },
-    }
-}
-
-// What a step is refused for, on a record with these edges: 8, 6, 11, 9.
-pub fn advance_fault(
-    minutes: &[u16],
-    values: &[u16],
-    left: usize,
-    right: usize,
-    bandwidth: u32,
-    limits: Limits,
-) -> Verdict
-    ensures { λ r. ⌜ told-verdict r ≡ first-of (advance-checks limits (now (minutes .entry)) (now (values .entry)) left right bandwidth) ⌝ }
-{
-    match size_fault(minutes, values, limits) {
-        Verdict::Faulty(refusal) => Verdict::Faulty(refusal),
-        Verdict::Fit => {
-            if right < left {
-                return Verdict::Faulty(Refusal {
-                    report: Report::InvalidRecord,
-                    place: 0,
-                });
-            }
-            if minutes.len() < right {
-                return Verdict::Faulty(Refusal {
-                    report: Report::InvalidRecord,
-                    place: 0,
-                });
-            }
-            bandwidth_fault(bandwidth)
-        }
-    }
-}
-
 // Whether the reader's lists are of another length than 1,024, 1,024, 512, 512.
 pub fn uneven_lists(minutes: usize, values: usize, points: usize, bandwidths: usize) -> bool
     ensures { λ r. ⌜ r ≡ uneven-lists full-limits minutes values points bandwidths ⌝ }
@@ -162,4 +81,18 @@ pub fn uneven_lists(minutes: usize, values: usize, points: usize, bandwidths: us
         return true;
     }
     false
+}
+
+// Whether an edge of the window at one mark lies below that at the mark before it. Edges are compared by sums, so none is negative.
+pub fn edge_below(point: u16, bandwidth: u32, point_before: u16, bandwidth_before: u32) -> bool
+    ensures { λ r. ⌜ r ≡ edge-below point bandwidth «point_before» «bandwidth_before» ⌝ }
+{
+    let z = point as u64;
+    let h = bandwidth as u64;
+    let z0 = point_before as u64;
+    let h0 = bandwidth_before as u64;
+    if z + h0 < z0 + h {
+        return true;
+    }
+    z + h < z0 + h0
 }

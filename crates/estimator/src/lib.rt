@@ -6,14 +6,14 @@ mod smoothing;
 mod step;
 mod sums;
 
-use checks::advance_fault;
-use checks::evaluate_fault;
 use checks::full;
 use meanings::Advance;
 use meanings::Evaluation;
 use meanings::RunningSums;
 use meanings::Smoothing;
 use meanings::Verdict;
+use point_checks::advance_fault;
+use point_checks::evaluate_fault;
 use smooth_checks::smooth_fault;
 ghost use mathlib.Core.Path.{_≡_};
 ghost use Prim.Native.Nat.{_+_, _*_};

@@ -1,11 +1,11 @@
 // The mark lines of the sheet.
+use checks::edge_below;
 use checks::out_of_range;
 use line_values::PointLine;
 use lines::Line;
 use meanings::Refusal;
 use meanings::Report;
 use meanings::Verdict;
-use smooth_checks::edge_below;
 ghost use mathlib.Core.Path.{_≡_};
 ghost use Prim.Native.Nat.{ℕ, _+_, _≤_};
 ghost use mathlib.Core.List.{List, [], _∷_, _++_};

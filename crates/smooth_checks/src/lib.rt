@@ -1,4 +1,5 @@
 // The refusals of a sweep, for any pair of limits. Every public function takes every input.
+use checks::edge_below;
 use checks::first_decrease;
 use checks::out_of_range;
 use meanings::Found;
@@ -11,21 +12,7 @@ ghost use Prim.Native.Nat.{_*_};
 ghost use mathlib.Core.Bool.{_||_};
 ghost use lib.ListN.{length, getD};
 ghost use Rattle.meanings.specs.Lists.{lowest};
-ghost use Rattle.meanings.specs.Reports.{told-verdict, told-found, first-of, bad-bandwidth, differ, uneven-samples, edge-below, edge-decreases, smooth-size-checks, smooth-order-checks, smooth-checks};
-
-// Whether an edge of the window at one mark lies below that at the mark before it. Edges are compared by sums, so none is negative.
-pub fn edge_below(point: u16, bandwidth: u32, point_before: u16, bandwidth_before: u32) -> bool
-    ensures { λ r. ⌜ r ≡ edge-below point bandwidth «point_before» «bandwidth_before» ⌝ }
-{
-    let z = point as u64;
-    let h = bandwidth as u64;
-    let z0 = point_before as u64;
-    let h0 = bandwidth_before as u64;
-    if z + h0 < z0 + h {
-        return true;
-    }
-    z + h < z0 + h0
-}
+ghost use Rattle.meanings.specs.Reports.{told-verdict, told-found, first-of, bad-bandwidth, differ, uneven-samples, edge-decreases, smooth-size-checks, smooth-order-checks, smooth-checks};
 
 // The lowest position whose half width is out of range.
 pub fn first_out_of_range(bandwidths: &[u32]) -> Found

@@ -1,8 +1,8 @@
 -- The one test decides.
 use mathlib.Core.Path.{sym, _∙_}
 use borrow.Author.Needs.{needs}
-use Rattle.checks.proofs.bandwidth_fault.Statement.{statement}
-use Rattle.checks.proofs.bandwidth_fault.Tie as tie
+use Rattle.point_checks.proofs.bandwidth_fault.Statement.{statement}
+use Rattle.point_checks.proofs.bandwidth_fault.Tie as tie
 
 out-of-range-requires : tie.Need-out-of-range-requires
 out-of-range-requires c κs = search needs

@@ -1,8 +1,8 @@
 -- Each way out has passed the tests before it, in the definition's order.
 use borrow.Author.Tests.{lt-ltb, le-ltb}
 use Rattle.meanings.proofs.Checks.{differ-true, differ-same}
-use Rattle.checks.proofs.size_fault.Statement.{statement}
-use Rattle.checks.proofs.size_fault.Tie as tie
+use Rattle.point_checks.proofs.size_fault.Statement.{statement}
+use Rattle.point_checks.proofs.size_fault.Tie as tie
 
 returns : tie.Need-returns
 returns c = rw (differ-true _ _ (c .if1 .taken))

@@ -2,8 +2,8 @@
 use mathlib.Core.Path.{sym}
 use borrow.Author.Needs.{needs}
 use borrow.Author.Tests.{lt-ltb, le-ltb}
-use Rattle.smooth_checks.proofs.edge_below.Statement.{statement}
-use Rattle.smooth_checks.proofs.edge_below.Tie as tie
+use Rattle.checks.proofs.edge_below.Statement.{statement}
+use Rattle.checks.proofs.edge_below.Tie as tie
 
 add-if1 : tie.Need-add-if1
 add-if1 c = search needs
