@@ -14,9 +14,9 @@ use lib.ListN.{length, drop, getD, length-append, length-drop, drop-of-length-le
 use lib.Seq.{drop-cons}
 use Rattle.meanings.specs.Bytes.{comma, zero-digit, nine-digit}
 use Rattle.meanings.specs.Sheet.{digit, digits, said, number-form}
-use Rattle.meanings.proofs.Decimal.{said-append}
-use Rattle.meanings.proofs.Numbers.{and-true-both, digits-more, said-below}
-use Rattle.meanings.proofs.Texts.{Free, digits-free}
+use Rattle.text_laws.proofs.Decimal.{said-append}
+use Rattle.text_laws.proofs.Numbers.{and-true-both, digits-more, said-below}
+use Rattle.text_laws.proofs.Texts.{Free, digits-free}
 use Rattle.fields.specs.Fields.{first-part, number-of, field-at}
 
 and-false : (a : Bool) → (a && false) ≡ false

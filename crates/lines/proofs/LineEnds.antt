@@ -12,7 +12,7 @@ use lib.ListN.{length, getD, take, drop, length-append, length-drop, drop-of-len
 use lib.Seq.{drop-cons, take-at, drop-drop, drop-append-add}
 use Rattle.meanings.specs.Bytes.{line-feed}
 use Rattle.meanings.specs.Sheet.{Lines, end, unended, line, with-byte, lines}
-use Rattle.meanings.proofs.Texts.{first-line}
+use Rattle.text_laws.proofs.Texts.{first-line}
 use Rattle.lines.specs.Lines.{LineEnd, first-end, line-at}
 
 byte-in-front : (p b : ℕ) (ls : Lines) → first-end p (with-byte false b ls) ≡ first-end (suc p) ls

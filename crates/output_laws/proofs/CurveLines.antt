@@ -15,7 +15,7 @@ use Rattle.meanings.specs.Estimate.{Fit, left-of, right-of, weight-of, sum-of, 
 use Rattle.meanings.specs.Sheet.{Contents}
 use Rattle.meanings.specs.Output.{decimal, value-text, curve-line, curve-lines}
 use Rattle.meanings.proofs.Bounds.{weight-bound, sum-bound, value-bound}
-use Rattle.meanings.proofs.Numbers.{decimal-length}
+use Rattle.text_laws.proofs.Numbers.{decimal-length}
 use Rattle.meanings.proofs.Rounding.{value-missing}
 use Rattle.meanings.proofs.Window.{left-at-most-right, right-at-most-length}
 use Rattle.output_laws.proofs.AcceptedSheet.{AcceptedContents}

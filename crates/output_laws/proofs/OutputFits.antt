@@ -12,7 +12,7 @@ use Rattle.meanings.specs.Reports.{given, refused}
 use Rattle.meanings.specs.Running.{fresh, passes}
 use Rattle.meanings.specs.Sheet.{Contents, Outcome, read-sheet}
 use Rattle.meanings.specs.Output.{curve-text, outcome-text, program}
-use Rattle.meanings.proofs.Numbers.{decimal-length}
+use Rattle.text_laws.proofs.Numbers.{decimal-length}
 use Rattle.meanings.proofs.Passes.{passes-at-most-twice}
 use Rattle.output_laws.proofs.AcceptedSheet.{AcceptedContents, accepted-contents}
 use Rattle.output_laws.proofs.CurveLines.{curve-lines-fit}

@@ -8,7 +8,7 @@ use lib.ListN.{length, take, drop, length-drop}
 use Rattle.meanings.specs.declared.Limits.{Limits}
 use Rattle.meanings.specs.Lists.{pick}
 use Rattle.meanings.specs.Sheet.{Lines, end, unended, line, lines, same, Outcome, refused-at, header, point-line, with-point, after-points, read-points, sample-line, with-sample, read-samples}
-use Rattle.meanings.proofs.Texts.{no-lines}
+use Rattle.text_laws.proofs.Texts.{no-lines}
 use Rattle.lines.specs.Lines.{first-end, line-at}
 use Rattle.lines.proofs.LineEnds.{LineFound}
 

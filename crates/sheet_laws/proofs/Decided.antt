@@ -18,8 +18,8 @@ use Rattle.meanings.specs.Reports.{Fault, first-of}
 use Rattle.meanings.specs.Sheet.{Lines, end, unended, line, lines, point-line, Injection, sample-line, Contents, point-checks, sample-checks}
 use Rattle.meanings.specs.SheetForm.{print-point, print-points, print-sample, print-samples, print-sheet, point-head, sample-head, kept-of, FitPoints, FitSamples, IsSheet, Begins, Refused, too-long, no-point-header, no-empty-line, malformed-point, faulty-point, no-point, no-sample-header, malformed-sample, faulty-sample}
 use Rattle.meanings.specs.Output.{text-line}
-use Rattle.meanings.proofs.Texts.{no-lines, first-line}
-use Rattle.meanings.proofs.ValueLines.{no-point-begins, no-sample-begins}
+use Rattle.text_laws.proofs.Texts.{no-lines, first-line}
+use Rattle.sheet_laws.proofs.ValueLines.{no-point-begins, no-sample-begins}
 use Rattle.sheet_laws.proofs.LineOrder.{minutes-of, values-of, points-of, bandwidths-of, sample-fits, point-fits}
 use Rattle.sheet_laws.proofs.Headers.{header-there}
 use Rattle.sheet_laws.proofs.PointFaults.{point-fault-of-check}

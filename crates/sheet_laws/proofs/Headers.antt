@@ -13,8 +13,8 @@ use Rattle.meanings.specs.Lists.{pick}
 use Rattle.meanings.specs.Bytes.{line-feed}
 use Rattle.meanings.specs.Sheet.{Lines, end, unended, line, lines, Outcome, refused-at, same, header}
 use Rattle.meanings.specs.SheetForm.{Begins}
-use Rattle.meanings.proofs.Numbers.{and-true-both}
-use Rattle.meanings.proofs.Texts.{first-line}
+use Rattle.text_laws.proofs.Numbers.{and-true-both}
+use Rattle.text_laws.proofs.Texts.{first-line}
 
 same-true : (s t : List ℕ) → same s t ≡ true → s ≡ t
 same-true [] [] e = refl

@@ -9,4 +9,6 @@ pub mod PointLines
 pub mod Printed
 pub mod SampleFaults
 pub mod SampleLines
+pub mod SheetForms
+pub mod ValueLines
 pub mod WrongReaders

@@ -15,7 +15,7 @@ use Rattle.meanings.specs.Sheet.{Lines, line, lines, point-line, Injection, sam
 use Rattle.meanings.specs.SheetForm.{print-point, print-points, print-sample, print-samples, point-head, sample-head, kept-of, PointForm, SampleForm, Follows, Neighbours, Each, BandwidthRange, FitPoints, MinuteOrder, FitSamples}
 use Rattle.meanings.specs.Reports.{first-of}
 use Rattle.meanings.specs.Output.{text-line}
-use Rattle.meanings.proofs.ValueLines.{point-text, sample-text, point-printed, sample-printed, point-line-of-text, sample-line-of-text, lines-of-point, lines-of-sample}
+use Rattle.sheet_laws.proofs.ValueLines.{point-text, sample-text, point-printed, sample-printed, point-line-of-text, sample-line-of-text, lines-of-point, lines-of-sample}
 use Rattle.sheet_laws.proofs.LineOrder.{kept-more, minutes-of, values-of, points-of, bandwidths-of, sample-checks-none, point-checks-none}
 
 -- the byte after the mark lines ms, and the byte after the reading lines js too

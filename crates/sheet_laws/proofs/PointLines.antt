@@ -12,8 +12,8 @@ use Rattle.meanings.specs.Moves.{Move}
 use Rattle.meanings.specs.Reports.{Fault, refused, first-of}
 use Rattle.meanings.specs.Sheet.{Lines, end, unended, line, lines, point-line, refused-at, point-checks, with-point, read-points}
 use Rattle.meanings.specs.SheetForm.{print-point, print-points, PointForm, Begins}
-use Rattle.meanings.proofs.Texts.{first-line}
-use Rattle.meanings.proofs.ValueLines.{lines-of-point, point-text, point-line-of-text, point-line-printed}
+use Rattle.text_laws.proofs.Texts.{first-line}
+use Rattle.sheet_laws.proofs.ValueLines.{lines-of-point, point-text, point-line-of-text, point-line-printed}
 use Rattle.sheet_laws.proofs.Passed.{after-marks}
 use Rattle.sheet_laws.proofs.LineOrder.{points-of, bandwidths-of}
 

@@ -13,7 +13,7 @@ use Rattle.meanings.specs.declared.Limits.{Limits}
 use Rattle.meanings.specs.Reports.{Fault, report, at, first-of}
 use Rattle.meanings.specs.Sheet.{Injection, kept, sample-checks}
 use Rattle.meanings.specs.SheetForm.{kept-of, Neighbours, MinuteOrder, SampleFault}
-use Rattle.meanings.proofs.Numbers.{and-true-both}
+use Rattle.text_laws.proofs.Numbers.{and-true-both}
 use Rattle.sheet_laws.proofs.Lasts.{last-fails, neighbours-more, last-holds, last-found, last-is-tested}
 use Rattle.sheet_laws.proofs.LineOrder.{minute-falls, decreases-last, minutes-of}
 

@@ -11,8 +11,8 @@ use Rattle.meanings.specs.Bytes.{line-feed}
 use Rattle.meanings.specs.Reports.{Fault, refused, first-of}
 use Rattle.meanings.specs.Sheet.{Lines, end, unended, line, lines, Injection, sample-line, refused-at, sample-checks, with-sample, read-samples}
 use Rattle.meanings.specs.SheetForm.{print-sample, print-samples, kept-of, SampleForm, Begins}
-use Rattle.meanings.proofs.Texts.{no-lines, first-line}
-use Rattle.meanings.proofs.ValueLines.{lines-of-sample, sample-text, sample-line-of-text, sample-line-printed}
+use Rattle.text_laws.proofs.Texts.{no-lines, first-line}
+use Rattle.sheet_laws.proofs.ValueLines.{lines-of-sample, sample-text, sample-line-of-text, sample-line-printed}
 use Rattle.sheet_laws.proofs.LineOrder.{minutes-of}
 use Rattle.sheet_laws.proofs.Passed.{after-samples}
 

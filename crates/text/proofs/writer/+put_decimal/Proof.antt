@@ -7,7 +7,7 @@ use borrow.Fn.Kinds.{In}
 use borrow.Fn.PlainCycle.{Measures, is, falls, and}
 use lib.ListN.{length, length-append}
 use Rattle.meanings.specs.Output.{decimal}
-use Rattle.meanings.proofs.Numbers.{decimal-of-digit}
+use Rattle.text_laws.proofs.Numbers.{decimal-of-digit}
 use Rattle.text.proofs.Digits.{decimal-ends}
 use Rattle.text.proofs.Writing.{room-behind, stored-behind}
 use Rattle.text.proofs.writer.put_decimal.Reads as put-decimal

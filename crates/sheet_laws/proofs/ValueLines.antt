@@ -8,15 +8,15 @@ use mathlib.Core.Option.{Option, none, some}
 use native.Mathlib.Omega.{arith}
 use borrow.Author.Tests.{leb-true, le-leb}
 use lib.Dec.{leb}
 use Rattle.meanings.specs.Lists.{pick}
 use Rattle.meanings.specs.Limits.{max-u16}
 use Rattle.meanings.specs.Bytes.{line-feed, comma}
 use Rattle.meanings.specs.Moves.{Move}
 use Rattle.meanings.specs.Sheet.{unended, line, lines, parts, parsed, ranged-point, two-parts, point-line, Injection, ranged-sample, three-parts, sample-line}
 use Rattle.meanings.specs.SheetForm.{print-point, print-sample, PointForm, SampleForm, Begins}
 use Rattle.meanings.specs.Output.{decimal}
-use Rattle.meanings.proofs.Numbers.{and-true-both, decimal-parsed, parsed-decimal}
-use Rattle.meanings.proofs.Texts.{Free, free-append, decimal-free, lines-of-line, parts-before-comma, parts-of-one, two-parts-text, three-parts-text}
+use Rattle.text_laws.proofs.Numbers.{and-true-both, decimal-parsed, parsed-decimal}
+use Rattle.text_laws.proofs.Texts.{Free, free-append, decimal-free, lines-of-line, parts-before-comma, parts-of-one, two-parts-text, three-parts-text}
 
 -- the lines without their line feeds
 abbrev pub point-text : Move → List ℕ

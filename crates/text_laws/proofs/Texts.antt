@@ -7,10 +7,10 @@ use mathlib.Core.List.{List, [], _∷_, _++_}
 use native.Mathlib.Omega.{arith}
 use borrow.Author.Tests.{leb-true, eqb-true, ne-eqb}
 use lib.Dec.{leb, eqb}
 use Rattle.meanings.specs.Bytes.{line-feed, comma, zero-digit, nine-digit}
 use Rattle.meanings.specs.Sheet.{Lines, end, unended, line, with-byte, lines, with-part-byte, parts, digit, digits}
 use Rattle.meanings.specs.Output.{decimal}
-use Rattle.meanings.proofs.Numbers.{and-true-both, decimal-digits}
+use Rattle.text_laws.proofs.Numbers.{and-true-both, decimal-digits}
 
 -- no byte of the text is x
 abbrev pub Free : ℕ → List ℕ → Type 0

@@ -10,11 +10,11 @@ use native.Mathlib.Omega.{arith}
 use borrow.Author.Tests.{ltb-true, ltb-false, leb-true, le-leb, le-ltb, lt-ltb, ne-eqb, eqb-false, not-true}
 use lib.Dec.{ltb, leb, eqb}
 use lib.ListN.{length, length-append}
 use Rattle.meanings.specs.Lists.{pick}
 use Rattle.meanings.specs.Bytes.{zero-digit, nine-digit}
 use Rattle.meanings.specs.Sheet.{digit, digits, said, plain-front, number-form, parsed}
 use Rattle.meanings.specs.Output.{decimal}
-use Rattle.meanings.proofs.Decimal.{decimal-step, decimal-says}
+use Rattle.text_laws.proofs.Decimal.{decimal-step, decimal-says}
 
 pub and-true-both : (a b : Bool) → (a && b) ≡ true → (a ≡ true) × (b ≡ true)
 and-true-both true b e = (refl, e)

@@ -6,15 +6,15 @@ use mathlib.Core.Logic.{inl, inr}
 use mathlib.Core.List.{List, [], _∷_}
 use native.Mathlib.Omega.{arith}
 use lib.ListN.{length}
 use Rattle.meanings.specs.declared.Limits.{Limits}
 use Rattle.meanings.specs.Limits.{full}
 use Rattle.meanings.specs.Bytes.{ascii, sample-header}
 use Rattle.meanings.specs.Moves.{Move}
 use Rattle.meanings.specs.Sheet.{Injection}
 use Rattle.meanings.specs.SheetForm.{IsSheet, Refused, too-long, no-point-header, no-empty-line, malformed-point, faulty-point, no-point, no-sample-header, malformed-sample, faulty-sample, PointFault, SampleFault, edge, Neighbours, Follows, Begins, point-head}
 use Rattle.meanings.specs.Output.{decimal, decimal-with, text-line}
 use Rattle.meanings.specs.Cases.{contents}
-use Rattle.meanings.proofs.ValueLines.{no-point-begins, no-sample-begins}
+use Rattle.sheet_laws.proofs.ValueLines.{no-point-begins, no-sample-begins}
 
 move : ℕ → ℕ → Move
 move z h = record { point = z; bandwidth = h }

@@ -1,0 +1,1 @@
+// Laws of the sheet's texts and numbers, in proofs/. No code.
