@@ -20,7 +20,6 @@ use meanings::Writing;
 use sheet::read_sheet;
 use text::curve_text;
 ghost use mathlib.Core.Path.{_≡_};
-ghost use lib.ListN.{length};
 ghost use Rattle.meanings.specs.Limits.{full};
 ghost use Rattle.meanings.specs.Estimate.{fields};
 ghost use Rattle.meanings.specs.Running.{advance as advance-meaning};

@@ -77,7 +77,7 @@ pub struct Estimate {
     pub weight: u64,
     /// The sum of the weights, each times its sample's value.
     pub sum: u64,
-    /// The sum divided by the weight, or [`MISSING`].
+    /// The sum divided by the weight to the nearest whole number, halves upward, or [`MISSING`].
     pub value: u64,
 }
 
@@ -208,8 +208,8 @@ pub fn fill(
     outcome(slices::fill(first, spacing, preset, points, bandwidths)).map(|_| ())
 }
 
-/// Reads a sheet ("the reader of the tank sheet"): its samples and points in front of the lists, whose
-/// rest is untouched. Reports 1, 2, 3, 4, 5, 9, 10, 6, 7.
+/// Reads a sheet ("the reader of the tank sheet"): its kept samples and its points at the front of the
+/// lists, whose rest is untouched. Reports 1, then line by line 2, 7, or 3, 4 or 5, 9, 10, 6.
 pub fn read(
     sheet: &[u8],
     minutes: &mut [u16; MAX_SAMPLES],
