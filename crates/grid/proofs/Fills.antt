@@ -1,8 +1,8 @@
 -- A list that is filled from its front: what is stored at k stands behind the k numbers before, in front of what the list held.
-use Prim.Native.Nat.{ℕ, zero, suc, _+_, _-_, _*_, _^_, _≤_, _<_}
+use Prim.Native.Nat.{ℕ, zero, suc, _+_, _-_, _*_, _≤_, _<_}
 use mathlib.Core.Path.{_≡_, refl, sym, ap, _∙_}
 use mathlib.Core.List.{List, [], _∷_, _++_, append-nil}
-use native.Mathlib.Nat.{mul-le-mul, mul-le-mul-right}
+use native.Mathlib.Nat.{mul-le-mul-right}
 use native.Mathlib.Numerals.{add-one}
 use native.Mathlib.Omega.{arith}
 use lib.ListN.{length, drop, set, replicate, length-append, length-drop, length-replicate, replicate-append-replicate, drop-of-length-le}
@@ -43,7 +43,3 @@ replicate-one-more h k = ap (λ (n : ℕ). replicate n h) (sym (add-one k)) ∙ 
 -- mark k is at most the last mark
 pub point-at-most : (z d k n m : ℕ) → k < n → z + (n - 1) * d ≤ m → z + k * d ≤ m
 point-at-most z d k n m l u = let p = mul-le-mul-right {m = k} {n = n - 1} d (omega arith) in omega arith
-
--- with at most 512 marks the last one lies far below 2^64
-pub last-point-small : (n d : ℕ) → n ≤ 512 → d ≤ 65536 → (n - 1) * d ≤ 2 ^ 25
-last-point-small n d a b = mul-le-mul {n₁ = n - 1} {n₂ = 512} (omega arith) b

@@ -4,9 +4,9 @@ use native.Mathlib.Omega.{arith}
 use borrow.Author.Needs.{needs}
 use borrow.Author.Tests.{lt-ltb, le-ltb, le-leb, lt-leb, eq-eqb, ne-eqb}
 use Rattle.meanings.proofs.Checks.{differ-true, differ-same}
-use Rattle.grid.proofs.Fills.{last-point-small}
-use Rattle.grid.proofs.fill_fault.Statement.{statement}
-use Rattle.grid.proofs.fill_fault.Tie as tie
+use Rattle.grid_checks.proofs.LastPoints.{last-point-small}
+use Rattle.grid_checks.proofs.fill_fault.Statement.{statement}
+use Rattle.grid_checks.proofs.fill_fault.Tie as tie
 
 returns : tie.Need-returns
 returns c = rw (differ-true _ _ (c .if1 .taken))
