@@ -9,11 +9,14 @@ use std::process::{Command, Stdio};
 use std::time::{Duration, Instant};
 
 /// How many rounds a call is timed in, and for about how long in each.
-const ROUNDS: usize = 1001;
-const BATCH: Duration = Duration::from_micros(150);
+pub const ROUNDS: usize = 1001;
+pub const BATCH: Duration = Duration::from_micros(150);
 
 /// How many rounds a process is timed in.
-const PROCESS_ROUNDS: usize = 401;
+pub const PROCESS_ROUNDS: usize = 401;
+
+/// How many calls are counted.
+pub const COUNTED_CALLS: u64 = 8;
 
 /// The times of one contestant, a round each, in nanoseconds for one call.
 pub type Times = Vec<f64>;
@@ -119,7 +122,6 @@ fn counted(words: &[&str], sheet: &[u8]) -> Result<u64, String> {
 
 /// The instructions of one call: what so many calls more add, divided.
 pub fn instructions(name: &str, part: usize, bandwidth: u32) -> Result<u64, String> {
-    const CALLS: u64 = 8;
     let own = env::current_exe().map_err(|error| error.to_string())?;
     let own = own.to_string_lossy().into_owned();
     let (part, bandwidth) = (part.to_string(), bandwidth.to_string());
@@ -127,7 +129,8 @@ pub fn instructions(name: &str, part: usize, bandwidth: u32) -> Result<u64, Stri
         let calls = calls.to_string();
         counted(&[&own, "calls", name, &part, &bandwidth, &calls], b"")
     };
-    Ok((count(2 * CALLS)? - count(CALLS)?) / CALLS)
+    let added = count(2 * COUNTED_CALLS)? - count(COUNTED_CALLS)?;
+    Ok(added / COUNTED_CALLS)
 }
 
 /// The instructions of a whole process, its start included.

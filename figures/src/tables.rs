@@ -3,6 +3,7 @@
 use crate::contestants::{agree, called};
 use crate::measure::{
     instructions, least, median_ratio, process_instructions, process_times, times, written, Times,
+    BATCH, COUNTED_CALLS, PROCESS_ROUNDS, ROUNDS,
 };
 use figures::inputs::{input, Input};
 
@@ -28,7 +29,7 @@ fn grouped(n: u64) -> String {
     let digits = n.to_string();
     let mut text = String::new();
     for (i, digit) in digits.chars().enumerate() {
-        if i != 0 && (digits.len() - i) % 3 == 0 {
+        if i != 0 && (digits.len() - i).is_multiple_of(3) {
             text.push(',');
         }
         text.push(digit);
@@ -106,7 +107,12 @@ fn beside_rust(program: &str, plain: &str, full: &Input) -> Result<(), String> {
 
 fn beside_direct_sums() -> Result<(), String> {
     println!("\n### The sweep beside direct evaluation\n");
-    println!("Ratios are direct ÷ `tankcurve_smooth`. The run is the mean number of samples in a window.\n");
+    println!(
+        "Ratios are direct ÷ `tankcurve_smooth`. The run is the mean number of samples in a window. `direct::smooth` has
+the same checks and edges and sums over the run of each point in 64 bits; `reference::sweep`, the second
+implementation, goes through all samples at each point in 128 bits, here without checks of overflow.
+"
+    );
     println!(
         "| bandwidth | run | direct evaluation | its least time | ratio, median | ratio, least | \
          its instructions | ratio, instructions | goal |"
@@ -203,32 +209,36 @@ pub fn print(program: &str, plain: &str) -> Result<(), String> {
     let parts = [4, 2, 1].map(|part| (part, input(part, BANDWIDTH)));
     let compared = all_agree(program, plain, &parts)?;
     let full = &parts[2].1;
-    println!("Before any time was taken the contestants gave equal answers and left equal buffers on {compared} inputs,");
-    println!("those of the tables among them, most of the others with a fault, and the programs wrote the same.\n");
+    let (samples, points) = (full.minutes.len() as u64, full.points.len() as u64);
     println!(
-        "Inputs: {} samples and {} points,",
-        full.minutes.len(),
-        full.points.len()
+        "Before any time was taken the contestants gave equal answers and left equal buffers on {} inputs, those of
+the tables among them and most of the others with a fault, and the two programs wrote the same.
+
+Inputs: {} samples and {} points, minutes 10,000 to 65,242 every 54, points 10,000 to 65,188 every 108,
+bandwidth {} where none is named: a sweep of {} passes. Their sheet has {} bytes, each number five
+digits, every reading kept. A half and a quarter have every second and every fourth minute and point.
+
+Buffers: lists and sheets on the heap; the lent buffers (minutes and values 1,024 × 2 bytes, points 512 × 2,
+bandwidths 512 × 4, rows 2,560 × 8, out 31,291) in one block of the heap, the same for all contestants. The
+reader's own lists (7 KB), the text's lists and rows (27 KB) and the programs' sheet and output (64 KB) are on
+the stack, in both languages. Inputs and buffers stay in the cache from call to call.
+
+Times: contestants take turns in one process, {} rounds of about {} µs each; a process is timed from its start
+to its end, with pipes, {} rounds. Instructions: callgrind, what {} calls more add, divided by {}; of a process
+all, the loader's too.
+",
+        grouped(compared as u64),
+        grouped(samples),
+        grouped(points),
+        grouped(u64::from(BANDWIDTH)),
+        grouped(passes(full)),
+        grouped(full.sheet.len() as u64),
+        grouped(ROUNDS as u64),
+        BATCH.as_micros(),
+        PROCESS_ROUNDS,
+        COUNTED_CALLS,
+        COUNTED_CALLS,
     );
-    println!("minutes 10,000 to 65,242 every 54, points 10,000 to 65,188 every 108, bandwidth {BANDWIDTH} where none");
-    println!(
-        "is named: a sweep of {} passes. Their sheet has",
-        passes(full)
-    );
-    println!(
-        "{} bytes, each number five digits, every reading kept. A half and a quarter have every",
-        full.sheet.len()
-    );
-    println!("second and fourth minute and point.");
-    println!();
-    println!("Buffers: lists and sheets on the heap; the lent buffers (minutes and values 1,024 × 2 bytes, points 512 × 2,");
-    println!("bandwidths 512 × 4, rows 2,560 × 8, out 31,291) in one block of the heap, the same block for all contestants.");
-    println!("The reader's own lists (6 KB), the text's lists and rows (26 KB) and the programs' sheet and output (64 KB)");
-    println!("are on the stack, in both languages. Input and buffers stay in the cache from call to call.");
-    println!();
-    println!("Times: contestants take turns in one process, 1,001 rounds of about 150 µs each; a process is timed from");
-    println!("its start to its end, with pipes, 401 rounds. Instructions: callgrind, what 8 calls more add, divided by 8;");
-    println!("of a process all, the loader's too.\n");
     beside_rust(program, plain, full)?;
     beside_direct_sums()?;
     growth(&parts)

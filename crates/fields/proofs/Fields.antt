@@ -1,15 +1,17 @@
--- The number before the next comma: a part with a byte that is no digit, or with a sixth byte, is no number; one that ends after its digits is
--- the number that they say, if it has a digit and no leading zero.
-use Prim.Native.Nat.{ℕ, suc, _+_, _-_, _*_, _^_, _≤_, _<_}
+-- The number before the next comma: a part with a byte that is no digit is no number, nor is one that goes on after digits that say 10,000 or
+-- more, since they are five at least; one that ends after its digits is the number that they say, if it has a digit and no leading zero. Digits
+-- without a leading zero that say less than 100,000 are at most five.
+use Prim.Native.Nat.{ℕ, suc, _+_, _-_, _*_, _%_, _^_, _≤_, _<_}
 use mathlib.Core.Path.{_≡_, refl, sym, ap, _∙_}
 use mathlib.Core.Bool.{Bool, true, false, _&&_}
 use mathlib.Core.List.{List, [], _∷_, _++_, append-assoc, append-nil}
 use mathlib.Core.Option.{none, some}
+use mathlib.Core.Logic.{_⊎_, inl, inr}
 use native.Mathlib.Numerals.{add-one}
-use native.Mathlib.Nat.{pow-le-pow-right}
+use native.Mathlib.Nat.{pow-succ', mul-assoc, mul-le-mul-right, pow-le-pow-right, eq-or-lt-of-le}
 use native.Mathlib.Omega.{arith}
-use borrow.Author.Tests.{le-leb, lt-leb, eq-eqb, ne-eqb}
-use lib.Dec.{leb}
+use borrow.Author.Tests.{le-leb, lt-leb, eq-eqb, ne-eqb, leb-true, leb-false, ltb-true, ltb-false}
+use lib.Dec.{ltb, leb}
 use lib.ListN.{length, drop, getD, length-append, length-drop, drop-of-length-le}
 use lib.Seq.{drop-cons}
 use Rattle.meanings.specs.Bytes.{comma, zero-digit, nine-digit}
@@ -25,6 +27,10 @@ and-false false = refl
 
 digit-in-range : (b : ℕ) → zero-digit ≤ b → b ≤ nine-digit → digit b ≡ true
 digit-in-range b l h = rw (le-leb zero-digit b l, le-leb b nine-digit h)
+
+-- a byte less the digit zero, modulo 256
+wrapped-digit : (b d : ℕ) → (d + zero-digit) % 2 ^ 8 ≡ b → d ≤ 9 → (zero-digit ≤ b) × (b ≤ nine-digit) × (d ≡ b - zero-digit)
+wrapped-digit b d e m = (omega arith, omega arith, omega arith)
 
 below-is-no-digit : (b : ℕ) → b < zero-digit → digit b ≡ false
 below-is-no-digit b l = rw (lt-leb zero-digit b l)
@@ -68,14 +74,50 @@ first-part-goes-on : (d r : List ℕ) → Free comma d → first-part (d ++ r) �
 first-part-goes-on [] r f = refl
 first-part-goes-on (b ∷ d) r f = rw (f .0, first-part-goes-on d r (f .1))
 
--- the bytes from p up to q are at most 5 digits, which say v
+-- digits say at least what the first of them says, moved to the left
+said-at-least : (n : ℕ) (bs : List ℕ) → n * 10 ^ length bs ≤ said n bs
+said-at-least n [] = omega arith
+said-at-least n (b ∷ bs) =
+    let k = said-at-least (n * 10 + (b - zero-digit)) bs in
+    let m : (n * 10) * 10 ^ length bs ≤ (n * 10 + (b - zero-digit)) * 10 ^ length bs = mul-le-mul-right (10 ^ length bs) (omega arith) in
+    rw (pow-succ' 10 (length bs), ← mul-assoc n 10 (10 ^ length bs)) (omega arith)
+
+-- d, digits that say less than 100,000, is the front of a text that begins with x
+plain-digits-few : (d r u : List ℕ) (x : ℕ) → x ∷ u ≡ d ++ r → digits d ≡ true → said 0 d < 100000 → (1 < length d → x ≡ zero-digit → ⊥)
+    → length d ≤ 5
+plain-digits-few [] r u x e f l n = omega arith
+plain-digits-few (b ∷ d) r u x e f l n = by (leb (length d) 4) refl
+  where
+    one-more : (b ≡ zero-digit → ⊥) → zero-digit ≤ b → 1 ≤ b - zero-digit
+    one-more n low = by-order (eq-or-lt-of-le low)
+      where
+        by-order : (zero-digit ≡ b) ⊎ (zero-digit < b) → 1 ≤ b - zero-digit
+        by-order (inl q) = absurd (n (sym q))
+        by-order (inr q) = omega arith
+
+    by : (t : Bool) → leb (length d) 4 ≡ t → suc (length d) ≤ 5
+    by true q = let k = leb-true (length d) 4 q in omega arith
+    by false q =
+        let long = leb-false (length d) 4 q in
+        let h : x ≡ b = cc in
+        let o = and-true-both (digit b) (digits d) f in
+        let low = leb-true zero-digit b (and-true-both (leb zero-digit b) (leb b nine-digit) (o .0) .0) in
+        let positive : b ≡ zero-digit → ⊥ = λ z. n (omega arith) (h ∙ z) in
+        let five : 5 ≤ length d = omega arith in
+        let power : 10 ^ 5 ≤ 10 ^ length d = pow-le-pow-right (omega arith) five in
+        let one = one-more positive low in
+        let least : 1 * 10 ^ length d ≤ (0 * 10 + (b - zero-digit)) * 10 ^ length d = mul-le-mul-right (10 ^ length d) (omega arith) in
+        let says = said-at-least (0 * 10 + (b - zero-digit)) d in
+        absurd (omega arith)
+
+-- the bytes from p up to q are digits, which say v, less than 100,000
 pub record Passed (t : List ℕ) (p q v : ℕ) : Type 0 where
   pub front : List ℕ
   pub seen : drop p t ≡ front ++ drop q t
   pub front-digits : digits front ≡ true
   pub front-says : said 0 front ≡ v
   pub front-length : q ≡ p + length front
-  pub at-most-five : length front ≤ 5
+  pub small : v < 100000
 
 pub passed-begins : (t : List ℕ) (p : ℕ) → Passed t p p 0
 passed-begins t p = record {
@@ -84,16 +126,10 @@ passed-begins t p = record {
   front-digits = refl;
   front-says = refl;
   front-length = omega arith;
-  at-most-five = omega arith;
+  small = omega arith;
 }
 
 module _ {t : List ℕ} {p q v : ℕ} (s : Passed t p q v) where
-  pub passed-small : v < 100000
-  passed-small =
-      let few : 10 ^ length (s .front) ≤ 10 ^ 5 = pow-le-pow-right (omega arith) (s .at-most-five) in
-      let below = said-below 0 (s .front) (s .front-digits) in
-      omega (arith, s .front-says)
-
   passed-field : field-at t p ≡ number-of p (s .front ++ first-part (drop q t))
   unfolding field-at
   passed-field = rw (s .seen, first-part-goes-on (s .front) (drop q t) (digits-free comma (s .front) (omega arith) (s .front-digits)))
@@ -105,16 +141,17 @@ module _ {t : List ℕ} {p q v : ℕ} (s : Passed t p q v) where
   passed-first n = sym (drop-cons t p 0 (passed-inside n)) ∙ s .seen
 
 module _ {t : List ℕ} {p q v : ℕ} (s : Passed t p q v) (l : q < length t) where
-  pub passed-goes-on : zero-digit ≤ getD t q 0 → getD t q 0 ≤ nine-digit → (q - p ≡ 5 → ⊥)
-      → Passed t p (q + 1) (v * 10 + (getD t q 0 - zero-digit))
-  passed-goes-on low high few = record {
-    front = s .front ++ getD t q 0 ∷ [];
-    seen = s .seen ∙ rw (append-assoc, add-one, drop-cons t q 0 l);
-    front-digits = digits-more (s .front) (getD t q 0) (s .front-digits) (digit-in-range (getD t q 0) low high);
-    front-says = said-append 0 (s .front) (getD t q 0) ∙ rw (s .front-says);
-    front-length = simp length-append (omega (arith, s .front-length));
-    at-most-five = simp length-append (omega (arith, s .front-length, s .at-most-five));
-  }
+  pub passed-goes-on : (d : ℕ) → (d + zero-digit) % 2 ^ 8 ≡ getD t q 0 → d ≤ 9 → v ≤ 9999 → Passed t p (q + 1) (v * 10 + d)
+  passed-goes-on d e nine few =
+      let w = wrapped-digit (getD t q 0) d e nine in
+      record {
+        front = s .front ++ getD t q 0 ∷ [];
+        seen = s .seen ∙ rw (append-assoc, add-one, drop-cons t q 0 l);
+        front-digits = digits-more (s .front) (getD t q 0) (s .front-digits) (digit-in-range (getD t q 0) (w .0) (w .1));
+        front-says = omega (arith, said-append 0 (s .front) (getD t q 0), s .front-says, w .2);
+        front-length = simp length-append (omega (arith, s .front-length));
+        small = omega arith;
+      }
 
   part-goes-on : (getD t q 0 ≡ comma → ⊥) → first-part (drop q t) ≡ getD t q 0 ∷ first-part (drop (suc q) t)
   part-goes-on n = rw (drop-cons t q 0 l, ne-eqb (getD t q 0) comma n)
@@ -124,16 +161,32 @@ module _ {t : List ℕ} {p q v : ℕ} (s : Passed t p q v) (l : q < length t) wh
       passed-field s
       ∙ rw (part-goes-on n, no-digits-no-number _ (digits-then-none (s .front) (getD t q 0) _ (s .front-digits) f))
 
-  pub low-byte-no-number : (getD t q 0 ≡ comma → ⊥) → getD t q 0 < zero-digit → field-at t p ≡ none
-  low-byte-no-number n b = no-digit-no-number n (below-is-no-digit (getD t q 0) b)
+  pub no-digit-here : (d : ℕ) → (d + zero-digit) % 2 ^ 8 ≡ getD t q 0 → (getD t q 0 ≡ comma → ⊥) → 9 < d → d ≤ 255 → field-at t p ≡ none
+  no-digit-here d e n l m = by (ltb (getD t q 0) zero-digit) refl
+    where
+      by : (b : Bool) → ltb (getD t q 0) zero-digit ≡ b → field-at t p ≡ none
+      by true low = no-digit-no-number n (below-is-no-digit (getD t q 0) (ltb-true (getD t q 0) zero-digit low))
+      by false low =
+          let k = ltb-false (getD t q 0) zero-digit low in
+          no-digit-no-number n (above-is-no-digit (getD t q 0) (omega arith))
 
-  pub high-byte-no-number : (getD t q 0 ≡ comma → ⊥) → nine-digit < getD t q 0 → field-at t p ≡ none
-  high-byte-no-number n b = no-digit-no-number n (above-is-no-digit (getD t q 0) b)
-
-  pub sixth-byte-no-number : (getD t q 0 ≡ comma → ⊥) → q - p ≡ 5 → field-at t p ≡ none
-  sixth-byte-no-number n six =
+  -- digits that say 10,000 or more are five at least, and here comes another byte
+  pub sixth-byte-no-number : (getD t q 0 ≡ comma → ⊥) → 9999 < v → field-at t p ≡ none
+  sixth-byte-no-number n many =
       passed-field s
-      ∙ rw (part-goes-on n, over-five-no-number (s .front ++ getD t q 0 ∷ first-part (drop (suc q) t)) (simp length-append (omega (arith, s .front-length))))
+      ∙ rw (part-goes-on n, over-five-no-number (s .front ++ getD t q 0 ∷ first-part (drop (suc q) t)) (simp length-append five))
+    where
+      five : 5 < length (s .front) + suc (length (first-part (drop (suc q) t)))
+      five = by (ltb (length (s .front)) 5) refl
+        where
+          by : (b : Bool) → ltb (length (s .front)) 5 ≡ b → 5 < length (s .front) + suc (length (first-part (drop (suc q) t)))
+          by true short =
+              let k = ltb-true (length (s .front)) 5 short in
+              let four : length (s .front) ≤ 4 = omega arith in
+              let few : 10 ^ length (s .front) ≤ 10 ^ 4 = pow-le-pow-right (omega arith) four in
+              let below = said-below 0 (s .front) (s .front-digits) in
+              absurd (omega (arith, s .front-says))
+          by false long = let k = ltb-false (length (s .front)) 5 long in omega arith
 
 pub part-ends-at-end : (t : List ℕ) (q : ℕ) → length t ≤ q → first-part (drop q t) ≡ []
 part-ends-at-end t q l = rw (drop-of-length-le t l)
@@ -157,8 +210,13 @@ module _ {t : List ℕ} {p q v : ℕ} (s : Passed t p q v) (e : first-part (drop
   passed-number n plain =
       passed-ends
       ∙ rw (
-        plain-digits-number (s .front) (drop q t) (drop (suc p) t) (getD t p 0) (passed-first s n) (s .front-digits) (omega (arith, s .front-length)) (s .at-most-five)
+        plain-digits-number (s .front) (drop q t) (drop (suc p) t) (getD t p 0) (passed-first s n) (s .front-digits) (omega (arith, s .front-length)) few
             (λ l. plain (omega (arith, s .front-length))),
         s .front-says,
         ← s .front-length,
       )
+    where
+      few : length (s .front) ≤ 5
+      few =
+          plain-digits-few (s .front) (drop q t) (drop (suc p) t) (getD t p 0) (passed-first s n) (s .front-digits) (omega (arith, s .front-says, s .small))
+          (λ l. plain (omega (arith, s .front-length)))

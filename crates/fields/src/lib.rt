@@ -12,8 +12,6 @@ const COMMA: u8 = 44;
 
 const ZERO: u8 = 48;
 
-const NINE: u8 = 57;
-
 // The number that begins at byte `from` of a text and goes up to the next comma or the text's end: 1 to 5 digits, no leading zero except
 // 0 itself.
 pub fn number_at(text: &[u8], from: usize) -> Field
@@ -26,16 +24,15 @@ pub fn number_at(text: &[u8], from: usize) -> Field
         if b == COMMA {
             break;
         }
-        if b < ZERO {
+        let digit = std::num::wrapping_sub_u8(b, ZERO);
+        if 9 < digit {
             return Field::NoNumber;
         }
-        if NINE < b {
+        // Digits that say 10,000 or more are five at least.
+        if 9999 < value {
             return Field::NoNumber;
         }
-        if at - from == 5 {
-            return Field::NoNumber;
-        }
-        value = value * 10 + (b - ZERO) as u32;
+        value = value * 10 + digit as u32;
         at += 1;
     }
     if at == from {

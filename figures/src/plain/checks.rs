@@ -39,7 +39,7 @@ pub fn smooth_fault(
 ) -> Result<(), Refusal> {
     let uneven = minutes.len() != values.len()
         || points.len() != bandwidths.len()
-        || rows % 5 != 0
+        || !rows.is_multiple_of(5)
         || rows / 5 != points.len();
     if uneven {
         return refuse(Report::LengthMismatch, 0);

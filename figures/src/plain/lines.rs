@@ -19,7 +19,7 @@ fn number_at(text: &[u8], from: usize) -> Option<(u32, usize)> {
         if b == COMMA {
             break;
         }
-        if !b.is_ascii_digit() || at - from == 5 {
+        if !b.is_ascii_digit() || 9_999 < value {
             return None;
         }
         value = value * 10 + u32::from(b - b'0');
