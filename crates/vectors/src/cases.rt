@@ -44,15 +44,37 @@ fn written(answer: u64, most: usize) -> usize
     at_most(answer / 16, most)
 }
 
-fn evaluate_with(minutes: &[u16], values: &[u16], point: u16, bandwidth: u32, row: &mut [u64]) {
-    show_answer(tankcurve_evaluate(minutes, values, point, bandwidth, row));
-    show_u64(row);
+// Both calls at one mark.
+fn point_call(
+    minutes: &[u16],
+    values: &[u16],
+    point: u16,
+    bandwidth: u32,
+    out: &mut [u64],
+    window: bool,
+) -> u64 {
+    if window {
+        return tankcurve_window(minutes, values, point, bandwidth, out);
+    }
+    tankcurve_evaluate(minutes, values, point, bandwidth, out)
 }
 
-pub(crate) fn evaluate_case(input: &[u8], from: usize) -> usize {
+fn point_with(
+    minutes: &[u16],
+    values: &[u16],
+    point: u16,
+    bandwidth: u32,
+    out: &mut [u64],
+    window: bool,
+) {
+    show_answer(point_call(minutes, values, point, bandwidth, out, window));
+    show_u64(out);
+}
+
+pub(crate) fn point_case(input: &[u8], from: usize, window: bool) -> usize {
     let mut minutes = [0u16; 1100];
     let mut values = [0u16; 1100];
-    let mut row = [7u64; 8];
+    let mut out = [7u64; 8];
     let m = list_u16(input, from, &mut minutes);
     let v = list_u16(input, m.next, &mut values);
     let point = token(input, v.next);
@@ -61,39 +83,13 @@ pub(crate) fn evaluate_case(input: &[u8], from: usize) -> usize {
     let n = at_most(size.value, 8);
     let mc = m.count;
     let vc = v.count;
-    evaluate_with(
+    point_with(
         &minutes[..mc],
         &values[..vc],
         narrow_u16(point.value),
         narrow_u32(bandwidth.value),
-        &mut row[..n],
-    );
-    size.next
-}
-
-fn window_with(minutes: &[u16], values: &[u16], point: u16, bandwidth: u32, bounds: &mut [u64]) {
-    show_answer(tankcurve_window(minutes, values, point, bandwidth, bounds));
-    show_u64(bounds);
-}
-
-pub(crate) fn window_case(input: &[u8], from: usize) -> usize {
-    let mut minutes = [0u16; 1100];
-    let mut values = [0u16; 1100];
-    let mut bounds = [7u64; 8];
-    let m = list_u16(input, from, &mut minutes);
-    let v = list_u16(input, m.next, &mut values);
-    let point = token(input, v.next);
-    let bandwidth = token(input, point.next);
-    let size = token(input, bandwidth.next);
-    let n = at_most(size.value, 8);
-    let mc = m.count;
-    let vc = v.count;
-    window_with(
-        &minutes[..mc],
-        &values[..vc],
-        narrow_u16(point.value),
-        narrow_u32(bandwidth.value),
-        &mut bounds[..n],
+        &mut out[..n],
+        window,
     );
     size.next
 }

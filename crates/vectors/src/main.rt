@@ -15,8 +15,8 @@ fn case(input: &[u8], from: usize) -> usize {
     let at = kind.next;
     let number = kind.value;
     match number {
-        1 => cases::evaluate_case(input, at),
-        2 => cases::window_case(input, at),
+        1 => cases::point_case(input, at, false),
+        2 => cases::point_case(input, at, true),
         3 => cases::advance_case(input, at),
         4 => cases::smooth_case(input, at),
         5 => cases::fill_case(input, at),

@@ -1,14 +1,47 @@
 // Lists as runs of equal elements.
 const OUT: i32 = 1;
 
-// A run: its element and, where it has more than one, how many.
-fn show_run(value: u64, count: u64) {
-    io::print_decimal(OUT, value);
-    if 1 < count {
+// A run that is not written yet: its element, and how many there are, 0 before the first.
+struct Run {
+    value: u64,
+    count: u64,
+}
+
+// Writes a run: its element and, where it has more than one, how many.
+fn show_run(run: Run) {
+    if run.count == 0 {
+        return;
+    }
+    io::print_decimal(OUT, run.value);
+    if 1 < run.count {
         io::write_all(OUT, b"*");
-        io::print_decimal(OUT, count);
+        io::print_decimal(OUT, run.count);
     }
     io::write_all(OUT, b" ");
+}
+
+// The run with one element more, or a new one.
+fn longer(run: Run, value: u64) -> Run {
+    if run.value == value {
+        return Run {
+            value: value,
+            count: std::num::wrapping_add_u64(run.count, 1),
+        };
+    }
+    show_run(run);
+    Run {
+        value: value,
+        count: 1,
+    }
+}
+
+fn no_run() -> Run {
+    Run { value: 0, count: 0 }
+}
+
+fn show_last(run: Run) {
+    show_run(run);
+    io::write_all(OUT, b"\n");
 }
 
 // An answer: its number and its detail.
@@ -36,69 +69,41 @@ fn wide_u32(x: u32) -> u64 {
 }
 
 pub(crate) fn show_u64(xs: &[u64]) {
-    let mut count = 0u64;
+    let mut run = no_run();
     let mut i = 0;
     while i < xs.len() {
-        let x = xs[i];
+        run = longer(run, xs[i]);
         i += 1;
-        count = std::num::wrapping_add_u64(count, 1);
-        if i == xs.len() {
-            show_run(x, count);
-        } else if xs[i] != x {
-            show_run(x, count);
-            count = 0;
-        }
     }
-    io::write_all(OUT, b"\n");
+    show_last(run);
 }
 
 pub(crate) fn show_u32(xs: &[u32]) {
-    let mut count = 0u64;
+    let mut run = no_run();
     let mut i = 0;
     while i < xs.len() {
-        let x = xs[i];
+        run = longer(run, wide_u32(xs[i]));
         i += 1;
-        count = std::num::wrapping_add_u64(count, 1);
-        if i == xs.len() {
-            show_run(wide_u32(x), count);
-        } else if xs[i] != x {
-            show_run(wide_u32(x), count);
-            count = 0;
-        }
     }
-    io::write_all(OUT, b"\n");
+    show_last(run);
 }
 
 pub(crate) fn show_u16(xs: &[u16]) {
-    let mut count = 0u64;
+    let mut run = no_run();
     let mut i = 0;
     while i < xs.len() {
-        let x = xs[i];
+        run = longer(run, wide_u16(xs[i]));
         i += 1;
-        count = std::num::wrapping_add_u64(count, 1);
-        if i == xs.len() {
-            show_run(wide_u16(x), count);
-        } else if xs[i] != x {
-            show_run(wide_u16(x), count);
-            count = 0;
-        }
     }
-    io::write_all(OUT, b"\n");
+    show_last(run);
 }
 
 pub(crate) fn show_u8(xs: &[u8]) {
-    let mut count = 0u64;
+    let mut run = no_run();
     let mut i = 0;
     while i < xs.len() {
-        let x = xs[i];
+        run = longer(run, wide_u8(xs[i]));
         i += 1;
-        count = std::num::wrapping_add_u64(count, 1);
-        if i == xs.len() {
-            show_run(wide_u8(x), count);
-        } else if xs[i] != x {
-            show_run(wide_u8(x), count);
-            count = 0;
-        }
     }
-    io::write_all(OUT, b"\n");
+    show_last(run);
 }

@@ -2,8 +2,8 @@
 use mathlib.Core.Path.{sym}
 use lib.Seq.{length-take-le}
 use borrow.Author.Needs.{needs}
-use Rattle.vectors.proofs.cases.evaluate_case.Statement.{statement}
-use Rattle.vectors.proofs.cases.evaluate_case.Tie as tie
+use Rattle.vectors.proofs.cases.point_case.Statement.{statement}
+use Rattle.vectors.proofs.cases.point_case.Tie as tie
 
 slice-aggregate-list-u16 : tie.Need-slice-aggregate-list-u16
 slice-aggregate-list-u16 c = search needs
@@ -32,14 +32,14 @@ at-most-requires c κs = search needs
 array-share-prefix-minutes : tie.Need-array-share-prefix-minutes
 array-share-prefix-minutes c = search needs
 
-slice-aggregate-evaluate-with : tie.Need-slice-aggregate-evaluate-with
-slice-aggregate-evaluate-with c = sym (length-take-le _ _ (c .before .before .before .before .before .before .before .before .before .list-u16 .ensures))
+slice-aggregate-point-with : tie.Need-slice-aggregate-point-with
+slice-aggregate-point-with c = sym (length-take-le _ _ (c .before .before .before .before .before .before .before .before .before .list-u16 .ensures))
 
 array-share-prefix-values : tie.Need-array-share-prefix-values
 array-share-prefix-values c = search needs
 
-slice-aggregate-evaluate-with-2 : tie.Need-slice-aggregate-evaluate-with-2
-slice-aggregate-evaluate-with-2 c = sym (length-take-le _ _ (c .before .before .before .before .before .before .before .list-u162 .ensures))
+slice-aggregate-point-with-2 : tie.Need-slice-aggregate-point-with-2
+slice-aggregate-point-with-2 c = sym (length-take-le _ _ (c .before .before .before .before .before .before .before .list-u162 .ensures))
 
 narrow-u16-requires : tie.Need-narrow-u16-requires
 narrow-u16-requires c κs = search needs
@@ -47,20 +47,20 @@ narrow-u16-requires c κs = search needs
 narrow-u32-requires : tie.Need-narrow-u32-requires
 narrow-u32-requires c κs = search needs
 
-array-borrow-prefix-row : tie.Need-array-borrow-prefix-row
-array-borrow-prefix-row c = search needs
+array-borrow-prefix-out : tie.Need-array-borrow-prefix-out
+array-borrow-prefix-out c = search needs
 
-slice-aggregate-evaluate-with-3 : tie.Need-slice-aggregate-evaluate-with-3
-slice-aggregate-evaluate-with-3 c = sym (length-take-le _ _ (c .before .before .before .before .before .at-most .ensures))
+slice-aggregate-point-with-3 : tie.Need-slice-aggregate-point-with-3
+slice-aggregate-point-with-3 c = sym (length-take-le _ _ (c .before .before .before .before .before .at-most .ensures))
 
-evaluate-with-requires : tie.Need-evaluate-with-requires
-evaluate-with-requires c κs = search needs
+point-with-requires : tie.Need-point-with-requires
+point-with-requires c κs = search needs
 
 returns : tie.Need-returns
 returns c = search needs
 
-pub evaluate-case-spec : {M : Type 1} → statement M
-evaluate-case-spec =
+pub point-case-spec : {M : Type 1} → statement M
+point-case-spec =
     tie.close
     (tie.spec
     slice-aggregate-list-u16
@@ -72,12 +72,12 @@ evaluate-case-spec =
     token-requires-3
     at-most-requires
     array-share-prefix-minutes
-    slice-aggregate-evaluate-with
+    slice-aggregate-point-with
     array-share-prefix-values
-    slice-aggregate-evaluate-with-2
+    slice-aggregate-point-with-2
     narrow-u16-requires
     narrow-u32-requires
-    array-borrow-prefix-row
-    slice-aggregate-evaluate-with-3
-    evaluate-with-requires
+    array-borrow-prefix-out
+    slice-aggregate-point-with-3
+    point-with-requires
     returns)
