@@ -13,7 +13,8 @@ use Rattle.tankcurve_abi.proofs.tankcurve_advance.Tie as tie
 
 returns : tie.Need-returns
 returns c =
-    size-refused 8 (c .before .before .before .before .args .running .now) (advance (c .before .before .before .before .args .minutes .now) (c .before .before .before .before .args .values .now) (record-of (c .before .before .before .before .args .running .now)) (c .before .before .before .before .args .point) (c .before .before .before .before .args .bandwidth)) untold record-numbers (c .if1 .taken)
+    let a = c .before .before .before .before .args in
+    size-refused 8 (a .running .now) (advance (a .minutes .now) (a .values .now) (record-of (a .running .now)) (a .point) (a .bandwidth)) untold record-numbers (c .if1 .taken)
 
 record-of-requires : tie.Need-record-of-requires
 record-of-requires c κs = search needs
@@ -26,8 +27,10 @@ enum-known-refusal c = search needs
 
 refusal-code-requires : tie.Need-refusal-code-requires
 refusal-code-requires c κs =
-    told-place (advance (c .before .before .before .before .before .before .before .before .before .before .args .minutes .now) (c .before .before .before .before .before .before .before .before .before .before .args .values .now) (record-of (c .before .before .before .before .before .before .before .before .before .before .args .running .now)) (c .before .before .before .before .before .before .before .before .before .before .args .point) (c .before .before .before .before .before .before .before .before .before .before .args .bandwidth)) (told (c .before .refusal .given .0 .0)) (sym (ap told-advance (c .before .refusal .given .1)) ∙ c .before .before .before .advance .ensures ∙ ap (λ (r : RunningSums). advance (c .before .before .before .before .before .before .before .before .before .before .args .minutes .now) (c .before .before .before .before .before .before .before .before .before .before .args .values .now) r (c .before .before .before .before .before .before .before .before .before .before .args .point) (c .before .before .before .before .before .before .before .before .before .before .args .bandwidth)) (c .before .before .before .before .record-of .ensures))
-    (advance-place (c .before .before .before .before .before .before .before .before .before .before .args .minutes .now) (c .before .before .before .before .before .before .before .before .before .before .args .values .now) (record-of (c .before .before .before .before .before .before .before .before .before .before .args .running .now)) (c .before .before .before .before .before .before .before .before .before .before .args .point) (c .before .before .before .before .before .before .before .before .before .before .args .bandwidth))
+    let a = c .before .before .before .before .before .before .before .before .before .before .args in
+    let q = sym (ap told-advance (c .before .refusal .given .1)) ∙ c .before .before .before .advance .ensures ∙ ap (λ (r : RunningSums). advance (a .minutes .now) (a .values .now) r (a .point) (a .bandwidth)) (c .before .before .before .before .record-of .ensures) in
+    told-place (advance (a .minutes .now) (a .values .now) (record-of (a .running .now)) (a .point) (a .bandwidth)) (told (c .before .refusal .given .0 .0)) q
+    (advance-place (a .minutes .now) (a .values .now) (record-of (a .running .now)) (a .point) (a .bandwidth))
 
 enum-known-moved : tie.Need-enum-known-moved
 enum-known-moved c = search needs
@@ -40,9 +43,9 @@ same-length c = search needs
 
 returns-2 : tie.Need-returns-2
 returns-2 c =
-    let w =
-    call-refused 8 (c .before .before .before .before .before .before .before .before .before .before .before .args .running .now) (advance (c .before .before .before .before .before .before .before .before .before .before .before .args .minutes .now) (c .before .before .before .before .before .before .before .before .before .before .before .args .values .now) (record-of (c .before .before .before .before .before .before .before .before .before .before .before .args .running .now)) (c .before .before .before .before .before .before .before .before .before .before .before .args .point) (c .before .before .before .before .before .before .before .before .before .before .before .args .bandwidth)) untold record-numbers (c .before .before .before .before .before .before .before .if1 .left) (told (c .before .before .refusal .given .0 .0))
-    (sym (ap told-advance (c .before .before .refusal .given .1)) ∙ c .before .before .before .before .advance .ensures ∙ ap (λ (r : RunningSums). advance (c .before .before .before .before .before .before .before .before .before .before .before .args .minutes .now) (c .before .before .before .before .before .before .before .before .before .before .before .args .values .now) r (c .before .before .before .before .before .before .before .before .before .before .before .args .point) (c .before .before .before .before .before .before .before .before .before .before .before .args .bandwidth)) (c .before .before .before .before .before .record-of .ensures)) in
+    let a = c .before .before .before .before .before .before .before .before .before .before .before .args in
+    let q = sym (ap told-advance (c .before .before .refusal .given .1)) ∙ c .before .before .before .before .advance .ensures ∙ ap (λ (r : RunningSums). advance (a .minutes .now) (a .values .now) r (a .point) (a .bandwidth)) (c .before .before .before .before .before .record-of .ensures) in
+    let w = call-refused 8 (a .running .now) (advance (a .minutes .now) (a .values .now) (record-of (a .running .now)) (a .point) (a .bandwidth)) untold record-numbers (c .before .before .before .before .before .before .before .if1 .left) (told (c .before .before .refusal .given .0 .0)) q in
     (c .refusal-code .ensures ∙ w .0, w .1)
 
 same-length-2 : tie.Need-same-length-2
@@ -50,9 +53,9 @@ same-length-2 c = search needs
 
 returns-3 : tie.Need-returns-3
 returns-3 c =
-    let w =
-    call-accepted 8 (c .before .before .before .before .before .before .before .before .before .before .before .before .before .before .args .running .now) (advance (c .before .before .before .before .before .before .before .before .before .before .before .before .before .before .args .minutes .now) (c .before .before .before .before .before .before .before .before .before .before .before .before .before .before .args .values .now) (record-of (c .before .before .before .before .before .before .before .before .before .before .before .before .before .before .args .running .now)) (c .before .before .before .before .before .before .before .before .before .before .before .before .before .before .args .point) (c .before .before .before .before .before .before .before .before .before .before .before .before .before .before .args .bandwidth)) untold record-numbers (c .before .before .before .before .before .before .before .before .before .before .if1 .left) (c .before .before .before .before .before .moved .given .0 .0)
-    (sym (ap told-advance (c .before .before .before .before .before .moved .given .1)) ∙ c .before .before .before .before .before .before .before .advance .ensures ∙ ap (λ (r : RunningSums). advance (c .before .before .before .before .before .before .before .before .before .before .before .before .before .before .args .minutes .now) (c .before .before .before .before .before .before .before .before .before .before .before .before .before .before .args .values .now) r (c .before .before .before .before .before .before .before .before .before .before .before .before .before .before .args .point) (c .before .before .before .before .before .before .before .before .before .before .before .before .before .before .args .bandwidth)) (c .before .before .before .before .before .before .before .before .record-of .ensures)) in
+    let a = c .before .before .before .before .before .before .before .before .before .before .before .before .before .before .args in
+    let q = sym (ap told-advance (c .before .before .before .before .before .moved .given .1)) ∙ c .before .before .before .before .before .before .before .advance .ensures ∙ ap (λ (r : RunningSums). advance (a .minutes .now) (a .values .now) r (a .point) (a .bandwidth)) (c .before .before .before .before .before .before .before .before .record-of .ensures) in
+    let w = call-accepted 8 (a .running .now) (advance (a .minutes .now) (a .values .now) (record-of (a .running .now)) (a .point) (a .bandwidth)) untold record-numbers (c .before .before .before .before .before .before .before .before .before .before .if1 .left) (c .before .before .before .before .before .moved .given .0 .0) q in
     (w .0, c .before .before .put-record .ensures ∙ w .1)
 
 pub tankcurve-advance-spec : {M : Type 1} → statement M

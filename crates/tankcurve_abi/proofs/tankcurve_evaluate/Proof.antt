@@ -13,7 +13,8 @@ use Rattle.tankcurve_abi.proofs.tankcurve_evaluate.Tie as tie
 
 returns : tie.Need-returns
 returns c =
-    size-refused 5 (c .before .before .before .before .args .row .now) (evaluate full (c .before .before .before .before .args .minutes .now) (c .before .before .before .before .args .values .now) (c .before .before .before .before .args .point) (c .before .before .before .before .args .bandwidth)) untold fields (c .if1 .taken)
+    let a = c .before .before .before .before .args in
+    size-refused 5 (a .row .now) (evaluate full (a .minutes .now) (a .values .now) (a .point) (a .bandwidth)) untold fields (c .if1 .taken)
 
 evaluate-requires : tie.Need-evaluate-requires
 evaluate-requires c κs = search needs
@@ -23,8 +24,9 @@ enum-known-refusal c = search needs
 
 refusal-code-requires : tie.Need-refusal-code-requires
 refusal-code-requires c κs =
-    told-place (evaluate full (c .before .before .before .before .before .before .before .before .args .minutes .now) (c .before .before .before .before .before .before .before .before .args .values .now) (c .before .before .before .before .before .before .before .before .args .point) (c .before .before .before .before .before .before .before .before .args .bandwidth)) (told (c .before .refusal .given .0 .0)) (sym (ap told-evaluation (c .before .refusal .given .1)) ∙ c .before .before .before .evaluate .ensures)
-    (evaluate-place (c .before .before .before .before .before .before .before .before .args .minutes .now) (c .before .before .before .before .before .before .before .before .args .values .now) (c .before .before .before .before .before .before .before .before .args .point) (c .before .before .before .before .before .before .before .before .args .bandwidth))
+    let a = c .before .before .before .before .before .before .before .before .args in
+    told-place (evaluate full (a .minutes .now) (a .values .now) (a .point) (a .bandwidth)) (told (c .before .refusal .given .0 .0)) (sym (ap told-evaluation (c .before .refusal .given .1)) ∙ c .before .before .before .evaluate .ensures)
+    (evaluate-place (a .minutes .now) (a .values .now) (a .point) (a .bandwidth))
 
 enum-known-estimate : tie.Need-enum-known-estimate
 enum-known-estimate c = search needs
@@ -34,9 +36,9 @@ put-row-requires c κs = search needs
 
 returns-2 : tie.Need-returns-2
 returns-2 c =
-    let w =
-    call-refused 5 (c .before .before .before .before .before .before .before .before .before .args .row .now) (evaluate full (c .before .before .before .before .before .before .before .before .before .args .minutes .now) (c .before .before .before .before .before .before .before .before .before .args .values .now) (c .before .before .before .before .before .before .before .before .before .args .point) (c .before .before .before .before .before .before .before .before .before .args .bandwidth)) untold fields (c .before .before .before .before .before .if1 .left) (told (c .before .before .refusal .given .0 .0))
-    (sym (ap told-evaluation (c .before .before .refusal .given .1)) ∙ c .before .before .before .before .evaluate .ensures) in
+    let a = c .before .before .before .before .before .before .before .before .before .args in
+    let q = sym (ap told-evaluation (c .before .before .refusal .given .1)) ∙ c .before .before .before .before .evaluate .ensures in
+    let w = call-refused 5 (a .row .now) (evaluate full (a .minutes .now) (a .values .now) (a .point) (a .bandwidth)) untold fields (c .before .before .before .before .before .if1 .left) (told (c .before .before .refusal .given .0 .0)) q in
     (c .refusal-code .ensures ∙ w .0, w .1)
 
 same-length : tie.Need-same-length
@@ -44,9 +46,9 @@ same-length c = search needs
 
 returns-3 : tie.Need-returns-3
 returns-3 c =
-    let w =
-    call-accepted 5 (c .before .before .before .before .before .before .before .before .before .before .before .before .args .row .now) (evaluate full (c .before .before .before .before .before .before .before .before .before .before .before .before .args .minutes .now) (c .before .before .before .before .before .before .before .before .before .before .before .before .args .values .now) (c .before .before .before .before .before .before .before .before .before .before .before .before .args .point) (c .before .before .before .before .before .before .before .before .before .before .before .before .args .bandwidth)) untold fields (c .before .before .before .before .before .before .before .before .if1 .left) (c .before .before .before .before .before .estimate .given .0 .0)
-    (sym (ap told-evaluation (c .before .before .before .before .before .estimate .given .1)) ∙ c .before .before .before .before .before .before .before .evaluate .ensures) in
+    let a = c .before .before .before .before .before .before .before .before .before .before .before .before .args in
+    let q = sym (ap told-evaluation (c .before .before .before .before .before .estimate .given .1)) ∙ c .before .before .before .before .before .before .before .evaluate .ensures in
+    let w = call-accepted 5 (a .row .now) (evaluate full (a .minutes .now) (a .values .now) (a .point) (a .bandwidth)) untold fields (c .before .before .before .before .before .before .before .before .if1 .left) (c .before .before .before .before .before .estimate .given .0 .0) q in
     (w .0, c .before .before .put-row .ensures ∙ w .1)
 
 pub tankcurve-evaluate-spec : {M : Type 1} → statement M

@@ -17,8 +17,9 @@ enum-known-refusal c = search needs
 
 refusal-code-requires : tie.Need-refusal-code-requires
 refusal-code-requires c κs =
-    told-place (fill full (c .before .before .before .before .before .before .before .before .before .before .before .before .args .first) (c .before .before .before .before .before .before .before .before .before .before .before .before .args .spacing) (c .before .before .before .before .before .before .before .before .before .before .before .before .args .preset) (c .before .before .before .before .before .before .before .before .before .before .before .before .args .points .now) (c .before .before .before .before .before .before .before .before .before .before .before .before .args .bandwidths .now)) (told (c .before .refusal .given .0 .0)) (sym (ap told-filling (c .before .refusal .given .1)) ∙ c .before .before .before .before .before .before .before .fill-grid .ensures .0)
-    (fill-place (c .before .before .before .before .before .before .before .before .before .before .before .before .args .first) (c .before .before .before .before .before .before .before .before .before .before .before .before .args .spacing) (c .before .before .before .before .before .before .before .before .before .before .before .before .args .preset) (c .before .before .before .before .before .before .before .before .before .before .before .before .args .points .now) (c .before .before .before .before .before .before .before .before .before .before .before .before .args .bandwidths .now))
+    let a = c .before .before .before .before .before .before .before .before .before .before .before .before .args in
+    told-place (fill full (a .first) (a .spacing) (a .preset) (a .points .now) (a .bandwidths .now)) (told (c .before .refusal .given .0 .0)) (sym (ap told-filling (c .before .refusal .given .1)) ∙ c .before .before .before .before .before .before .before .fill-grid .ensures .0)
+    (fill-place (a .first) (a .spacing) (a .preset) (a .points .now) (a .bandwidths .now))
 
 enum-told : tie.Need-enum-told
 enum-told c = search needs

@@ -13,8 +13,9 @@ use Rattle.tankcurve_abi.proofs.tankcurve_read.Tie as tie
 
 returns : tie.Need-returns
 returns c =
-    let q = other-size 2 (c .before .before .before .before .before .before .before .args .counts .now) (read full (c .before .before .before .before .before .before .before .args .sheet .now) (c .before .before .before .before .before .before .before .args .minutes .now) (c .before .before .before .before .before .before .before .args .values .now) (c .before .before .before .before .before .before .before .args .points .now) (c .before .before .before .before .before .before .before .args .bandwidths .now)) (c .if1 .taken) in
-    (ap (λ (o : Outcome). answered untold (counts o)) q, (ap (λ (o : Outcome). read-minutes o (c .before .before .before .before .before .before .before .args .minutes .now)) q, (ap (λ (o : Outcome). read-values o (c .before .before .before .before .before .before .before .args .values .now)) q, (ap (λ (o : Outcome). read-evaluation-points o (c .before .before .before .before .before .before .before .args .points .now)) q, (ap (λ (o : Outcome). read-bandwidths o (c .before .before .before .before .before .before .before .args .bandwidths .now)) q, ap (λ (o : Outcome). stored count-numbers (counts o) (c .before .before .before .before .before .before .before .args .counts .now)) q)))))
+    let a = c .before .before .before .before .before .before .before .args in
+    let q = other-size 2 (a .counts .now) (read full (a .sheet .now) (a .minutes .now) (a .values .now) (a .points .now) (a .bandwidths .now)) (c .if1 .taken) in
+    (ap (λ (o : Outcome). answered untold (counts o)) q, (ap (λ (o : Outcome). read-minutes o (a .minutes .now)) q, (ap (λ (o : Outcome). read-values o (a .values .now)) q, (ap (λ (o : Outcome). read-evaluation-points o (a .points .now)) q, (ap (λ (o : Outcome). read-bandwidths o (a .bandwidths .now)) q, ap (λ (o : Outcome). stored count-numbers (counts o) (a .counts .now)) q)))))
 
 read-sheet-requires : tie.Need-read-sheet-requires
 read-sheet-requires c κs = search needs
@@ -24,8 +25,9 @@ enum-known-refusal c = search needs
 
 refusal-code-requires : tie.Need-refusal-code-requires
 refusal-code-requires c κs =
-    told-place (counts (read full (c .before .before .before .before .before .before .before .before .before .before .before .before .before .before .before .before .before .before .before .before .before .before .before .args .sheet .now) (c .before .before .before .before .before .before .before .before .before .before .before .before .before .before .before .before .before .before .before .before .before .before .before .args .minutes .now) (c .before .before .before .before .before .before .before .before .before .before .before .before .before .before .before .before .before .before .before .before .before .before .before .args .values .now) (c .before .before .before .before .before .before .before .before .before .before .before .before .before .before .before .before .before .before .before .before .before .before .before .args .points .now) (c .before .before .before .before .before .before .before .before .before .before .before .before .before .before .before .before .before .before .before .before .before .before .before .args .bandwidths .now))) (told (c .before .refusal .given .0 .0)) (sym (ap told-reading (c .before .refusal .given .1)) ∙ c .before .before .before .before .before .before .before .before .before .before .before .read-sheet .ensures .0)
-    (counts-place (read full (c .before .before .before .before .before .before .before .before .before .before .before .before .before .before .before .before .before .before .before .before .before .before .before .args .sheet .now) (c .before .before .before .before .before .before .before .before .before .before .before .before .before .before .before .before .before .before .before .before .before .before .before .args .minutes .now) (c .before .before .before .before .before .before .before .before .before .before .before .before .before .before .before .before .before .before .before .before .before .before .before .args .values .now) (c .before .before .before .before .before .before .before .before .before .before .before .before .before .before .before .before .before .before .before .before .before .before .before .args .points .now) (c .before .before .before .before .before .before .before .before .before .before .before .before .before .before .before .before .before .before .before .before .before .before .before .args .bandwidths .now)) (read-place (c .before .before .before .before .before .before .before .before .before .before .before .before .before .before .before .before .before .before .before .before .before .before .before .args .sheet .now) (c .before .before .before .before .before .before .before .before .before .before .before .before .before .before .before .before .before .before .before .before .before .before .before .args .minutes .now) (c .before .before .before .before .before .before .before .before .before .before .before .before .before .before .before .before .before .before .before .before .before .before .before .args .values .now) (c .before .before .before .before .before .before .before .before .before .before .before .before .before .before .before .before .before .before .before .before .before .before .before .args .points .now) (c .before .before .before .before .before .before .before .before .before .before .before .before .before .before .before .before .before .before .before .before .before .before .before .args .bandwidths .now)))
+    let a = c .before .before .before .before .before .before .before .before .before .before .before .before .before .before .before .before .before .before .before .before .before .before .before .args in
+    told-place (counts (read full (a .sheet .now) (a .minutes .now) (a .values .now) (a .points .now) (a .bandwidths .now))) (told (c .before .refusal .given .0 .0)) (sym (ap told-reading (c .before .refusal .given .1)) ∙ c .before .before .before .before .before .before .before .before .before .before .before .read-sheet .ensures .0)
+    (counts-place (read full (a .sheet .now) (a .minutes .now) (a .values .now) (a .points .now) (a .bandwidths .now)) (read-place (a .sheet .now) (a .minutes .now) (a .values .now) (a .points .now) (a .bandwidths .now)))
 
 enum-known-n : tie.Need-enum-known-n
 enum-known-n c = search needs
@@ -47,9 +49,11 @@ same-length-4 c = search needs
 
 returns-2 : tie.Need-returns-2
 returns-2 c =
-    let q = right-size 2 (c .before .before .before .before .before .before .before .before .before .before .before .before .before .before .before .before .before .before .before .before .before .before .before .before .args .counts .now) (read full (c .before .before .before .before .before .before .before .before .before .before .before .before .before .before .before .before .before .before .before .before .before .before .before .before .args .sheet .now) (c .before .before .before .before .before .before .before .before .before .before .before .before .before .before .before .before .before .before .before .before .before .before .before .before .args .minutes .now) (c .before .before .before .before .before .before .before .before .before .before .before .before .before .before .before .before .before .before .before .before .before .before .before .before .args .values .now) (c .before .before .before .before .before .before .before .before .before .before .before .before .before .before .before .before .before .before .before .before .before .before .before .before .args .points .now) (c .before .before .before .before .before .before .before .before .before .before .before .before .before .before .before .before .before .before .before .before .before .before .before .before .args .bandwidths .now)) (c .before .before .before .before .before .before .before .before .before .before .before .before .before .before .before .before .before .if1 .left) in
-    let w = sym (ap told-reading (c .before .before .refusal .given .1)) ∙ c .before .before .before .before .before .before .before .before .before .before .before .before .read-sheet .ensures .0 ∙ ap counts q in
-    (c .refusal-code .ensures ∙ ap (answered untold) w, (c .before .before .before .before .before .before .before .before .before .before .before .before .read-sheet .ensures .1 .0 ∙ ap (λ (o : Outcome). read-minutes o (c .before .before .before .before .before .before .before .before .before .before .before .before .before .before .before .before .before .before .before .before .before .before .before .before .args .minutes .now)) q, (c .before .before .before .before .before .before .before .before .before .before .before .before .read-sheet .ensures .1 .1 .0 ∙ ap (λ (o : Outcome). read-values o (c .before .before .before .before .before .before .before .before .before .before .before .before .before .before .before .before .before .before .before .before .before .before .before .before .args .values .now)) q, (c .before .before .before .before .before .before .before .before .before .before .before .before .read-sheet .ensures .1 .1 .1 .0 ∙ ap (λ (o : Outcome). read-evaluation-points o (c .before .before .before .before .before .before .before .before .before .before .before .before .before .before .before .before .before .before .before .before .before .before .before .before .args .points .now)) q, (c .before .before .before .before .before .before .before .before .before .before .before .before .read-sheet .ensures .1 .1 .1 .1 ∙ ap (λ (o : Outcome). read-bandwidths o (c .before .before .before .before .before .before .before .before .before .before .before .before .before .before .before .before .before .before .before .before .before .before .before .before .args .bandwidths .now)) q, ap (λ (a : Answer Counts). stored count-numbers a (c .before .before .before .before .before .before .before .before .before .before .before .before .before .before .before .before .before .before .before .before .before .before .before .before .args .counts .now)) w)))))
+    let a = c .before .before .before .before .before .before .before .before .before .before .before .before .before .before .before .before .before .before .before .before .before .before .before .before .args in
+    let r = c .before .before .before .before .before .before .before .before .before .before .before .before .read-sheet in
+    let q = right-size 2 (a .counts .now) (read full (a .sheet .now) (a .minutes .now) (a .values .now) (a .points .now) (a .bandwidths .now)) (c .before .before .before .before .before .before .before .before .before .before .before .before .before .before .before .before .before .if1 .left) in
+    let w = sym (ap told-reading (c .before .before .refusal .given .1)) ∙ r .ensures .0 ∙ ap counts q in
+    (c .refusal-code .ensures ∙ ap (answered untold) w, (r .ensures .1 .0 ∙ ap (λ (o : Outcome). read-minutes o (a .minutes .now)) q, (r .ensures .1 .1 .0 ∙ ap (λ (o : Outcome). read-values o (a .values .now)) q, (r .ensures .1 .1 .1 .0 ∙ ap (λ (o : Outcome). read-evaluation-points o (a .points .now)) q, (r .ensures .1 .1 .1 .1 ∙ ap (λ (o : Outcome). read-bandwidths o (a .bandwidths .now)) q, ap (λ (o : Answer Counts). stored count-numbers o (a .counts .now)) w)))))
 
 same-length-5 : tie.Need-same-length-5
 same-length-5 c = search needs
@@ -68,9 +72,11 @@ same-length-9 c = search needs
 
 returns-3 : tie.Need-returns-3
 returns-3 c =
-    let q = right-size 2 (c .before .before .before .before .before .before .before .before .before .before .before .before .before .before .before .before .before .before .before .before .before .before .before .before .before .before .before .args .counts .now) (read full (c .before .before .before .before .before .before .before .before .before .before .before .before .before .before .before .before .before .before .before .before .before .before .before .before .before .before .before .args .sheet .now) (c .before .before .before .before .before .before .before .before .before .before .before .before .before .before .before .before .before .before .before .before .before .before .before .before .before .before .before .args .minutes .now) (c .before .before .before .before .before .before .before .before .before .before .before .before .before .before .before .before .before .before .before .before .before .before .before .before .before .before .before .args .values .now) (c .before .before .before .before .before .before .before .before .before .before .before .before .before .before .before .before .before .before .before .before .before .before .before .before .before .before .before .args .points .now) (c .before .before .before .before .before .before .before .before .before .before .before .before .before .before .before .before .before .before .before .before .before .before .before .before .before .before .before .args .bandwidths .now)) (c .before .before .before .before .before .before .before .before .before .before .before .before .before .before .before .before .before .before .before .before .if1 .left) in
-    let w = sym (ap told-reading (c .before .before .before .before .before .n .given .1)) ∙ c .before .before .before .before .before .before .before .before .before .before .before .before .before .before .before .read-sheet .ensures .0 ∙ ap counts q in
-    (ap (answered untold) w, (c .before .before .before .before .before .before .before .before .before .before .before .before .before .before .before .read-sheet .ensures .1 .0 ∙ ap (λ (o : Outcome). read-minutes o (c .before .before .before .before .before .before .before .before .before .before .before .before .before .before .before .before .before .before .before .before .before .before .before .before .before .before .before .args .minutes .now)) q, (c .before .before .before .before .before .before .before .before .before .before .before .before .before .before .before .read-sheet .ensures .1 .1 .0 ∙ ap (λ (o : Outcome). read-values o (c .before .before .before .before .before .before .before .before .before .before .before .before .before .before .before .before .before .before .before .before .before .before .before .before .before .before .before .args .values .now)) q, (c .before .before .before .before .before .before .before .before .before .before .before .before .before .before .before .read-sheet .ensures .1 .1 .1 .0 ∙ ap (λ (o : Outcome). read-evaluation-points o (c .before .before .before .before .before .before .before .before .before .before .before .before .before .before .before .before .before .before .before .before .before .before .before .before .before .before .before .args .points .now)) q, (c .before .before .before .before .before .before .before .before .before .before .before .before .before .before .before .read-sheet .ensures .1 .1 .1 .1 ∙ ap (λ (o : Outcome). read-bandwidths o (c .before .before .before .before .before .before .before .before .before .before .before .before .before .before .before .before .before .before .before .before .before .before .before .before .before .before .before .args .bandwidths .now)) q, c .before .before .put-pair .ensures ∙ ap (λ (a : Answer Counts). stored count-numbers a (c .before .before .before .before .before .before .before .before .before .before .before .before .before .before .before .before .before .before .before .before .before .before .before .before .before .before .before .args .counts .now)) w)))))
+    let a = c .before .before .before .before .before .before .before .before .before .before .before .before .before .before .before .before .before .before .before .before .before .before .before .before .before .before .before .args in
+    let r = c .before .before .before .before .before .before .before .before .before .before .before .before .before .before .before .read-sheet in
+    let q = right-size 2 (a .counts .now) (read full (a .sheet .now) (a .minutes .now) (a .values .now) (a .points .now) (a .bandwidths .now)) (c .before .before .before .before .before .before .before .before .before .before .before .before .before .before .before .before .before .before .before .before .if1 .left) in
+    let w = sym (ap told-reading (c .before .before .before .before .before .n .given .1)) ∙ r .ensures .0 ∙ ap counts q in
+    (ap (answered untold) w, (r .ensures .1 .0 ∙ ap (λ (o : Outcome). read-minutes o (a .minutes .now)) q, (r .ensures .1 .1 .0 ∙ ap (λ (o : Outcome). read-values o (a .values .now)) q, (r .ensures .1 .1 .1 .0 ∙ ap (λ (o : Outcome). read-evaluation-points o (a .points .now)) q, (r .ensures .1 .1 .1 .1 ∙ ap (λ (o : Outcome). read-bandwidths o (a .bandwidths .now)) q, c .before .before .put-pair .ensures ∙ ap (λ (o : Answer Counts). stored count-numbers o (a .counts .now)) w)))))
 
 pub tankcurve-read-spec : {M : Type 1} → statement M
 tankcurve-read-spec =

@@ -19,15 +19,17 @@ enum-known-refusal c = search needs
 
 refusal-code-requires : tie.Need-refusal-code-requires
 refusal-code-requires c κs =
-    told-place (smooth full (c .before .before .before .before .before .before .before .before .before .before .before .before .args .minutes .now) (c .before .before .before .before .before .before .before .before .before .before .before .before .args .values .now) (c .before .before .before .before .before .before .before .before .before .before .before .before .args .points .now) (c .before .before .before .before .before .before .before .before .before .before .before .before .args .bandwidths .now) (c .before .before .before .before .before .before .before .before .before .before .before .before .args .rows .now)) (told (c .before .refusal .given .0 .0)) (sym (ap told-smoothing (c .before .refusal .given .1)) ∙ c .before .before .before .before .before .smooth .ensures .0)
-    (smooth-place (c .before .before .before .before .before .before .before .before .before .before .before .before .args .minutes .now) (c .before .before .before .before .before .before .before .before .before .before .before .before .args .values .now) (c .before .before .before .before .before .before .before .before .before .before .before .before .args .points .now) (c .before .before .before .before .before .before .before .before .before .before .before .before .args .bandwidths .now) (c .before .before .before .before .before .before .before .before .before .before .before .before .args .rows .now))
+    let a = c .before .before .before .before .before .before .before .before .before .before .before .before .args in
+    told-place (smooth full (a .minutes .now) (a .values .now) (a .points .now) (a .bandwidths .now) (a .rows .now)) (told (c .before .refusal .given .0 .0)) (sym (ap told-smoothing (c .before .refusal .given .1)) ∙ c .before .before .before .before .before .smooth .ensures .0)
+    (smooth-place (a .minutes .now) (a .values .now) (a .points .now) (a .bandwidths .now) (a .rows .now))
 
 enum-known-passes : tie.Need-enum-known-passes
 enum-known-passes c = search needs
 
 mul-result : tie.Need-mul-result
 mul-result c =
-    let l = passes-small (c .before .before .before .before .before .before .before .before .before .before .before .before .args .minutes .now) (c .before .before .before .before .before .before .before .before .before .before .before .before .args .values .now) (c .before .before .before .before .before .before .before .before .before .before .before .before .args .points .now) (c .before .before .before .before .before .before .before .before .before .before .before .before .args .bandwidths .now) (c .before .before .before .before .before .before .before .before .before .before .before .before .args .rows .now) (c .before .passes .given .0 .0) (sym (c .before .before .before .before .before .smooth .ensures .0) ∙ ap told-smoothing (c .before .passes .given .1)) in
+    let a = c .before .before .before .before .before .before .before .before .before .before .before .before .args in
+    let l = passes-small (a .minutes .now) (a .values .now) (a .points .now) (a .bandwidths .now) (a .rows .now) (c .before .passes .given .0 .0) (sym (c .before .before .before .before .before .smooth .ensures .0) ∙ ap told-smoothing (c .before .passes .given .1)) in
     omega arith
 
 same-length : tie.Need-same-length

@@ -18,15 +18,17 @@ enum-known-refusal c = search needs
 
 refusal-code-requires : tie.Need-refusal-code-requires
 refusal-code-requires c κs =
-    told-place (write (c .before .before .before .before .before .before .before .before .before .args .sheet .now) (c .before .before .before .before .before .before .before .before .before .args .out .now)) (told (c .before .refusal .given .0 .0)) (sym (ap told-writing (c .before .refusal .given .1)) ∙ c .before .before .before .before .before .curve-text .ensures .0)
-    (write-place (c .before .before .before .before .before .before .before .before .before .args .sheet .now) (c .before .before .before .before .before .before .before .before .before .args .out .now))
+    let a = c .before .before .before .before .before .before .before .before .before .args in
+    told-place (write (a .sheet .now) (a .out .now)) (told (c .before .refusal .given .0 .0)) (sym (ap told-writing (c .before .refusal .given .1)) ∙ c .before .before .before .before .before .curve-text .ensures .0)
+    (write-place (a .sheet .now) (a .out .now))
 
 enum-known-size : tie.Need-enum-known-size
 enum-known-size c = search needs
 
 mul-result : tie.Need-mul-result
 mul-result c =
-    let l = size-small (c .before .before .before .before .before .before .before .before .before .args .sheet .now) (c .before .before .before .before .before .before .before .before .before .args .out .now) (c .before .size .given .0 .0) (sym (c .before .before .before .before .before .curve-text .ensures .0) ∙ ap told-writing (c .before .size .given .1)) in
+    let a = c .before .before .before .before .before .before .before .before .before .args in
+    let l = size-small (a .sheet .now) (a .out .now) (c .before .size .given .0 .0) (sym (c .before .before .before .before .before .curve-text .ensures .0) ∙ ap told-writing (c .before .size .given .1)) in
     omega arith
 
 same-length : tie.Need-same-length
