@@ -9,7 +9,7 @@ ghost use Rattle.meanings.specs.Limits.{full as full-limits, max-u16};
 ghost use Rattle.meanings.specs.Grid.{presets, grid};
 ghost use Rattle.meanings.specs.Calls.{told-filling, fill, fill-points, fill-bandwidths};
 
-// The knob's half widths, by position.
+// The bandwidth presets, by position.
 const PRESETS: [u32; 12] = [30, 45, 60, 90, 120, 180, 240, 360, 480, 720, 1080, 1440];
 
 // The half width of a position.

@@ -161,7 +161,7 @@ at-preset k h = filler 0 0 k (7 ∷ []) (7 ∷ []) ⇒ filled (given tt) (0 ∷ 
 
 abbrev pub fill-cases : List Case
 fill-cases =
-    -- the knob's positions
+    -- each preset
     at-preset 0 30
     ∷ at-preset 1 45
     ∷ at-preset 2 60
