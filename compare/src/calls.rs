@@ -12,7 +12,7 @@ use std::fmt::{self, Debug};
 use std::io::{self, Write};
 use std::path::PathBuf;
 use std::process::{Command, Stdio};
-use tankcurve::{slices, Counts, Estimate, RunningSums};
+use tankcurve::{slices, Counts, Estimate, Refusal, Report, RunningSums};
 
 /// A number, 0 or a report, and its detail.
 type Answer = (u8, u64);
@@ -24,7 +24,24 @@ const WRONG_LENGTH: Answer = (8, 0);
 pub const READ_LENGTHS: [usize; 5] = [1024, 1024, 512, 512, 2];
 
 /// The length of the buffer for a text.
-pub const OUT_LENGTH: usize = 31_291;
+pub const OUT_LENGTH: usize = reference::MOST_OUTPUT;
+
+/// Every report, for the typed call that takes one.
+const REPORTS: [Report; 13] = [
+    Report::TooLong,
+    Report::BadHeader,
+    Report::MalformedLine,
+    Report::SampleOutOfOrder,
+    Report::PointOutOfOrder,
+    Report::TooMany,
+    Report::NoPoints,
+    Report::LengthMismatch,
+    Report::BandwidthOutOfRange,
+    Report::EdgeDecreases,
+    Report::InvalidRecord,
+    Report::UnknownPreset,
+    Report::GridOverflow,
+];
 
 /// The calls, with their tallies.
 pub struct Calls {
@@ -37,6 +54,7 @@ pub struct Calls {
     fill: Tally,
     read: Tally,
     text: Tally,
+    refusal_text: Tally,
     run: Tally,
 }
 
@@ -136,11 +154,12 @@ impl Calls {
             fill: Tally::new("fill", &[8, 7, 6, 12, 13]),
             read: Tally::new("read", &[8, 1, 2, 3, 4, 5, 9, 10, 6, 7]),
             text: Tally::new("text", &[8, 1, 2, 3, 4, 5, 9, 10, 6, 7]),
+            refusal_text: Tally::new("refusal_text", &[8]),
             run: Tally::new("program", &[1, 2, 3, 4, 5, 9, 10, 6, 7]),
         }
     }
 
-    pub fn tallies(&self) -> [&Tally; 8] {
+    pub fn tallies(&self) -> [&Tally; 9] {
         [
             &self.evaluate,
             &self.window,
@@ -149,6 +168,7 @@ impl Calls {
             &self.fill,
             &self.read,
             &self.text,
+            &self.refusal_text,
             &self.run,
         ]
     }
@@ -566,35 +586,61 @@ impl Calls {
 
     /// One sheet, with a buffer of this length.
     pub fn text(&mut self, sheet: &[u8], out_len: usize) -> Result<(), String> {
-        let text = reference::program(sheet);
-        let fits = out_len == OUT_LENGTH;
-        let answer = if fits {
-            (0, text.len() as u64)
-        } else {
-            WRONG_LENGTH
-        };
-        let front: &[u8] = if fits { &text } else { &[] };
+        let mut front = vec![0; out_len];
+        let result = reference::text(sheet, &mut front).map_err(refused);
+        let answer = result.map_or_else(|refusal| refusal, |size| (0, size as u64));
+        front.truncate(result.unwrap_or(0));
         let lent_sheet = Lent::holding(&mut self.patterns, sheet);
         let mut out = Lent::patterned(&mut self.patterns, out_len);
         let mut typed_out = Lent::patterned(&mut self.patterns, out_len);
         let found = attempt(|| {
-            same(
-                "returned",
-                code(answer),
-                slices::text(lent_sheet.list(), out.list_mut()),
-            )?;
+            let got = slices::text(lent_sheet.list(), out.list_mut());
+            same("returned", code(answer), got)?;
             lent_sheet.untouched("sheet")?;
-            out.holds("out", front)?;
-            if fits {
+            out.holds("out", &front)?;
+            if out_len == OUT_LENGTH {
                 let got = tankcurve::text(lent_sheet.list(), sized(typed_out.list_mut())?);
-                same("typed", Bytes(&text), Bytes(got))?;
-                typed_out.holds("typed, out", &text)?;
+                let written = result.map(|_| Bytes(&front));
+                same("typed", written, typed(got).map(Bytes))?;
+                lent_sheet.untouched("typed, sheet")?;
+                typed_out.holds("typed, out", &front)?;
             }
             Ok(())
         });
-        self.text
-            .count(if fits { told(&text) } else { WRONG_LENGTH.0 });
+        self.text.count(answer.0);
         with_case!(found, "text", sheet = Bytes(sheet), out_len = out_len)
+    }
+
+    /// The text of one refusal, with a buffer of this length.
+    pub fn refusal_text(&mut self, number: u64, place: u64, out_len: usize) -> Result<(), String> {
+        let mut front = vec![0; out_len];
+        let result = reference::refusal_text(number, place, &mut front).map_err(refused);
+        let answer = result.map_or_else(|refusal| refusal, |size| (0, size as u64));
+        front.truncate(result.unwrap_or(0));
+        let mut out = Lent::patterned(&mut self.patterns, out_len);
+        let mut typed_out = Lent::patterned(&mut self.patterns, out_len);
+        let report = REPORTS.into_iter().find(|&report| report as u64 == number);
+        let found = attempt(|| {
+            let got = slices::refusal_text(number, place, out.list_mut());
+            same("returned", code(answer), got)?;
+            out.holds("out", &front)?;
+            if let (Some(report), OUT_LENGTH) = (report, out_len) {
+                let refusal = Refusal { report, place };
+                let got = tankcurve::refusal_text(refusal, sized(typed_out.list_mut())?);
+                let written = result.map(|_| Bytes(&front));
+                same("typed", written, typed(got).map(Bytes))?;
+                typed_out.holds("typed, out", &front)?;
+            }
+            Ok(())
+        });
+        self.refusal_text.count(answer.0);
+        with_case!(
+            found,
+            "refusal_text",
+            number = number,
+            place = place,
+            out_len = out_len
+        )
     }
 
     /// One sheet through the program's standard input, and what comes out.

@@ -537,6 +537,50 @@ pub fn read_and_text(calls: &mut Calls) -> Found {
     Ok(())
 }
 
+/// Numbers at the ends of each count of digits, those of the reports, and those about a power of two.
+fn written_numbers() -> Vec<u64> {
+    let mut numbers: Vec<u64> = (0..=20).collect();
+    for digits in 1..20 {
+        let power = 10u64.pow(digits);
+        numbers.extend([power - 1, power, power + 1]);
+    }
+    for bits in [8, 15, 16, 31, 32, 63] {
+        let power = 1u64 << bits;
+        numbers.extend([power - 1, power, power + 1]);
+    }
+    numbers.extend([9_876_543_210, 1_020_304_050_607_080_900]);
+    numbers.extend([u64::MAX - 1, u64::MAX]);
+    numbers
+}
+
+pub fn refusal_text(calls: &mut Calls) -> Found {
+    let random = &mut Random(8);
+    let numbers = written_numbers();
+    for &number in &numbers {
+        for &place in &numbers {
+            calls.refusal_text(number, place, OUT_LENGTH)?;
+        }
+    }
+    for (number, place) in [(4, 52), (0, 0), (8, 0), (u64::MAX, u64::MAX)] {
+        for length in wrong_lengths(OUT_LENGTH)
+            .into_iter()
+            .chain([19, 56, 32_768])
+        {
+            calls.refusal_text(number, place, length)?;
+        }
+    }
+    for _ in 0..10_000 {
+        let number = random.next() >> random.below(64);
+        let place = random.next() >> random.below(64);
+        calls.refusal_text(number, place, OUT_LENGTH)?;
+        if random.chance(3) {
+            let length = random.pick(&wrong_lengths(OUT_LENGTH));
+            calls.refusal_text(number, place, length)?;
+        }
+    }
+    Ok(())
+}
+
 pub fn program(calls: &mut Calls) -> Found {
     let random = &mut Random(7);
     for sheet in sheets::small_damages().iter().step_by(20) {

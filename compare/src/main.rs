@@ -2,8 +2,8 @@
 //!
 //! `compare PROGRAM EXAMPLES`: PROGRAM is the program `tankcurve`, EXAMPLES the folder of the published
 //! sheets and curves. All seeds are fixed, so each run has the same cases. The first difference is
-//! printed with its whole case and ends the run with status 1, and so does a report that document 01
-//! lists for a call and that never came.
+//! printed with its whole case and ends the run with status 1, and so does a report that a call can
+//! give and that never came.
 
 mod calls;
 mod cases;
@@ -47,6 +47,7 @@ fn compare(calls: &mut Calls, examples: &Path) -> Result<(), String> {
     cases::smooth(calls)?;
     cases::fill(calls)?;
     cases::read_and_text(calls)?;
+    cases::refusal_text(calls)?;
     cases::program(calls)?;
     for tally in calls.tallies() {
         println!("{}", tally.line());

@@ -3,7 +3,7 @@
 /// The answers of one call.
 pub struct Tally {
     call: &'static str,
-    /// The reports that document 01 lists for the call, in its order.
+    /// The reports that the call can give, in the order in which it looks for them.
     listed: &'static [u8],
     cases: u64,
     accepted: u64,
@@ -43,7 +43,7 @@ impl Tally {
             .map(|&number| format!("{number}: {}", self.reports[usize::from(number)]))
             .collect();
         format!(
-            "{:<9} {:>7} cases, {:>7} accepted; reports {}",
+            "{:<12} {:>7} cases, {:>7} accepted; reports {}",
             self.call,
             self.cases,
             self.accepted,

@@ -1,10 +1,18 @@
 /*
- * Reads a sheet from standard input and writes its curve; then the estimates of lists given here, five numbers a point, and the passes.
+ * Reads a sheet from standard input and writes its curve, or why it was refused; then the estimates of lists given here, five numbers a
+ * point, and the passes.
  */
 #include "tankcurve.h"
 
 #include <inttypes.h>
 #include <stdio.h>
+
+/* Tells a report that this program's own lists and buffers should not earn; the status to end with. */
+static int refused(uint64_t answer)
+{
+    printf("report %d at %" PRIu64 "\n", (int)tankcurve_number(answer), tankcurve_detail(answer));
+    return 1;
+}
 
 int main(void)
 {
@@ -17,6 +25,10 @@ int main(void)
         return 1;
     }
     uint64_t answer = tankcurve_text(sheet, sheet_len, out, sizeof out);
+    if (tankcurve_number(answer) != TANKCURVE_ACCEPTED)
+        answer = tankcurve_refusal_text(tankcurve_number(answer), tankcurve_detail(answer), out, sizeof out);
+    if (tankcurve_number(answer) != TANKCURVE_ACCEPTED)
+        return refused(answer);
     fwrite(out, 1, tankcurve_detail(answer), stdout);
 
     const uint16_t minutes[] = {10, 20, 20, 35};
@@ -25,10 +37,8 @@ int main(void)
     const uint32_t bandwidths[] = {10, 15, 20};
     uint64_t rows[3 * TANKCURVE_ROW_LEN];
     answer = tankcurve_smooth(minutes, 4, values, 4, points, 3, bandwidths, 3, rows, 3 * TANKCURVE_ROW_LEN);
-    if (tankcurve_number(answer) != TANKCURVE_ACCEPTED) {
-        printf("report %d at %" PRIu64 "\n", (int)tankcurve_number(answer), tankcurve_detail(answer));
-        return 1;
-    }
+    if (tankcurve_number(answer) != TANKCURVE_ACCEPTED)
+        return refused(answer);
     for (size_t k = 0; k < 3; k++) {
         const uint64_t *row = rows + k * TANKCURVE_ROW_LEN;
         printf("%" PRIu64 " %" PRIu64 " %" PRIu64 " %" PRIu64 " %" PRIu64 "\n", row[0], row[1], row[2], row[3], row[4]);

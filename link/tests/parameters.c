@@ -22,7 +22,7 @@ static const char sheet[] = "mark,half\n12,7\n14,9\n\nminute,inj,vdk\n11,3,21\n1
 static const char curve[] = "mark,half,left,right,weight,sum,vdk\n12,7,0,2,96,2112,22\n14,9,0,2,152,3352,22\n\nkept,passes\n3,2\n";
 /* A sheet whose line at byte 52 has a minute below the one before. */
 static const char falling_sheet[] = "mark,half\n12,7\n14,9\n\nminute,inj,vdk\n11,3,21\n12,1,22\n11,4,23\n30,5,24\n";
-static const char refused[] = "refused,place\n4,52\n";
+static const char falling_text[] = "refused,place\n4,52\n";
 
 static int compared;
 
@@ -69,7 +69,7 @@ static void evaluate(void)
     same_list("evaluate, row", row, after, sizeof after);
 }
 
-/* Empty lists have a pointer that is not null: case C4 of document 01. */
+/* Empty lists have a pointer that is not null: case C4. */
 static void empty_lists(void)
 {
     const uint64_t after[] = {0, 0, 0, 0, TANKCURVE_MISSING};
@@ -224,17 +224,39 @@ static void read(void)
 
 static void text(void)
 {
-    static uint8_t out[TANKCURVE_MAX_OUTPUT], all[TANKCURVE_MAX_OUTPUT];
+    static uint8_t out[TANKCURVE_MAX_OUTPUT + 1], all[TANKCURVE_MAX_OUTPUT + 1];
     memset(out, 90, sizeof out);
     memset(all, 90, sizeof all);
-    same("text, a shorter buffer", tankcurve_text((const uint8_t *)sheet, strlen(sheet), out, sizeof out - 1), TANKCURVE_LENGTH_MISMATCH);
+    same("text, a shorter buffer", tankcurve_text((const uint8_t *)sheet, strlen(sheet), out, TANKCURVE_MAX_OUTPUT - 1),
+         TANKCURVE_LENGTH_MISMATCH);
+    same("text, a longer buffer", tankcurve_text((const uint8_t *)sheet, strlen(sheet), out, TANKCURVE_MAX_OUTPUT + 1),
+         TANKCURVE_LENGTH_MISMATCH);
+    same("text, a refused sheet and a shorter buffer",
+         tankcurve_text((const uint8_t *)falling_sheet, strlen(falling_sheet), out, TANKCURVE_MAX_OUTPUT - 1), TANKCURVE_LENGTH_MISMATCH);
+    same("text, a refused sheet", tankcurve_text((const uint8_t *)falling_sheet, strlen(falling_sheet), out, TANKCURVE_MAX_OUTPUT),
+         16 * 52 + TANKCURVE_SAMPLE_OUT_OF_ORDER);
     same_list("text, buffer of a refusal", out, all, sizeof all);
-    same("text, a refused sheet", tankcurve_text((const uint8_t *)falling_sheet, strlen(falling_sheet), out, sizeof out), 16 * 19);
-    memcpy(all, refused, strlen(refused));
-    same_list("text, buffer of a refused sheet", out, all, sizeof all);
-    same("text", tankcurve_text((const uint8_t *)sheet, strlen(sheet), out, sizeof out), 16 * 94);
+    same("text", tankcurve_text((const uint8_t *)sheet, strlen(sheet), out, TANKCURVE_MAX_OUTPUT), 16 * 94);
     memcpy(all, curve, strlen(curve));
     same_list("text, buffer", out, all, sizeof all);
+}
+
+static void refusal_text(void)
+{
+    static uint8_t out[TANKCURVE_MAX_OUTPUT + 1], all[TANKCURVE_MAX_OUTPUT + 1];
+    const char wide[] = "refused,place\n18446744073709551615,9876543210\n";
+    memset(out, 90, sizeof out);
+    memset(all, 90, sizeof all);
+    same("refusal text, a shorter buffer", tankcurve_refusal_text(4, 52, out, TANKCURVE_MAX_OUTPUT - 1), TANKCURVE_LENGTH_MISMATCH);
+    same("refusal text, a longer buffer", tankcurve_refusal_text(4, 52, out, TANKCURVE_MAX_OUTPUT + 1), TANKCURVE_LENGTH_MISMATCH);
+    same_list("refusal text, buffer of a refusal", out, all, sizeof all);
+    same("refusal text", tankcurve_refusal_text(4, 52, out, TANKCURVE_MAX_OUTPUT), 16 * 19);
+    memcpy(all, falling_text, strlen(falling_text));
+    same_list("refusal text, buffer", out, all, sizeof all);
+    /* A number that no call reports. */
+    same("refusal text, any number", tankcurve_refusal_text(UINT64_MAX, 9876543210, out, TANKCURVE_MAX_OUTPUT), 16 * 46);
+    memcpy(all, wide, strlen(wide));
+    same_list("refusal text, buffer of any number", out, all, sizeof all);
 }
 
 int main(void)
@@ -249,6 +271,7 @@ int main(void)
     fill();
     read();
     text();
+    refusal_text();
     printf("parameters: %d comparisons passed\n", compared);
     return 0;
 }

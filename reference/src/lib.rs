@@ -2,26 +2,31 @@
 //! readings, every count a filter over a whole list, and the sheet is split
 //! into lines at line feeds and into fields at commas.
 //!
-//! The quoted sentences are those of document 01.
+//! A comment that ends in a title in brackets names the section of
+//! docs/SPECIFICATION.md that its code follows.
 
-/// "There are 0 to 1,024 kept readings and 1 to 512 marks."
+/// The longest list of kept readings that is no fault [Readings and marks].
 pub const MOST_READINGS: usize = 1024;
 
-/// "There are 0 to 1,024 kept readings and 1 to 512 marks."
+/// The longest list of marks that is no fault [Readings and marks].
 pub const MOST_MARKS: usize = 512;
 
-/// "sheet over 32,768 bytes" is overlong.
+/// The longest sheet that is no fault [Reports].
 pub const MOST_BYTES: usize = 32_768;
 
-/// "If weight is 0 it is 65,536, meaning missing."
+/// The length of a buffer for a text. No text is longer: 36 bytes of names, a
+/// line of at most 61 for each of 512 marks, 13 of names, 10 of two counts
+/// [Output].
+pub const MOST_OUTPUT: usize = 31_291;
+
+/// What stands for the value of a row without weight [The row].
 pub const MISSING: u64 = 65_536;
 
-/// "The knob has twelve positions, 0 to 11, for half widths 30, 45, 60, 90,
-/// 120, 180, 240, 360, 480, 720, 1080, 1440."
+/// The half width of each position of the knob [Presets and grid].
 pub const KNOB: [u32; 12] = [30, 45, 60, 90, 120, 180, 240, 360, 480, 720, 1080, 1440];
 
-/// "A refusal returns number and place and leaves every lent list, and a lent
-/// record, as before the call."
+/// Why a call did nothing, and where. What it was lent has not changed
+/// [Reports].
 #[derive(Clone, Copy, Debug, PartialEq, Eq)]
 pub struct Refusal {
     /// The report's number, 1 to 13.
@@ -30,10 +35,9 @@ pub struct Refusal {
     pub place: u64,
 }
 
-/// "A record holds left, right and the six sums; fresh means all zero."
-///
-/// The sums are, for p = 0, 1, 2, those of minute to the power p, then, for
-/// p = 0, 1, 2, those of minute to the power p times value.
+/// The running record; the default one is fresh. The sums are three of 1,
+/// minute and squared minute, then three of the same, each times its reading's
+/// value [The running record and the book].
 #[derive(Clone, Copy, Debug, Default, PartialEq, Eq)]
 pub struct Record {
     pub left: u64,
@@ -48,22 +52,22 @@ fn refuse<T>(number: u8, place: usize) -> Result<T, Refusal> {
     })
 }
 
-/// "half width | 0 or over 65,536"
+/// Report 9 of one half width [Reports].
 fn half_is_bad(half: u32) -> bool {
     half == 0 || half > 65_536
 }
 
-/// "the left edge is mark minus half width and may be negative"
+/// Where a mark's window begins, below 0 too [Readings and marks].
 fn left_edge(mark: u16, half: u32) -> i128 {
     i128::from(mark) - i128::from(half)
 }
 
-/// "the right edge is mark plus half width"
+/// Where a mark's window ends [Readings and marks].
 fn right_edge(mark: u16, half: u32) -> i128 {
     i128::from(mark) + i128::from(half)
 }
 
-/// "edge back | an edge below the one before"
+/// Report 10 of two neighbouring marks [Reports].
 fn edge_falls(mark: u16, half: u32, next_mark: u16, next_half: u32) -> bool {
     left_edge(next_mark, next_half) < left_edge(mark, half)
         || right_edge(next_mark, next_half) < right_edge(mark, half)
@@ -74,21 +78,19 @@ fn first_fall(list: &[u16]) -> Option<usize> {
     (1..list.len()).find(|&i| list[i] < list[i - 1])
 }
 
-/// "For mark z and half width h the window is closed, from z − h to z + h. A
-/// row is five numbers".
+/// The five numbers of a mark, over the window with both its ends [The row].
 fn row(minutes: &[u16], values: &[u16], mark: u16, half: u32) -> [u64; 5] {
     let z = i128::from(mark);
     let h = i128::from(half);
 
-    // "left: how many readings have minute + h < z"
+    // Readings before the window.
     let left = minutes.iter().filter(|&&m| i128::from(m) + h < z).count();
 
-    // "right: how many have minute ≤ z + h"
+    // Readings that are not behind it.
     let right = minutes.iter().filter(|&&m| i128::from(m) <= z + h).count();
 
-    // "the run inside is positions left up to but without right"
-    // "weight: the sum over the run of h² − (minute − z)²"
-    // "sum: the same weights, each times its reading's value"
+    // The readings from the first count to the second, each with the weight of
+    // its distance.
     let mut weight: i128 = 0;
     let mut sum: i128 = 0;
     for (position, (&m, &v)) in minutes.iter().zip(values).enumerate() {
@@ -100,8 +102,7 @@ fn row(minutes: &[u16], values: &[u16], mark: u16, half: u32) -> [u64; 5] {
         }
     }
 
-    // "value: sum divided by weight to the nearest whole number, halves
-    // upward. If weight is 0 it is 65,536, meaning missing."
+    // The quotient; one half is added and the fraction cut off.
     let value = if weight == 0 {
         i128::from(MISSING)
     } else {
@@ -117,10 +118,8 @@ fn row(minutes: &[u16], values: &[u16], mark: u16, half: u32) -> [u64; 5] {
     ]
 }
 
-/// The row at one mark: left, right, weight, sum, value.
-///
-/// "The question at one mark gives the same row." "One mark 8, 6, 4, 9."
-/// "half width | 0 or over 65,536 | line or position; single: 0"
+/// The row at one mark: left, right, weight, sum, value; or the first of the
+/// reports 8, 6, 4 and 9 that holds [The row; Reports].
 pub fn one_mark(
     minutes: &[u16],
     values: &[u16],
@@ -142,11 +141,8 @@ pub fn one_mark(
     Ok(row(minutes, values, mark, half))
 }
 
-/// The run at one mark, as its start and end positions in the value list.
-///
-/// "Its run is handed back as that part of the caller's own value list. On a
-/// refusal that part is empty." "It is two calls with the same checks: one
-/// gives the row or the report, the other the run."
+/// The run at one mark, as its start and end positions in the value list: both
+/// 0 where [`one_mark`] refuses [The row].
 pub fn one_mark_run(minutes: &[u16], values: &[u16], mark: u16, half: u32) -> (usize, usize) {
     match one_mark(minutes, values, mark, half) {
         Ok(row) => (row[0] as usize, row[1] as usize),
@@ -154,9 +150,8 @@ pub fn one_mark_run(minutes: &[u16], values: &[u16], mark: u16, half: u32) -> (u
     }
 }
 
-/// "over the run, for p = 0, 1, 2: minute to the power p, and minute to the
-/// power p times value (power 0 is 1)", here over the positions from `start`
-/// up to but without `end`.
+/// The sums of a [`Record`] over the readings at `start` and on, those at `end`
+/// and on left out.
 fn six_sums(minutes: &[u16], values: &[u16], start: usize, end: usize) -> [i128; 6] {
     let mut sums = [0i128; 6];
     for (position, (&m, &v)) in minutes.iter().zip(values).enumerate() {
@@ -174,12 +169,9 @@ fn six_sums(minutes: &[u16], values: &[u16], start: usize, end: usize) -> [i128;
     sums
 }
 
-/// One step of the running record.
-///
-/// "A step takes a record, the readings, a mark and a half width." "A step
-/// neither checks order nor trusts the sums: the sums are kept modulo 2^64
-/// for a record of any origin." "Step 8, 6, 11, 9."
-/// "foreign record | left > right, or right > readings | 0"
+/// One step of the running record, or the first of the reports 8, 6, 11 and 9
+/// that holds. Readings may come in any order and the record from anywhere;
+/// its sums are remainders modulo 2^64 [The running record and the book].
 pub fn step(
     record: Record,
     minutes: &[u16],
@@ -202,22 +194,19 @@ pub fn step(
     let old_left = record.left as usize;
     let old_right = record.right as usize;
 
-    // "The new right is the first position at or after the old right whose
-    // minute is over the right edge, else the list's length."
+    // On from the old right, up to a minute behind the window.
     let right = (old_right..minutes.len())
         .find(|&i| i128::from(minutes[i]) > right_edge(mark, half))
         .unwrap_or(minutes.len());
 
-    // "The new left is the first position at or after the old left, and below
-    // the new right, whose minute is not under the left edge, else the new
-    // right."
+    // On from the old left, up to a minute that is not before the window, the
+    // new right at most.
     let left = (old_left..right)
         .find(|&i| i128::from(minutes[i]) >= left_edge(mark, half))
         .unwrap_or(right);
 
-    // "What the right edge passes is taken in; what the left edge passes is
-    // let go. The new sums are the old ones plus what was taken in, less what
-    // was let go."
+    // Positions passed on the right come in, positions passed on the left go
+    // out.
     let taken = six_sums(minutes, values, old_right, right);
     let gone = six_sums(minutes, values, old_left, left);
     let mut sums = [0u64; 6];
@@ -233,14 +222,10 @@ pub fn step(
     })
 }
 
-/// The whole sweep: five numbers per mark into `rows`, and the passes.
-///
-/// "A sweep starts fresh and gives what one step per mark gives: from the
-/// record after each it writes five numbers per mark into one lent list, and
-/// it reports passes: the takings plus lettings of all those steps, which is
-/// last right plus last left." "Sweep 8 (minutes with values, marks with half
-/// widths, rows exactly five times marks), 6, 7, 4, 5, 9, 10, lowest position
-/// each."
+/// The whole sweep: each mark's row into `rows`, and the passes, both edges of
+/// the last row added up; or the first of the reports 8, 6, 7, 4, 5, 9 and 10
+/// that holds, at its lowest position [The running record and the book;
+/// Reports].
 pub fn sweep(
     minutes: &[u16],
     values: &[u16],
@@ -286,12 +271,9 @@ pub fn sweep(
     Ok(passes)
 }
 
-/// The mark filler.
-///
-/// "The mark filler takes a first mark, a spacing (0 allowed), a position and
-/// two lent lists (marks, half widths), and fills them; mark k, counted from
-/// 0, is first + k × spacing." "Filler 8, 7, 6, 12, 13."
-/// "past the clock | last filled mark over 65,535 | 0"
+/// The mark filler: marks a spacing apart, all with the half width of one
+/// position of the knob; or the first of the reports 8, 7, 6, 12 and 13 that
+/// holds [Presets and grid].
 pub fn fill(
     first: u16,
     spacing: u16,
@@ -330,8 +312,8 @@ struct Line<'a> {
     ended: bool,
 }
 
-/// "Every line ends in a line feed (byte 10)." Bytes behind the last line feed
-/// are a line without its line feed; no bytes there are no line.
+/// The sheet cut behind each line feed, byte 10. Bytes behind the last one are
+/// a line without its line feed; no bytes there are no line [The sheet].
 fn lines(sheet: &[u8]) -> Vec<Line<'_>> {
     let pieces: Vec<&[u8]> = sheet.split(|&byte| byte == 10).collect();
     let mut lines = Vec::new();
@@ -346,7 +328,8 @@ fn lines(sheet: &[u8]) -> Vec<Line<'_>> {
     lines
 }
 
-/// "A number has 1 to 5 digits and no leading zero, except 0 itself."
+/// The number of a field: at most five digits, the first of several not 0 [The
+/// sheet].
 fn number(field: &[u8]) -> Option<u32> {
     if field.is_empty() || field.len() > 5 {
         return None;
@@ -374,7 +357,7 @@ fn numbers(line: &Line, count: usize) -> Option<Vec<u32>> {
     fields.into_iter().map(number).collect()
 }
 
-/// A mark line: mark 0 to 65,535; the half width is "excepted from range".
+/// A mark line: the mark has a range, the half width here has none [Reports].
 fn mark_line(line: &Line) -> Option<(u16, u32)> {
     let fields = numbers(line, 2)?;
     if fields[0] > 65_535 {
@@ -383,8 +366,8 @@ fn mark_line(line: &Line) -> Option<(u16, u32)> {
     Some((fields[0] as u16, fields[1]))
 }
 
-/// A reading line: minute and value 0 to 65,535; "inj, 1 to 65,535, counts
-/// injections since the column change."
+/// A reading line: minute, injection and value have 65,535 as their greatest
+/// number, and the injection is not 0 [The sheet].
 fn reading_line(line: &Line) -> Option<(u16, u16, u16)> {
     let fields = numbers(line, 3)?;
     if fields.iter().any(|&number| number > 65_535) || fields[1] == 0 {
@@ -401,12 +384,10 @@ struct Sheet {
     halves: Vec<u32>,
 }
 
-/// "The names line `mark,half`, lines of values, an empty line, the names line
-/// `minute,inj,vdk`, lines of values to the end." "Order: reader 8 (its four
-/// lengths), 1, then the first faulty line; within a line 3, 4 or 5, 9, 10, 6."
-/// "Sheet places count bytes from 0."
+/// The sheet from its first line to its last, up to a line with a fault: of one
+/// line's faults the first of 3, then 4 or 5, then 9, 10 and 6. A place is how
+/// many bytes stand before the line [The sheet; Reports].
 fn sheet_of(bytes: &[u8]) -> Result<Sheet, Refusal> {
-    // "overlong | sheet over 32,768 bytes | 32,768"
     if bytes.len() > MOST_BYTES {
         return refuse(1, MOST_BYTES);
     }
@@ -422,13 +403,12 @@ fn sheet_of(bytes: &[u8]) -> Result<Sheet, Refusal> {
 
     let mut at = 1;
     loop {
-        // "no empty line before the end": "no empty line: the sheet's length"
+        // The marks do not end: the place is behind the last byte.
         let Some(line) = lines.get(at) else {
             return refuse(3, bytes.len());
         };
         at += 1;
         if line.text.is_empty() {
-            // "no marks | none | the empty line; lists: 0"
             if sheet.marks.is_empty() {
                 return refuse(7, line.start);
             }
@@ -437,7 +417,6 @@ fn sheet_of(bytes: &[u8]) -> Result<Sheet, Refusal> {
         let Some((mark, half)) = mark_line(line) else {
             return refuse(3, line.start);
         };
-        // "early mark | mark below the one before"
         if sheet.marks.last().is_some_and(|&before| mark < before) {
             return refuse(5, line.start);
         }
@@ -450,7 +429,6 @@ fn sheet_of(bytes: &[u8]) -> Result<Sheet, Refusal> {
                 return refuse(10, line.start);
             }
         }
-        // "crowded | over 1,024 kept readings or 512 marks | line; lists: 0"
         if sheet.marks.len() == MOST_MARKS {
             return refuse(6, line.start);
         }
@@ -465,13 +443,11 @@ fn sheet_of(bytes: &[u8]) -> Result<Sheet, Refusal> {
         let Some((minute, inj, value)) = reading_line(line) else {
             return refuse(3, line.start);
         };
-        // "early reading | minute below the one before"
         if before.is_some_and(|before| minute < before) {
             return refuse(4, line.start);
         }
         before = Some(minute);
-        // "Lines with inj 1 or 2 are checked like the others, and the next
-        // line's minute against them, but not kept."
+        // The first two injections of a column are read and then dropped.
         if inj == 1 || inj == 2 {
             continue;
         }
@@ -484,8 +460,8 @@ fn sheet_of(bytes: &[u8]) -> Result<Sheet, Refusal> {
     Ok(sheet)
 }
 
-/// "heading | a names line absent, different or without its line feed | line's
-/// first byte; absent: the sheet's length"
+/// Report 2 of one of the two names lines; `length` is the place of one that
+/// is not there [Reports].
 fn names_line(line: Option<&Line>, names: &[u8], length: usize) -> Result<(), Refusal> {
     match line {
         None => refuse(2, length),
@@ -495,11 +471,8 @@ fn names_line(line: Option<&Line>, names: &[u8], length: usize) -> Result<(), Re
 }
 
 /// The reader of the tank sheet; answers the counts of kept readings and of
-/// marks.
-///
-/// "The reader fills two lists of 1,024 (minutes, values) and two of 512
-/// (marks, half widths), returns the used counts and leaves the unused tails
-/// untouched."
+/// marks, which stand at the front of the lists. Lists that have not the
+/// greatest length are report 8 [The sheet].
 pub fn read(
     sheet: &[u8],
     minutes: &mut [u16],
@@ -523,8 +496,8 @@ pub fn read(
     Ok((kept, used))
 }
 
-/// "Fields are mark, half width and the row, a missing value as `-`; then kept
-/// readings and passes."
+/// The curve of a sheet: a line for each mark with its row, a hyphen where the
+/// value is missing, and behind an empty line the two counts [Output].
 fn written(input: &[u8]) -> Result<String, Refusal> {
     let mut minutes = [0u16; MOST_READINGS];
     let mut values = [0u16; MOST_READINGS];
@@ -563,15 +536,42 @@ fn written(input: &[u8]) -> Result<String, Refusal> {
     Ok(text)
 }
 
-/// The whole program: the bytes written for the bytes read.
-///
-/// "A refusal writes only `refused,place` and one line, so empty input gives
-/// `2,0`."
+/// The two lines that tell a refusal [Output].
+fn refusal_lines(number: u64, place: u64) -> String {
+    format!("refused,place\n{number},{place}\n")
+}
+
+/// The whole program: the bytes written for the bytes read [Output].
 pub fn program(input: &[u8]) -> Vec<u8> {
     match written(input) {
         Ok(text) => text.into_bytes(),
-        Err(refusal) => {
-            format!("refused,place\n{},{}\n", refusal.number, refusal.place).into_bytes()
-        }
+        Err(refusal) => refusal_lines(refusal.number.into(), refusal.place).into_bytes(),
     }
+}
+
+/// Puts a text at the front of a buffer; answers its length.
+fn put_front(text: &str, out: &mut [u8]) -> usize {
+    out[..text.len()].copy_from_slice(text.as_bytes());
+    text.len()
+}
+
+/// The curve of a sheet at the front of `out`, and its length. A buffer that
+/// has not its length is report 8, and then the sheet's own report counts
+/// [Output].
+pub fn text(sheet: &[u8], out: &mut [u8]) -> Result<usize, Refusal> {
+    if out.len() != MOST_OUTPUT {
+        return refuse(8, 0);
+    }
+    let text = written(sheet)?;
+    Ok(put_front(&text, out))
+}
+
+/// The two lines of a refusal at the front of `out`, and their length, for
+/// any number and place. A buffer that has not its length is report 8
+/// [Output].
+pub fn refusal_text(number: u64, place: u64, out: &mut [u8]) -> Result<usize, Refusal> {
+    if out.len() != MOST_OUTPUT {
+        return refuse(8, 0);
+    }
+    Ok(put_front(&refusal_lines(number, place), out))
 }

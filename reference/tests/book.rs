@@ -14,7 +14,8 @@ impl Dice {
     }
 }
 
-/// "It holds two lists of positions, taken and let go, both empty at first."
+/// The plain book beside a list of steps: which positions came in and which
+/// went out, in the order in which they did.
 #[derive(Default)]
 struct Book {
     taken: Vec<usize>,
@@ -22,8 +23,8 @@ struct Book {
 }
 
 impl Book {
-    /// "It is fed each step's readings, mark and half width, never the record."
-    /// Answers whether the book refused.
+    /// One step, told by what it gets beside the record. Answers whether the
+    /// book refuses it.
     fn feed(&mut self, minutes: &[u16], values: &[u16], mark: u16, half: u32) -> bool {
         if minutes.len() != values.len() || minutes.len() > 1024 || half == 0 || half > 65536 {
             return true;
@@ -135,8 +136,7 @@ fn sweep_and_steps_and_rows() {
             assert_eq!(one_mark(&minutes, &values, mark, half).unwrap(), row);
             assert_eq!([record.left, record.right], row[..2]);
 
-            // "Weight is (h² − z²) times the first sum, plus 2z times the
-            // second, minus the third; sum is the same with values."
+            // Weight and sum, each from three of the six sums.
             let (z, h) = (i128::from(mark), i128::from(half));
             let s = record.sums.map(i128::from);
             let weight = (h * h - z * z) * s[0] + 2 * z * s[1] - s[2];

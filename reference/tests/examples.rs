@@ -1,4 +1,4 @@
-//! Every example of document 01.
+//! The published sheet, the cases C1 to C12 and the table of the knob.
 
 use reference::*;
 
@@ -120,15 +120,27 @@ fn c11_edge_back() {
 
 #[test]
 fn c12_edge_back_in_a_sheet() {
-    assert_eq!(
-        program(b"mark,half\n20,10\n21,12\n"),
-        b"refused,place\n10,16\n"
-    );
+    let sheet = b"mark,half\n20,10\n21,12\n";
+    assert_eq!(program(sheet), b"refused,place\n10,16\n");
+    let mut out = [90; 31291];
+    let refusal = Refusal {
+        number: 10,
+        place: 16,
+    };
+    assert_eq!(text(sheet, &mut out), Err(refusal));
+    assert_eq!(out, [90; 31291]);
+    assert_eq!(refusal_text(10, 16, &mut out), Ok(20));
+    assert_eq!(out[..20], *b"refused,place\n10,16\n");
+    assert_eq!(out[20..], [90; 31271]);
 }
 
 #[test]
 fn whole_sheet() {
     assert_eq!(program(SHEET), WRITTEN);
+    let mut out = [90; 31291];
+    assert_eq!(text(SHEET, &mut out), Ok(WRITTEN.len()));
+    assert_eq!(out[..WRITTEN.len()], *WRITTEN);
+    assert!(out[WRITTEN.len()..].iter().all(|&b| b == 90));
 }
 
 #[test]

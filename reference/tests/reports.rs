@@ -473,3 +473,103 @@ fn read_first_faulty_line() {
     assert_eq!(got("mark,half\n\nminute\n"), no(7, 10));
     assert_eq!(got(&format!("{HEAD}9,3,5\n8,3,5\nx\n")), no(4, 38));
 }
+
+// ----------------------------------------------------------------- text
+
+/// Bytes that no text has, all different from their neighbours.
+fn prefilled(length: usize) -> Vec<u8> {
+    (0..length).map(|i| 128 + (i % 127) as u8).collect()
+}
+
+/// A text in a buffer of the given length, which must be as it was on a
+/// refusal, and behind the text.
+fn texted(sheet: &[u8], length: usize) -> Result<Vec<u8>, Refusal> {
+    let before = prefilled(length);
+    let mut out = before.clone();
+    let size = text(sheet, &mut out);
+    let used = size.unwrap_or(0);
+    assert_eq!(out[used..], before[used..]);
+    size.map(|used| out[..used].to_vec())
+}
+
+/// The same of a refusal's text.
+fn refusal_texted(number: u64, place: u64, length: usize) -> Result<Vec<u8>, Refusal> {
+    let before = prefilled(length);
+    let mut out = before.clone();
+    let size = refusal_text(number, place, &mut out);
+    let used = size.unwrap_or(0);
+    assert_eq!(out[used..], before[used..]);
+    size.map(|used| out[..used].to_vec())
+}
+
+const WRONG_LENGTHS: [usize; 5] = [0, 31290, 31292, 62582, 96827];
+
+#[test]
+fn text_reports() {
+    let tail = "\nminute,inj,vdk\n";
+    let sheets = [
+        ("\n".repeat(32769), 1, 32768),
+        (String::new(), 2, 0),
+        (String::from("mark,half\n20,10\n\n"), 2, 17),
+        (String::from("mark,half\n20\n"), 3, 10),
+        (format!("{HEAD}9,3,5\n8,3,5\n"), 4, 38),
+        (format!("mark,half\n20,10\n19,10\n{tail}"), 5, 16),
+        (format!("mark,half\n{}", "5,2\n".repeat(513)), 6, 2058),
+        (format!("{HEAD}{}", "9,3,1\n".repeat(1025)), 6, 6176),
+        (format!("mark,half\n{tail}"), 7, 10),
+        (format!("mark,half\n20,0\n{tail}"), 9, 10),
+        (format!("mark,half\n20,10\n21,12\n{tail}"), 10, 16),
+    ];
+    for (sheet, number, place) in &sheets {
+        let sheet = sheet.as_bytes();
+        assert_eq!(texted(sheet, 31291), no(*number, *place));
+        // 8 before the report of the sheet.
+        for length in WRONG_LENGTHS {
+            assert_eq!(texted(sheet, length), no(8, 0));
+        }
+        // The program tells the refusal that the call returns.
+        let told = refusal_texted(u64::from(*number), *place, 31291);
+        assert_eq!(told, Ok(program(sheet)));
+    }
+    for length in WRONG_LENGTHS {
+        assert_eq!(texted(HEAD.as_bytes(), length), no(8, 0));
+    }
+    assert_eq!(texted(HEAD.as_bytes(), 31291), Ok(program(HEAD.as_bytes())));
+}
+
+/// 512 lines of 58 bytes, and both counts of four digits.
+#[test]
+fn text_of_a_full_sheet() {
+    let sheet = format!(
+        "mark,half\n{}\nminute,inj,vdk\n{}{}",
+        "65535,65534\n".repeat(512),
+        "0,3,65535\n".repeat(1000),
+        "65535,3,65535\n".repeat(24)
+    );
+    let written = texted(sheet.as_bytes(), 31291).unwrap();
+    assert_eq!(written, program(sheet.as_bytes()));
+    assert_eq!(written.len(), 36 + 512 * 58 + 13 + 10);
+}
+
+#[test]
+fn refusal_texts() {
+    let most = u64::MAX;
+    for (number, place, line) in [
+        (0, 0, "0,0"),
+        (0, 1, "0,1"),
+        (1, 0, "1,0"),
+        (2, 0, "2,0"),
+        (10, 16, "10,16"),
+        (13, 32768, "13,32768"),
+        (0, most, "0,18446744073709551615"),
+        (most, 0, "18446744073709551615,0"),
+        (1, most, "1,18446744073709551615"),
+        (most, most, "18446744073709551615,18446744073709551615"),
+    ] {
+        let written = format!("refused,place\n{line}\n").into_bytes();
+        assert_eq!(refusal_texted(number, place, 31291), Ok(written));
+        for length in WRONG_LENGTHS {
+            assert_eq!(refusal_texted(number, place, length), no(8, 0));
+        }
+    }
+}

@@ -9,7 +9,7 @@ ghost use Rattle.meanings.specs.Lists.{lowest};
 ghost use Rattle.meanings.specs.Reports.{number, told-found, decreases, bad-bandwidth, edge-below};
 ghost use Rattle.checks.specs.ReaderLists.{uneven-lists};
 
-// Document 01's limits: 1,024 kept readings and 512 marks.
+// The full limits: 1,024 kept readings and 512 marks.
 pub fn full() -> Limits
     ensures { λ r. ⌜ r ≡ full-limits ⌝ }
 {
@@ -19,7 +19,7 @@ pub fn full() -> Limits
     }
 }
 
-// A report's number in document 01.
+// A report's number.
 pub fn report_number(report: Report) -> u64
     ensures { λ r. ⌜ r ≡ number report ⌝ }
 {

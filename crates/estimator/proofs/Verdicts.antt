@@ -1,4 +1,4 @@
--- What a check of the code finds at document 01's limits is what the call is refused for.
+-- What a check of the code finds at the full limits is what the call is refused for.
 use mathlib.Core.Path.{_≡_, sym, ap, _∙_}
 use mathlib.Core.List.{List}
 use Rattle.meanings.specs.declared.Limits.{Limits}

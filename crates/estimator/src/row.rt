@@ -4,7 +4,7 @@ use meanings::Estimate;
 use meanings::PowerSums;
 ghost use Rattle.estimator.specs.Rows.{Combines, IsCombined, SumsFit, RowOf};
 
-// Document 01's formula without negative numbers: (h² − z²) s0 + 2 z s1 − s2.
+// SPECIFICATION 2.13 without negative numbers: (h² − z²) s0 + 2 z s1 − s2.
 pub(crate) fn combined(s0: u64, s1: u64, s2: u64, point: u16, bandwidth: u32) -> u64
     requires { ⌜ Combines s0 s1 s2 point bandwidth ⌝ }
     ensures { λ r. ⌜ IsCombined s0 s1 s2 point bandwidth r ⌝ }

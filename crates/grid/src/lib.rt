@@ -1,4 +1,4 @@
-// The bandwidth presets and the evaluation grid: document 01's knob and mark filler.
+// The bandwidth presets and the evaluation grid: the knob and the mark filler.
 use grid_checks::fill_fault;
 use meanings::Filling;
 use meanings::Verdict;

@@ -3,7 +3,7 @@ ghost use mathlib.Core.Path.{_≡_};
 ghost use Rattle.meanings.specs.Sheet.{same};
 ghost use Rattle.lines.specs.Lines.{told-line, line-at};
 
-// What a search for a line finds: where its text ends and where the next line begins, or no line feed.
+// What a search for a line finds: the end of its text with the start of the next line, or no line feed.
 pub enum Line {
     Ended { end: usize, next: usize },
     Unended,

@@ -1,4 +1,4 @@
--- The enums of the calls say what document 01 says: the thirteen reports have their numbers, and each answer its values or its report.
+-- The enums of the calls say what SPECIFICATION says: the thirteen reports have their numbers, and each answer its values or its report.
 use Prim.Native.Nat.{ℕ}
 use mathlib.Core.Path.{_≡_, refl}
 use mathlib.Core.Option.{none, some}
@@ -16,7 +16,7 @@ use Rattle.meanings.specs.declared.Smoothing.the-variants.{Passes, Unswe
 use Rattle.meanings.specs.declared.Filling.the-variants.{Filled, Unfilled}
 use Rattle.meanings.specs.declared.Reading.the-variants.{Used, Unread}
 use Rattle.meanings.specs.declared.Writing.the-variants.{Written, Unwritten}
-use Rattle.meanings.specs.Reports.{number, told-verdict, told-found, given, refused, first-of, write-checks}
+use Rattle.meanings.specs.Reports.{number, told-verdict, told-found, given, refused, first-of, buffer-checks}
 use Rattle.meanings.specs.EventLog.{insertion-count, eviction-count}
 use Rattle.meanings.specs.Output.{program, outcome-text}
 use Rattle.meanings.specs.Sheet.{read-sheet}
@@ -69,18 +69,18 @@ pub values-are-told : (e : Estimate) (r : RunningSums) (n m : ℕ)
     × (told-writing (Written n) ≡ given n)
 values-are-told e r n m = (refl, refl, refl, refl, refl, refl, refl, refl, refl)
 
--- the book's takings and lettings are the lengths of its two lists
+-- the book's insertions and evictions are counted by its two lists
 pub log-is-counted : (insertion-count (record { inserted = 0 ∷ 1 ∷ []; evicted = 0 ∷ [] }) ≡ 2)
     × (eviction-count (record { inserted = 0 ∷ 1 ∷ []; evicted = 0 ∷ [] }) ≡ 1)
 log-is-counted = (refl, refl)
 
--- the program reads under document 01's limits
+-- the program reads under the limits of SPECIFICATION 1.4
 pub program-limits : (s : List ℕ) → program s ≡ outcome-text (read-sheet (record { samples = 1024; points = 512 }) s)
 unfolding program
 program-limits s = refl
 
 -- a buffer of another length than 31,291 is refused
-pub buffer-lengths : (first-of (write-checks 31290) ≡ some (record { number = 8; place = 0 }))
-    × (first-of (write-checks 31291) ≡ none)
-    × (first-of (write-checks 31292) ≡ some (record { number = 8; place = 0 }))
+pub buffer-lengths : (first-of (buffer-checks 31290) ≡ some (record { number = 8; place = 0 }))
+    × (first-of (buffer-checks 31291) ≡ none)
+    × (first-of (buffer-checks 31292) ≡ some (record { number = 8; place = 0 }))
 buffer-lengths = (refl, refl, refl)

@@ -2,7 +2,7 @@
 -- go hold the positions from 0 up to its right and its left: a step from one window to a later one moves both alike.
 use Prim.Native.Nat.{ℕ, _+_, _-_, _≤_, _<_, zero-le}
 use mathlib.Core.Path.{_≡_, refl, sym, ap, _∙_}
-use mathlib.Core.Logic.{_↔_, Iff·trans}
+use mathlib.Core.Logic.{_↔_, Iff·trans, _⊎_, inl, inr}
 use mathlib.Core.Bool.{Bool, true, false, not, _&&_, and-eq-true-iff}
 use mathlib.Core.List.{List, [], _∷_, _++_, append-assoc, append-nil, map}
 use mathlib.Core.Option.{Option, none, some}
@@ -45,7 +45,7 @@ unfolding right-of
 right-rises ts o m e = count-grows _ _ (λ t l. le-leb t (m .point + m .bandwidth) (omega (arith, leb-true t (o .point + o .bandwidth) l))) ts
 
 -- the book that has taken and let go what the record's edges have passed
-abbrev log-of : RunningSums → EventLog
+abbrev pub log-of : RunningSums → EventLog
 log-of r = record { inserted = between 0 (r .right); evicted = between 0 (r .left) }
 
 -- the book after an accepted step
@@ -85,7 +85,7 @@ module _ (ts : List ℕ) (ordered : Ordered ts) (m : Move) (r : RunningSums) (l 
             λ w. (both i .1 (omega arith, w .0), lt-ltb _ _ (before-left ts _ _ ordered i short .0 (w .1))),
           )))
 
-refusal-unless : {A : Type 0} (f : Option Fault) (a : A) → refusal (unless f a) ≡ f
+pub refusal-unless : {A : Type 0} (f : Option Fault) (a : A) → refusal (unless f a) ≡ f
 refusal-unless none a = refl
 refusal-unless (some e) a = refl
 
@@ -177,7 +177,7 @@ module _ (ts vs : List ℕ) (minutes : AtMost max-u16 ts) (values : AtMost max-u
   record-follows : (ms : List Move) → NoEdgeBack ts vs ms → record-after ts vs ms ≡ record-at ts vs (last-accepted ts vs ms)
   record-follows ms e = record-stands none ms e
 
-  log-follows : (ms : List Move) → NoEdgeBack ts vs ms → log-after-steps ts vs ms ≡ log-of (record-after ts vs ms)
+  pub log-follows : (ms : List Move) → NoEdgeBack ts vs ms → log-after-steps ts vs ms ≡ log-of (record-after ts vs ms)
   log-follows ms e = log-stands none ms e ∙ ap log-of (sym (record-follows ms e))
 
   pub right-counts-insertions : (ms : List Move) → NoEdgeBack ts vs ms → record-after ts vs ms .right ≡ insertion-count (log-after-steps ts vs ms)
@@ -186,7 +186,9 @@ module _ (ts vs : List ℕ) (minutes : AtMost max-u16 ts) (values : AtMost max-u
   pub left-counts-evictions : (ms : List Move) → NoEdgeBack ts vs ms → record-after ts vs ms .left ≡ eviction-count (log-after-steps ts vs ms)
   left-counts-evictions ms e = rw (log-follows ms e) (sym (length-below _))
 
-  step-holds : (before : List Move) (m : Move) → NoEdgeBack ts vs (before ++ m ∷ []) → StepHolds ts vs before m
+  step-holds : (before : List Move) (m : Move) → NoEdgeBack ts vs (before ++ m ∷ [])
+      → StepHolds ts vs before m (refusal (advance ts vs (record-after ts vs before) (m .point) (m .bandwidth))) (record-after ts vs before)
+      (record-after ts vs (before ++ m ∷ []))
   unfolding advance
   step-holds before m e =
       let w = after-onward ts vs fresh before (fresh-within ts) .within in
@@ -213,16 +215,19 @@ demand-3 ts vs ms minutes values ordered e = record {
 }
 
 -- what call and book are refused with is 8, 6 or 9 at place 0, so never 11
-pub never-invalid-record : (ts vs : List ℕ) (m : Move) (e : Fault) → log-refusal ts vs m ≡ some e → (e .place ≡ 0) × ¬ (e .number ≡ 11)
-never-invalid-record ts vs m e = by (uneven-samples ts vs) (ltb (full .samples) (length ts)) (bad-bandwidth (m .bandwidth))
+pub refused-with-8-6-or-9 : (ts vs : List ℕ) (m : Move) (e : Fault) → log-refusal ts vs m ≡ some e
+    → ((e .number ≡ 8) ⊎ (e .number ≡ 6) ⊎ (e .number ≡ 9)) × (e .place ≡ 0)
+refused-with-8-6-or-9 ts vs m e = by (uneven-samples ts vs) (ltb (full .samples) (length ts)) (bad-bandwidth (m .bandwidth))
   where
-    known : (n : ℕ) → ¬ (n ≡ 11) → some (record { number = n; place = 0 }) ≡ some e → (e .place ≡ 0) × ¬ (e .number ≡ 11)
-    known n o q = let r : record { number = n; place = 0 } ≡ e = cc in rw (← r) (refl, o)
+    known : (n : ℕ) → ((n ≡ 8) ⊎ (n ≡ 6) ⊎ (n ≡ 9)) → some (record { number = n; place = 0 }) ≡ some e
+        → ((e .number ≡ 8) ⊎ (e .number ≡ 6) ⊎ (e .number ≡ 9)) × (e .place ≡ 0)
+    known n o q = let r : record { number = n; place = 0 } ≡ e = cc in rw (← r) (o, refl)
 
-    by : (a b c : Bool) → first-of (report 8 (at 0 a) ∷ report 6 (at 0 b) ∷ report 9 (at 0 c) ∷ []) ≡ some e → (e .place ≡ 0) × ¬ (e .number ≡ 11)
-    by true b c q = known 8 (omega arith) q
-    by false true c q = known 6 (omega arith) q
-    by false false true q = known 9 (omega arith) q
+    by : (a b c : Bool) → first-of (report 8 (at 0 a) ∷ report 6 (at 0 b) ∷ report 9 (at 0 c) ∷ []) ≡ some e
+        → ((e .number ≡ 8) ⊎ (e .number ≡ 6) ⊎ (e .number ≡ 9)) × (e .place ≡ 0)
+    by true b c q = known 8 (inl refl) q
+    by false true c q = known 6 (inr (inl refl)) q
+    by false false true q = known 9 (inr (inr refl)) q
     by false false false q = let z : _≡_ {A = ℕ} 0 1 = cc in absurd (omega arith)
 
 -- position k is taken in, or let go, at the step m after the steps before
@@ -271,7 +276,8 @@ module _ (ts vs : List ℕ) where
       let w = later-onward ts vs before (m ∷ []) .within in
       inserted-somewhere [] (before ++ m ∷ []) k zero-le (omega arith)
 
--- the claim speaks of something: three steps, of which the second is refused with 9, over readings that enter and leave
+-- the claim speaks of something: four steps over readings that enter and leave, of which the two between are refused with 9. The first of these
+-- two has its left edge below that of the accepted step before, the second both edges.
 abbrev some-minutes : List ℕ
 some-minutes = 1 ∷ 5 ∷ 9 ∷ []
 
@@ -279,29 +285,41 @@ abbrev some-values : List ℕ
 some-values = 1 ∷ 2 ∷ 3 ∷ []
 
 abbrev some-steps : List Move
-some-steps = moves (2 ∷ 3 ∷ 9 ∷ []) (1 ∷ 0 ∷ 1 ∷ [])
+some-steps = moves (2 ∷ 0 ∷ 0 ∷ 9 ∷ []) (1 ∷ 70000 ∷ 0 ∷ 1 ∷ [])
+
+abbrev refused-with-9 : Option Fault
+refused-with-9 = some (record { number = 9; place = 0 })
 
 pub record Inhabited : Type 0 where
   pub minutes : AtMost max-u16 some-minutes
   pub values : AtMost max-u16 some-values
   pub ordered : Ordered some-minutes
   pub no-edge-back : NoEdgeBack some-minutes some-values some-steps
-  pub refusals : map (log-refusal some-minutes some-values) some-steps ≡ none ∷ some (record { number = 9; place = 0 }) ∷ none ∷ []
+  pub refusals : map (log-refusal some-minutes some-values) some-steps ≡ none ∷ refused-with-9 ∷ refused-with-9 ∷ none ∷ []
+  pub second-is-back : ¬ NotBelow (some (record { point = 2; bandwidth = 1 })) (record { point = 0; bandwidth = 70000 })
+  pub third-is-back : ¬ NotBelow (some (record { point = 2; bandwidth = 1 })) (record { point = 0; bandwidth = 0 })
   pub after-first : log-after-steps some-minutes some-values (take 1 some-steps) ≡ record { inserted = 0 ∷ []; evicted = [] }
   pub after-second : log-after-steps some-minutes some-values (take 2 some-steps) ≡ record { inserted = 0 ∷ []; evicted = [] }
-  pub after-third : log-after-steps some-minutes some-values some-steps ≡ record { inserted = 0 ∷ 1 ∷ 2 ∷ []; evicted = 0 ∷ 1 ∷ [] }
+  pub after-third : log-after-steps some-minutes some-values (take 3 some-steps) ≡ record { inserted = 0 ∷ []; evicted = [] }
+  pub after-fourth : log-after-steps some-minutes some-values some-steps ≡ record { inserted = 0 ∷ 1 ∷ 2 ∷ []; evicted = 0 ∷ 1 ∷ [] }
 
 pub inhabited : Inhabited
 inhabited = record {
   minutes = none-over some-minutes refl;
   values = none-over some-values refl;
   ordered = no-decrease-ordered some-minutes refl;
-  no-edge-back = (λ e. tt, (λ e. omega arith, (λ e. omega arith, tt)));
+  no-edge-back = (λ e. tt, (λ e. refused-not-accepted e, (λ e. refused-not-accepted e, (λ e. omega arith, tt))));
   refusals = refl;
+  second-is-back = λ e. omega arith;
+  third-is-back = λ e. omega arith;
   after-first = refl;
   after-second = refl;
   after-third = refl;
+  after-fourth = refl;
 }
   where
     none-over : (xs : List ℕ) → lowest (λ i. ltb max-u16 (getD xs i 0)) (length xs) ≡ none → AtMost max-u16 xs
     none-over xs e i l = ltb-false _ _ (lowest-none _ (length xs) e i l)
+
+    refused-not-accepted : {A : Type 0} → refused-with-9 ≡ none → A
+    refused-not-accepted e = let z : _≡_ {A = ℕ} 0 1 = cc in absurd (omega arith)

@@ -1,4 +1,4 @@
--- Document 01's formula for weight and sum, without negative numbers: each reading inside the window keeps
+-- Weight and sum by the six sums (SPECIFICATION 2.13), without negative numbers: each reading inside the window keeps
 -- (h² − (t − z)²) + z² + t² = h² + 2 z t, also times its value, and totals keep what their terms keep.
 use Prim.Native.Nat.{ℕ, zero, suc, _+_, _-_, _*_, _^_, _≤_, _<_, zero-le}
 use mathlib.Core.Path.{_≡_, ap, _∙_}

@@ -14,6 +14,8 @@ use Rattle.meanings.specs.Lists.{pick, total, distance, Ordered}
 use Rattle.meanings.specs.Estimate.{Inside, left-of, right-of, kernel, over-run, weight-of, sum-of}
 use Rattle.meanings.specs.Running.{window-sum}
 use Rattle.meanings.specs.Published.{Fraction, whole, _⊕_, _⊗_, one-minus, divided, _≈_, sum-all, epanechnikov, scaled-kernel, density, regression-above, regression-below, regression, range-sum}
+use Rattle.meanings.specs.PublishedRow.{scaled}
+use Rattle.meanings.proofs.Moments.{weight-formula, sum-formula}
 use Rattle.meanings.proofs.Totals.{total-factor, total-narrow, total-where}
 use Rattle.meanings.proofs.Window.{left-at-most-right, right-at-most-length, run-is-inside}
 
@@ -21,7 +23,7 @@ abbrev over : ℕ → ℕ → Fraction
 over n d = record { num = n; den = d }
 
 -- fractions over one denominator d
-same-den-adds : (a b : Fraction) (p q d : ℕ) → a ≈ over p d → b ≈ over q d → a ⊕ b ≈ over (p + q) d
+pub same-den-adds : (a b : Fraction) (p q d : ℕ) → a ≈ over p d → b ≈ over q d → a ⊕ b ≈ over (p + q) d
 same-den-adds a b p q d e f = record {
   left-den = mul-pos (e .left-den) (f .left-den);
   right-den = e .right-den;
@@ -103,13 +105,13 @@ unfolding regression-below kernel
 below-is-kernels ts z h pos =
     same-den-adds-up _ _ _ (length ts) (cube-is-positive h pos) (λ i. scaled-kernel-is-kernel (distance (getD ts i 0) z) h pos)
 
-below-is-weight : (ts : List ℕ) (z h : ℕ) → Ordered ts → 0 < h → regression-below ts z h ≈ over (3 * weight-of ts z h) (4 * (h * h * h))
+pub below-is-weight : (ts : List ℕ) (z h : ℕ) → Ordered ts → 0 < h → regression-below ts z h ≈ over (3 * weight-of ts z h) (4 * (h * h * h))
 unfolding weight-of
 below-is-weight ts z h ordered pos =
     rw (← (total-is-over-run _ ts z h ordered (λ i. outside-is-zero z h (getD ts i 0))), ← (total-factor 3 _ 0 (length ts)))
     (below-is-kernels ts z h pos)
 
-above-is-sum : (ts vs : List ℕ) (z h : ℕ) → Ordered ts → 0 < h
+pub above-is-sum : (ts vs : List ℕ) (z h : ℕ) → Ordered ts → 0 < h
     → regression-above ts vs z h ≈ over (3 * sum-of ts vs z h) (4 * (h * h * h))
 unfolding regression-above sum-of kernel
 above-is-sum ts vs z h ordered pos =
@@ -135,13 +137,7 @@ density-is-weight ts z h ordered pos some-sample =
       cross = omega (arith, ap (λ n. n * length ts) (e .cross));
     }
 
--- (2): what it divides by is 0 exactly where the weight is, and elsewhere it is sum divided by weight
-pub regression-below-den : (ts : List ℕ) (z h : ℕ) → 0 < h → 0 < regression-below ts z h .den
-regression-below-den ts z h pos = below-is-kernels ts z h pos .left-den
-
-pub regression-below-zero : (ts : List ℕ) (z h : ℕ) → Ordered ts → 0 < h → (regression-below ts z h .num ≡ 0) ↔ (weight-of ts z h ≡ 0)
-regression-below-zero ts z h ordered pos = zero-above _ _ _ (below-is-weight ts z h ordered pos)
-
+-- (2): where the weight is above 0 it is sum divided by weight
 pub regression-is-quotient : (ts vs : List ℕ) (z h : ℕ) → Ordered ts → 0 < h → 0 < weight-of ts z h
     → regression ts vs z h ≈ record { num = sum-of ts vs z h; den = weight-of ts z h }
 regression-is-quotient ts vs z h ordered pos some-weight =
@@ -165,3 +161,26 @@ range-sum-is-window-sum p q ts vs z h ordered =
       λ inside. omega (arith, run-is-inside ts z h ordered i short .1 inside),
       λ within. run-is-inside ts z h ordered i short .0 (omega arith),
     ))
+
+-- (5): what the run's six sums give, and so the sums of (6)
+module _ (ts vs : List ℕ) (z h : ℕ) (ordered : Ordered ts) where
+  pub weight-by-sums : weight-of ts z h + z * z * range-sum 0 0 ts vs z h + range-sum 2 0 ts vs z h
+      ≡ h * h * range-sum 0 0 ts vs z h + 2 * z * range-sum 1 0 ts vs z h
+  weight-by-sums =
+      rw (range-sum-is-window-sum 0 0 ts vs z h ordered, range-sum-is-window-sum 1 0 ts vs z h ordered, range-sum-is-window-sum 2 0 ts vs z h ordered)
+      (weight-formula ts vs z h ordered)
+
+  pub sum-by-sums : sum-of ts vs z h + z * z * range-sum 0 1 ts vs z h + range-sum 2 1 ts vs z h
+      ≡ h * h * range-sum 0 1 ts vs z h + 2 * z * range-sum 1 1 ts vs z h
+  sum-by-sums =
+      rw (range-sum-is-window-sum 0 1 ts vs z h ordered, range-sum-is-window-sum 1 1 ts vs z h ordered, range-sum-is-window-sum 2 1 ts vs z h ordered)
+      (sum-formula ts vs z h ordered)
+
+-- a fraction and a whole number of weight beside it
+pub scaled-adds : (h n a b c d : ℕ) (f : Fraction) → f ≈ scaled h n → n + a + b ≡ c + d → f ⊕ scaled h (a + b) ≈ scaled h (c + d)
+scaled-adds h n a b c d f e q =
+    rw (let k : 3 * (c + d) ≡ 3 * n + 3 * (a + b) = omega arith in k)
+    (same-den-adds f (scaled h (a + b)) (3 * n) (3 * (a + b)) (4 * (h * h * h)) e same)
+  where
+    same : scaled h (a + b) ≈ scaled h (a + b)
+    same = record { left-den = e .right-den; right-den = e .right-den; cross = refl }

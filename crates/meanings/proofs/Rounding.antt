@@ -9,12 +9,8 @@ use native.Mathlib.Omega.{arith}
 use borrow.Author.Tests.{leb-true, leb-false, ne-eqb}
 use lib.Dec.{leb, eqb}
 use Rattle.meanings.specs.Lists.{pick}
+use Rattle.meanings.specs.PublishedRow.{Nearest}
 use Rattle.meanings.specs.Estimate.{rounded, value-of, missing}
-
--- v is s / w to the nearest whole number, halves upward: v − 1/2 ≤ s / w < v + 1/2
-pub record Nearest (s w v : ℕ) : Type 0 where
-  pub low : 2 * (v * w) ≤ 2 * s + w
-  pub high : 2 * s + w < 2 * (v * w) + 2 * w
 
 pub rounded-nearest : (s w : ℕ) → 0 < w → Nearest s w (rounded s w)
 unfolding rounded

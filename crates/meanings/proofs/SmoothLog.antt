@@ -52,7 +52,7 @@ module _ (ts vs : List ℕ) (even : length ts ≡ length vs) (few : length ts �
   no-edge-back (z ∷ zs) [] b e = tt
   no-edge-back (z ∷ zs) (h ∷ hs) b e = (λ t. tt, rw (accepted none z h (b 0 (omega arith))) (follows z h zs hs (λ k l. b (suc k) (suc-le-suc l)) (λ k l. e (suc k) (suc-le-suc l))))
 
--- an accepted sweep's passes are takings + lettings of a book that starts empty and is fed its readings, marks and half widths
+-- the passes of an accepted sweep count the insertions and evictions of an empty log that is told its readings, marks and half widths
 pub smooth-passes : (ts vs zs hs rs : List ℕ) (n : ℕ) → AtMost max-u16 ts → AtMost max-u16 vs → smooth full ts vs zs hs rs ≡ given n
     → (n ≡ insertion-count (log-after ts vs empty-log (moves zs hs)) + eviction-count (log-after ts vs empty-log (moves zs hs))) × (n ≤ 2 * length ts)
 unfolding smooth

@@ -1,6 +1,6 @@
 -- Each row of an accepted sweep is the one that the question at one mark gives, and each record on the way is the one that one step a mark
 -- gives from a fresh record.
-use Prim.Native.Nat.{ℕ, zero, suc, _+_, _*_, _≤_, _<_}
+use Prim.Native.Nat.{ℕ, zero, suc, _+_, _*_, _^_, _≤_, _<_}
 use mathlib.Core.Path.{_≡_, refl, sym, ap, _∙_}
 use mathlib.Core.Logic.{_⊎_, inl, inr}
 use mathlib.Core.Option.{none}
@@ -11,16 +11,19 @@ use borrow.Author.Tests.{le-ltb, ne-eqb}
 use lib.ListN.{length, getD, take, drop, length-append, length-drop}
 use lib.Seq.{drop-at, drop-append-le, take-append-le}
 use Rattle.meanings.specs.declared.RunningSums.{RunningSums}
-use Rattle.meanings.specs.Lists.{AtMost, lowest}
+use Rattle.meanings.specs.Lists.{AtMost, lowest, Ordered}
 use Rattle.meanings.specs.Limits.{full, max-u16}
 use Rattle.meanings.specs.Moves.{Move, moves}
 use Rattle.meanings.specs.Reports.{Answer, given, first-of, decreases, smooth-checks, smooth-size-checks, smooth-order-checks, evaluate-checks}
-use Rattle.meanings.specs.Estimate.{estimate, fields, rows}
-use Rattle.meanings.specs.Running.{fresh, settled, after-step, after, passes}
+use Rattle.meanings.specs.Estimate.{Fit, weight-of, sum-of, value-of, estimate, fields, rows}
+use Rattle.meanings.specs.Running.{fresh, settled, after-step, after, passes, window-sum, combined, record-row}
 use Rattle.meanings.specs.Calls.{evaluate, evaluate-refusal, smooth, smooth-refusal, smooth-rows}
+use Rattle.meanings.proofs.Bounds.{weight-bound, sum-bound}
 use Rattle.meanings.proofs.Checks.{differ-same, given-accepted, none-holds, none-of-both}
+use Rattle.meanings.proofs.Modulo.{combined-exact}
+use Rattle.meanings.proofs.Moments.{weight-formula, sum-formula}
 use Rattle.meanings.proofs.Passes.{after-append}
-use Rattle.meanings.proofs.Steps.{Small}
+use Rattle.meanings.proofs.Steps.{Small, at-window}
 use Rattle.meanings.proofs.SmoothSteps.{SmoothAccepted, smooth-accepts, running-at, step-accepted}
 
 pub rows-length : (ts vs zs hs : List ℕ) (n : ℕ) → length (rows ts vs zs hs n) ≡ 5 * n
@@ -87,3 +90,32 @@ smooth-is-one-step-a-point ts vs zs hs r s a (suc k) l =
     ∙ after-append ts vs fresh (moves (take k zs) (take k hs)) (step ∷ [])
     ∙ ap (λ (x : RunningSums). after-step ts vs x step) before
     ∙ ap (settled (running-at ts vs zs hs k)) (step-accepted ts vs zs hs r s a k l)
+
+-- the record of a window gives the window's row: nothing that wraps is lost, since weight and sum fit 64 bits
+window-gives-row : (ts vs : List ℕ) (z h : ℕ) → Ordered ts → Fit ts vs h → record-row (at-window ts vs z h) z h ≡ estimate ts vs z h
+unfolding record-row estimate
+window-gives-row ts vs z h o f = rw (weight-had, sum-had)
+  where
+    weight-had : combined 64 z h (window-sum ts vs z h 0 0) (window-sum ts vs z h 1 0) (window-sum ts vs z h 2 0) ≡ weight-of ts z h
+    weight-had =
+        combined-exact 64 z h _ _ _ (weight-of ts z h) (weight-formula ts vs z h o)
+        (omega (arith, weight-bound ts vs z h (f .few) (f .bandwidth)))
+
+    sum-had : combined 64 z h (window-sum ts vs z h 0 1) (window-sum ts vs z h 1 1) (window-sum ts vs z h 2 1) ≡ sum-of ts vs z h
+    sum-had = combined-exact 64 z h _ _ _ (sum-of ts vs z h) (sum-formula ts vs z h o) (omega (arith, sum-bound ts vs z h f))
+
+-- the five numbers of mark k are those of the row that the record after k + 1 steps gives
+pub smooth-row-is-record-row : (ts vs zs hs rs : List ℕ) (n k : ℕ) → AtMost max-u16 ts → AtMost max-u16 vs
+    → smooth full ts vs zs hs rs ≡ given n → k < length zs
+    → take 5 (drop (5 * k) (smooth-rows full ts vs zs hs rs))
+    ≡ fields (record-row (after ts vs fresh (moves (take (suc k) zs) (take (suc k) hs))) (getD zs k 0) (getD hs k 0))
+unfolding smooth
+smooth-row-is-record-row ts vs zs hs rs n k minutes values q l =
+    let f = given-accepted (smooth-refusal full ts vs zs hs rs) (passes ts vs fresh (moves zs hs)) n q .0 in
+    let a = smooth-accepts ts vs zs hs (length rs) f in
+    let s : Small ts vs = record { even = a .even; few = a .few; minutes = minutes; values = values } in
+    let fit : Fit ts vs (getD hs k 0) = record { even = a .even; few = a .few; values = values; bandwidth = a .bandwidths k l .1 } in
+    smooth-row-is-evaluate ts vs zs hs rs n k q l .1
+    ∙ sym
+    (rw (smooth-is-one-step-a-point ts vs zs hs (length rs) s a (suc k) l)
+    (ap fields (window-gives-row ts vs (getD zs k 0) (getD hs k 0) (a .ordered) fit)))

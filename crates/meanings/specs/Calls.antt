@@ -1,5 +1,5 @@
 -- Each call's whole outcome: its answer, and what each lent list holds at exit, for every input. On a refusal a lent list holds what it
--- held. A call's enum is read through its told definition, which gives the paper's number or values.
+-- held. A call's enum is read through its told definition, which gives the report's number and place, or the values.
 use Prim.Native.Nat.{ℕ}
 use mathlib.Core.List.{List, [], _++_}
 use mathlib.Core.Option.{Option}
@@ -19,13 +19,14 @@ use Rattle.meanings.specs.declared.Reading.the-variants.{Used, Unread}
 use Rattle.meanings.specs.declared.Writing.{Writing}
 use Rattle.meanings.specs.declared.Writing.the-variants.{Written, Unwritten}
 use Rattle.meanings.specs.declared.Limits.{Limits}
+use Rattle.meanings.specs.Limits.{full}
 use Rattle.meanings.specs.Moves.{moves}
-use Rattle.meanings.specs.Reports.{Fault, Answer, given, refused, unless, accepted-or, told, first-of, evaluate-checks, smooth-checks, fill-checks, read-checks, write-checks}
+use Rattle.meanings.specs.Reports.{Fault, Answer, given, refused, unless, accepted-or, told, first-of, evaluate-checks, smooth-checks, fill-checks, read-checks, buffer-checks}
 use Rattle.meanings.specs.Estimate.{estimate, left-of, run-of, rows}
 use Rattle.meanings.specs.Running.{fresh, passes}
 use Rattle.meanings.specs.Grid.{presets, grid}
 use Rattle.meanings.specs.Sheet.{Contents, Outcome, or-next, read-sheet}
-use Rattle.meanings.specs.Output.{program}
+use Rattle.meanings.specs.Output.{curve-text, refusal-text}
 
 -- the question at one mark, first call: the row or the report
 abbrev pub told-evaluation : Evaluation → Answer Estimate
@@ -51,7 +52,7 @@ abbrev pub told-advance : Advance → Answer RunningSums
 told-advance (Moved r) = given r
 told-advance (Stayed r) = refused (told r)
 
--- the whole sweep, under limits at most document 01's: its passes or the report
+-- the whole sweep, under limits at most the full ones: its passes or the report
 abbrev pub told-smoothing : Smoothing → Answer ℕ
 told-smoothing (Passes n) = given n
 told-smoothing (Unswept r) = refused (told r)
@@ -121,18 +122,33 @@ read-evaluation-points o zs = filled-front o (λ c. c .points) zs
 abbrev pub read-bandwidths : Outcome → List ℕ → List ℕ
 read-bandwidths o hs = filled-front o (λ c. c .bandwidths) hs
 
--- the program as bytes to bytes: how many bytes it has written into the lent buffer, or the report of a buffer of another length. The text of
--- a refused sheet is what it writes
+-- both writers of a text: how many bytes they have written into the lent buffer, or the report
 abbrev pub told-writing : Writing → Answer ℕ
 told-writing (Written n) = given n
 told-writing (Unwritten r) = refused (told r)
 
-abbrev pub write-refusal : List ℕ → Option Fault
-write-refusal out = first-of (write-checks (length out))
+-- what is looked at before all else: a buffer of another length
+abbrev pub buffer-refusal : List ℕ → Option Fault
+buffer-refusal out = first-of (buffer-checks (length out))
 
+abbrev pub curve-size : Outcome → Answer ℕ
+curve-size (refused e) = refused e
+curve-size (given c) = given (length (curve-text c))
+
+-- the curve of a sheet: its length, or the report of the buffer, else that of the sheet
 unfoldable pub write : List ℕ → List ℕ → Answer ℕ
-write s out = unless (write-refusal out) (length (program s))
+write s out = curve-size (or-next (buffer-refusal out) (read-sheet full s))
 
--- and the buffer at exit: the text in front of its untouched rest
+-- and the buffer at exit: the curve in front of its untouched rest, or all of what it held
 unfoldable pub write-buffer : List ℕ → List ℕ → List ℕ
-write-buffer s out = accepted-or (write-refusal out) (program s ++ drop (length (program s)) out) out
+write-buffer s out = filled-front (or-next (buffer-refusal out) (read-sheet full s)) curve-text out
+
+-- the text of a refusal with any number and place: its length, or the report of the buffer
+unfoldable pub write-refusal-text : ℕ → ℕ → List ℕ → Answer ℕ
+write-refusal-text n p out = unless (buffer-refusal out) (length (refusal-text (record { number = n; place = p })))
+
+-- and the buffer at exit: the text in front of its untouched rest, or all of what it held
+unfoldable pub refusal-buffer : ℕ → ℕ → List ℕ → List ℕ
+refusal-buffer n p out =
+    let t = refusal-text (record { number = n; place = p }) in
+    accepted-or (buffer-refusal out) (t ++ drop (length t) out) out

@@ -11,10 +11,10 @@ use Rattle.meanings.specs.Limits.{full}
 use Rattle.meanings.specs.Bytes.{ascii}
 use Rattle.meanings.specs.Moves.{Move}
 use Rattle.meanings.specs.Reports.{Answer, given, refused}
-use Rattle.meanings.specs.Running.{window-sums, advance, after, fresh}
+use Rattle.meanings.specs.Running.{window-sums, advance, after, fresh, record-row}
 use Rattle.meanings.specs.EventLog.{EventLog, empty-log, log-after}
 use Rattle.meanings.specs.Sheet.{Contents, read-sheet}
-use Rattle.meanings.specs.Calls.{evaluate, window, window-start, smooth, smooth-rows, fill, fill-points, fill-bandwidths, read, counts, read-minutes, read-values, read-evaluation-points, read-bandwidths, Counts}
+use Rattle.meanings.specs.Calls.{evaluate, window, window-start, smooth, smooth-rows, fill, fill-points, fill-bandwidths, read, counts, read-minutes, read-values, read-evaluation-points, read-bandwidths, write, write-buffer, write-refusal-text, refusal-buffer, Counts}
 use Rattle.meanings.specs.Output.{program}
 
 pub data Call : Type 0 where
@@ -22,9 +22,11 @@ pub data Call : Type 0 where
   row run sums : List ℕ → List ℕ → ℕ → ℕ → Call
   -- the step: minutes, values, record, mark, half width
   step : List ℕ → List ℕ → RunningSums → ℕ → ℕ → Call
+  -- the row that a record gives: record, mark, half width
+  record-gives : RunningSums → ℕ → ℕ → Call
   -- a list of steps from a fresh record: minutes, values, steps
   steps : List ℕ → List ℕ → List Move → Call
-  -- the sweep under limits at most document 01's: minutes, values, marks, half widths, rows at entry
+  -- the sweep under limits at most the full ones: minutes, values, marks, half widths, rows at entry
   smooth-over : Limits → List ℕ → List ℕ → List ℕ → List ℕ → List ℕ → Call
   -- the filler: first mark, spacing, position, both lists at entry
   filler : ℕ → ℕ → ℕ → List ℕ → List ℕ → Call
@@ -34,6 +36,10 @@ pub data Call : Type 0 where
   reader : Limits → List ℕ → List ℕ → List ℕ → List ℕ → List ℕ → Call
   -- the program: what it reads
   output : String → Call
+  -- the curve of a sheet: the sheet and the buffer at entry
+  curve-into : List ℕ → List ℕ → Call
+  -- the text of a refusal: its number, its place and the buffer at entry
+  refusal-into : ℕ → ℕ → List ℕ → Call
 
 pub data Result : Type 0 where
   estimated : Answer Estimate → Result
@@ -51,12 +57,15 @@ pub data Result : Type 0 where
   -- the four lists at exit
   read-into : Answer Counts → Contents → Result
   written : List ℕ → Result
+  -- how many bytes are written, and the buffer at exit
+  holds : Answer ℕ → List ℕ → Result
 
 abbrev pub result : Call → Result
 result (row ts vs z h) = estimated (evaluate full ts vs z h)
 result (run ts vs z h) = part (window full ts vs z h) (window-start full ts vs z h)
 result (sums ts vs z h) = powers (window-sums ts vs z h)
 result (step ts vs r z h) = stepped (advance ts vs r z h)
+result (record-gives r z h) = estimated (given (record-row r z h))
 result (steps ts vs ms) = logged (after ts vs fresh ms) (log-after ts vs empty-log ms)
 result (smooth-over L ts vs zs hs rs) = smooth-gives (smooth L ts vs zs hs rs) (smooth-rows L ts vs zs hs rs)
 result (filler z₀ d k zs hs) = filled (fill full z₀ d k zs hs) (fill-points full z₀ d k zs hs) (fill-bandwidths full z₀ d k zs hs)
@@ -66,6 +75,8 @@ result (reader L s ts vs zs hs) =
     read-into (counts o)
     (record { minutes = read-minutes o ts; values = read-values o vs; points = read-evaluation-points o zs; bandwidths = read-bandwidths o hs })
 result (output s) = written (program (ascii s))
+result (curve-into s out) = holds (write s out) (write-buffer s out)
+result (refusal-into n p out) = holds (write-refusal-text n p out) (refusal-buffer n p out)
 
 pub record Case : Type 0 where
   pub call : Call

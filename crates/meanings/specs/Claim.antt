@@ -1,4 +1,5 @@
--- Demand 3 of document 01: the single claim about a whole list of steps over the same readings, with the plain book kept beside it.
+-- SPECIFICATION, "The three demands", 8.5 to 8.9: one claim about a list of steps over the same readings, with the event log, the book, beside
+-- them.
 -- It has no condition on lengths: where minutes and values differ in length or are over the limit, call and book refuse every step alike.
 use Prim.Native.Nat.{ℕ, zero, suc, _+_, _-_, _≤_}
 use mathlib.Core.Path.{_≡_}
@@ -32,12 +33,12 @@ abbrev pub NotBelow : Option Move → Move → Type 0
 NotBelow none m = Unit {0}
 NotBelow (some o) m = (o .point + m .bandwidth ≤ m .point + o .bandwidth) × (o .point + o .bandwidth ≤ m .point + m .bandwidth)
 
--- no accepted step has an edge below that of the accepted one before, where o was accepted last before the list
+-- along a list with o as the last accepted step in front, accepted steps never go below the one in front; refused ones are not looked at
 abbrev pub NoEdgeBackAfter : List ℕ → List ℕ → Option Move → List Move → Type 0
 NoEdgeBackAfter ts vs o [] = Unit {0}
 NoEdgeBackAfter ts vs o (m ∷ ms) = (log-refusal ts vs m ≡ none → NotBelow o m) × NoEdgeBackAfter ts vs (accepted-next ts vs o m) ms
 
--- no accepted step has an edge below that of the accepted one before; refused ones may stand anywhere
+-- the same of a list with no step in front
 abbrev pub NoEdgeBack : List ℕ → List ℕ → List Move → Type 0
 NoEdgeBack ts vs ms = NoEdgeBackAfter ts vs none ms
 
@@ -50,7 +51,7 @@ positions-from a (suc n) = positions-from a n ++ (a + n) ∷ []
 abbrev pub between : ℕ → ℕ → List ℕ
 between a b = positions-from a (b - a)
 
--- the six direct sums over all readings with z − h ≤ minute ≤ z + h, for z and h of the last accepted step; before any they are 0
+-- the six sums taken directly, over every reading in the closed window of the step accepted last; zero where there is none
 abbrev pub window-direct : List ℕ → List ℕ → Option Move → PowerSums
 window-direct ts vs none = six (λ p q. 0)
 window-direct ts vs (some m) = six (λ p q. range-sum p q ts vs (m .point) (m .bandwidth))
@@ -67,27 +68,28 @@ record-after ts vs ms = after ts vs fresh ms
 abbrev pub log-after-steps : List ℕ → List ℕ → List Move → EventLog
 log-after-steps ts vs ms = log-after ts vs empty-log ms
 
--- what holds of the step m after the steps before
-pub record StepHolds (ts vs : List ℕ) (before : List Move) (m : Move) : Type 0 where
-  -- the call has refused exactly if the book did, with the same report and place
-  pub refused-alike : refusal (advance ts vs (record-after ts vs before) (m .point) (m .bandwidth)) ≡ log-refusal ts vs m
-  -- the record's right = takings and its left = lettings
-  pub right-counts-insertions : record-after ts vs (before ++ m ∷ []) .right ≡ insertion-count (log-after-steps ts vs (before ++ m ∷ []))
-  pub left-counts-evictions : record-after ts vs (before ++ m ∷ []) .left ≡ eviction-count (log-after-steps ts vs (before ++ m ∷ []))
-  -- the positions its right edge passed are those the book added to taken at this step, in the same order
-  pub inserts : log-after-steps ts vs (before ++ m ∷ []) .inserted
-      ≡ log-after-steps ts vs before .inserted ++ between (record-after ts vs before .right) (record-after ts vs (before ++ m ∷ []) .right)
-  -- and likewise for its left edge and let go
-  pub evicts : log-after-steps ts vs (before ++ m ∷ []) .evicted
-      ≡ log-after-steps ts vs before .evicted ++ between (record-after ts vs before .left) (record-after ts vs (before ++ m ∷ []) .left)
+-- what holds of the step m after the steps before, where the call had the record r, was refused with f or with nothing, and left the record r′
+pub record StepHolds (ts vs : List ℕ) (before : List Move) (m : Move) (f : Option Fault) (r r′ : RunningSums) : Type 0 where
+  -- the call is refused exactly if the book is, with the same report and place
+  pub refused-alike : f ≡ log-refusal ts vs m
+  -- as many readings are inserted as the record's right edge has passed, and as many evicted as its left edge has
+  pub right-counts-insertions : r′ .right ≡ insertion-count (log-after-steps ts vs (before ++ m ∷ []))
+  pub left-counts-evictions : r′ .left ≡ eviction-count (log-after-steps ts vs (before ++ m ∷ []))
+  -- what the right edge passes at this step the book inserts at it, lowest position first
+  pub inserts : log-after-steps ts vs (before ++ m ∷ []) .inserted ≡ log-after-steps ts vs before .inserted ++ between (r .right) (r′ .right)
+  -- and what the left edge passes it evicts
+  pub evicts : log-after-steps ts vs (before ++ m ∷ []) .evicted ≡ log-after-steps ts vs before .evicted ++ between (r .left) (r′ .left)
   -- the six sums are the direct sums
-  pub sums-are-direct : record-after ts vs (before ++ m ∷ []) .sums ≡ window-direct ts vs (last-accepted ts vs (before ++ m ∷ []))
+  pub sums-are-direct : r′ .sums ≡ window-direct ts vs (last-accepted ts vs (before ++ m ∷ []))
 
--- what holds of a whole list of steps: before any the record is fresh and the book empty, and after each step the above
+-- what holds of a whole list of steps: before any the record is fresh and the book empty, and after each step the above of the records that
+-- the steps before it and the step itself leave
 pub record StepsHold (ts vs : List ℕ) (ms : List Move) : Type 0 where
   pub record-at-first : record-after ts vs [] ≡ fresh
   pub log-at-first : log-after-steps ts vs [] ≡ empty-log
-  pub each : (before rest : List Move) (m : Move) → ms ≡ before ++ m ∷ rest → StepHolds ts vs before m
+  pub each : (before rest : List Move) (m : Move) → ms ≡ before ++ m ∷ rest
+      → StepHolds ts vs before m (refusal (advance ts vs (record-after ts vs before) (m .point) (m .bandwidth))) (record-after ts vs before)
+      (record-after ts vs (before ++ m ∷ []))
 
 -- for all readings of 16 bits whose minutes never fall, and every list of steps over them with no edge back
 abbrev pub Demand3 : Type 0

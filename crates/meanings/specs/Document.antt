@@ -1,4 +1,4 @@
--- Document 01, "Edges tried": C1 to C12, and "One whole sheet" with the empty input. 65,536 stands for missing.
+-- SPECIFICATION, "Output": the cases C1 to C12 of 7.10, the whole sheet of 7.9, and the empty input of 7.6. 65,536 stands for missing.
 use Prim.Native.Nat.{ℕ}
 use mathlib.Core.List.{List, [], _∷_}
 use Rattle.meanings.specs.Limits.{full}

@@ -1,4 +1,4 @@
--- Document 01, "The row of a mark": window, left, right, run, weight, sum, value, row.
+-- SPECIFICATION, "The row": window, left, right, run, weight, sum, value, row.
 -- t is a minute, z a mark, h a half width; ts are the minutes of the readings and vs their values.
 use Prim.Native.Nat.{ℕ, zero, suc, _+_, _-_, _*_, _/_, _%_, _≤_}
 use mathlib.Core.Path.{_≡_}
@@ -20,15 +20,15 @@ pub record Fit (ts vs : List ℕ) (h : ℕ) : Type 0 where
 abbrev pub Inside : ℕ → ℕ → ℕ → Type 0
 Inside z h t = (z ≤ t + h) × (t ≤ z + h)
 
--- left: how many readings have minute + h < z
+-- left counts the readings below the window
 unfoldable pub left-of : List ℕ → ℕ → ℕ → ℕ
 left-of ts z h = count (λ t. ltb (t + h) z) ts
 
--- right: how many have minute ≤ z + h
+-- right counts those that are not above it
 unfoldable pub right-of : List ℕ → ℕ → ℕ → ℕ
 right-of ts z h = count (λ t. leb t (z + h)) ts
 
--- the run's values: positions left up to but without right
+-- the values of the run, from position left to right - 1
 abbrev pub run-of : List ℕ → List ℕ → ℕ → ℕ → List ℕ
 run-of ts vs z h = take (right-of ts z h - left-of ts z h) (drop (left-of ts z h) vs)
 
@@ -40,11 +40,11 @@ kernel z h t = h * h - distance t z * distance t z
 abbrev pub over-run : (ℕ → ℕ) → List ℕ → ℕ → ℕ → ℕ
 over-run g ts z h = total g (left-of ts z h) (right-of ts z h - left-of ts z h)
 
--- weight: the sum over the run of h² − (minute − z)²
+-- weight adds up the kernel over the run
 unfoldable pub weight-of : List ℕ → ℕ → ℕ → ℕ
 weight-of ts z h = over-run (λ i. kernel z h (getD ts i 0)) ts z h
 
--- sum: the same weights, each times its reading's value
+-- sum adds up kernel times value
 unfoldable pub sum-of : List ℕ → List ℕ → ℕ → ℕ → ℕ
 sum-of ts vs z h = over-run (λ i. kernel z h (getD ts i 0) * getD vs i 0) ts z h
 

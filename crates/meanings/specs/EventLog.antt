@@ -1,4 +1,5 @@
--- Document 01, the plain book kept beside a list of steps. It is fed each step's readings, mark and half width, and never the record.
+-- SPECIFICATION, "The running record and the book", 3.14 to 3.19: the event log. Of a step it is told readings, mark and half width; it sees no
+-- record.
 use Prim.Native.Nat.{ℕ, zero, suc, _+_}
 use mathlib.Core.Bool.{Bool, true, false, not, _&&_, _||_}
 use mathlib.Core.List.{List, [], _∷_, _++_}
@@ -10,7 +11,7 @@ use Rattle.meanings.specs.Limits.{full}
 use Rattle.meanings.specs.Moves.{Move}
 use Rattle.meanings.specs.Reports.{Fault, first-of, accepted-or, log-checks}
 
--- the book: the positions taken and those let go, each in the order in which they were added
+-- the positions inserted and those evicted (taken in, let go), each list in the order of adding
 pub record EventLog : Type 0 where
   pub inserted : List ℕ
   pub evicted : List ℕ
@@ -28,7 +29,7 @@ abbrev pub positions : (ℕ → Bool) → ℕ → List ℕ
 positions p zero = []
 positions p (suc n) = positions p n ++ pick (p n) (n ∷ []) []
 
--- what an accepted step adds to taken: every position not yet there whose minute ≤ z + h
+-- what an accepted step inserts: the positions up to the right edge that are not inserted yet
 abbrev pub insertions : List ℕ → EventLog → Move → List ℕ
 insertions ts b m =
     positions (λ i. not (listed i (b .inserted)) && leb (getD ts i 0) (m .point + m .bandwidth)) (length ts)
@@ -36,14 +37,14 @@ insertions ts b m =
 abbrev pub with-insertions : List ℕ → EventLog → Move → List ℕ
 with-insertions ts b m = b .inserted ++ insertions ts b m
 
--- then to let go: every position of taken not yet in let go whose minute + h < z
+-- and what it then evicts: inserted positions below the left edge that are not evicted yet
 abbrev pub evictions : List ℕ → EventLog → Move → List ℕ
 evictions ts b m =
     positions
     (λ i. listed i (with-insertions ts b m) && not (listed i (b .evicted)) && ltb (getD ts i 0 + m .bandwidth) (m .point))
     (length ts)
 
--- the book's own refusal: the first of 8, 6 and 9 that holds of what the step is fed
+-- the book's own refusal: the first of 8, 6 and 9 that holds of what it is told
 abbrev pub log-refusal : List ℕ → List ℕ → Move → Option Fault
 log-refusal ts vs m = first-of (log-checks full ts vs (m .bandwidth))
 
@@ -59,7 +60,7 @@ abbrev pub log-after : List ℕ → List ℕ → EventLog → List Move → Even
 log-after ts vs b [] = b
 log-after ts vs b (m ∷ ms) = log-after ts vs (log-step ts vs b m) ms
 
--- takings and lettings
+-- how many are inserted, and how many are evicted
 abbrev pub insertion-count : EventLog → ℕ
 insertion-count b = length (b .inserted)
 

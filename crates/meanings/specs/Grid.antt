@@ -1,8 +1,8 @@
--- Document 01, "The knob": the table of half widths and the filled marks.
+-- SPECIFICATION, "Presets and grid": the table of half widths and the filled marks.
 use Prim.Native.Nat.{ℕ, zero, suc, _+_, _*_}
 use mathlib.Core.List.{List, [], _∷_, _++_}
 
--- the bandwidth presets, document 01's knob, by position
+-- the bandwidth presets, the knob's half widths, by position
 abbrev pub presets : List ℕ
 presets = 30 ∷ 45 ∷ 60 ∷ 90 ∷ 120 ∷ 180 ∷ 240 ∷ 360 ∷ 480 ∷ 720 ∷ 1080 ∷ 1440 ∷ []
 

@@ -12,6 +12,7 @@ pub mod Moves
 pub mod Output
 pub mod OwnCases
 pub mod Published
+pub mod PublishedRow
 pub mod Reports
 pub mod Running
 pub mod Sheet

@@ -1,4 +1,4 @@
--- Document 01, "Readings and marks": the ranges and limits.
+-- SPECIFICATION, "Readings and marks": the ranges and limits.
 use Prim.Native.Nat.{ℕ}
 use Rattle.meanings.specs.declared.Limits.{Limits}
 
@@ -18,6 +18,6 @@ full = record { samples = 1024; points = 512 }
 abbrev pub max-sheet : ℕ
 max-sheet = 32768
 
--- the length of the buffer that the program writes into: no output is longer, by the law program-fits of crates/output_laws
+-- the length of the buffer that a text is written into: none is longer, by the laws program-fits and any-refusal-fits of crates/output_laws
 abbrev pub max-output : ℕ
 max-output = 31291

@@ -1,4 +1,4 @@
--- Document 01, "One whole sheet": what the program writes, as a function from any list of bytes to a list of bytes.
+-- SPECIFICATION, "Output": what the program writes, as a function from any list of bytes to a list of bytes.
 use Prim.Native.Nat.{ℕ, zero, suc, _+_, _/_, _%_}
 use mathlib.Core.List.{List, [], _∷_, _++_}
 use lib.Dec.{ltb, eqb}

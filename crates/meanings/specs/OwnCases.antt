@@ -5,12 +5,12 @@ use mathlib.Core.List.{List, [], _∷_, _++_}
 use lib.ListN.{replicate}
 use Rattle.meanings.specs.declared.RunningSums.{RunningSums}
 use Rattle.meanings.specs.declared.Limits.{Limits}
-use Rattle.meanings.specs.Limits.{full}
+use Rattle.meanings.specs.Limits.{full, max-output}
 use Rattle.meanings.specs.Bytes.{ascii}
 use Rattle.meanings.specs.Moves.{Move}
 use Rattle.meanings.specs.Reports.{given}
 use Rattle.meanings.specs.EventLog.{EventLog}
-use Rattle.meanings.specs.Cases.{Case, _⇒_, row, run, sums, step, steps, smooth-over, filler, sheet, reader, output, estimated, part, powers, stepped, logged, smooth-gives, filled, outcome, read-into, written, is-row, is-report, is-sums, is-record, contents}
+use Rattle.meanings.specs.Cases.{Case, _⇒_, row, run, sums, step, record-gives, steps, smooth-over, filler, sheet, reader, output, curve-into, refusal-into, estimated, part, powers, stepped, logged, smooth-gives, filled, outcome, read-into, written, holds, is-row, is-report, is-sums, is-record, contents}
 
 abbrev fives : ℕ → List ℕ
 fives n = replicate n 5
@@ -291,5 +291,40 @@ sheet-cases =
     ∷ output "mark,half\n0,1\n\nminute,inj,vdk\n0,3,0\n" ⇒ written (ascii "mark,half,left,right,weight,sum,vdk\n0,1,0,1,1,0,0\n\nkept,passes\n1,1\n")
     ∷ []
 
+-- a sheet without readings, and its curve
+abbrev empty-sheet : List ℕ
+empty-sheet = readings []
+
+abbrev empty-curve : List ℕ
+empty-curve = ascii "mark,half,left,right,weight,sum,vdk\n0,1,0,0,0,0,-\n\nkept,passes\n0,0\n"
+
+abbrev buffer : List ℕ
+buffer = replicate max-output 7
+
+abbrev pub text-cases : List Case
+text-cases =
+    -- the curve in front of the untouched rest
+    curve-into empty-sheet buffer ⇒ holds (given 67) (empty-curve ++ replicate 31224 7)
+    -- a refused sheet: its own report, and the buffer as it was
+    ∷ curve-into (ascii "mark,half\n20,10\n21,12\n") buffer ⇒ holds (is-report 10 16) buffer
+    -- 8 of a buffer of another length, before every report of the sheet
+    ∷ curve-into empty-sheet (7 ∷ buffer) ⇒ holds (is-report 8 0) (7 ∷ buffer)
+    ∷ curve-into (ascii "mark,half\n20,10\n21,12\n") [] ⇒ holds (is-report 8 0) []
+    -- the text of a refusal, also of no report
+    ∷ refusal-into 10 16 buffer ⇒ holds (given 20) (ascii "refused,place\n10,16\n" ++ replicate 31271 7)
+    ∷ refusal-into 0 (2 ^ 64 - 1) buffer ⇒ holds (given 37) (ascii "refused,place\n0,18446744073709551615\n" ++ replicate 31254 7)
+    ∷ refusal-into 10 16 (7 ∷ buffer) ⇒ holds (is-report 8 0) (7 ∷ buffer)
+    ∷ refusal-into 10 16 sevens ⇒ holds (is-report 8 0) sevens
+    ∷ []
+
+-- the row of a record: that of C1's window; a weight below 0 wraps; a sum without a weight; minutes and their squares count by the mark
+abbrev pub record-cases : List Case
+record-cases =
+    record-gives (is-record 0 3 (is-sums 3 50 900 180 3200 60000)) 20 10 ⇒ estimated (is-row 0 3 200 14000 70)
+    ∷ record-gives (is-record 5 2 (is-sums 0 0 1 0 0 2)) 0 1 ⇒ estimated (is-row 5 2 (2 ^ 64 - 1) (2 ^ 64 - 2) 1)
+    ∷ record-gives (is-record 0 1 (is-sums 0 0 0 7 0 0)) 0 1 ⇒ estimated (is-row 0 1 0 7 65536)
+    ∷ record-gives (is-record 0 1 (is-sums 0 5 3 0 7 4)) 2 1 ⇒ estimated (is-row 0 1 17 24 1)
+    ∷ []
+
 abbrev pub own-cases : List Case
-own-cases = one-point-cases ++ step-cases ++ smooth-cases ++ fill-cases ++ sheet-cases
+own-cases = one-point-cases ++ step-cases ++ smooth-cases ++ fill-cases ++ sheet-cases ++ text-cases ++ record-cases

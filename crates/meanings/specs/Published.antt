@@ -1,5 +1,6 @@
--- Source document 000: the kernel density estimator (1) and the kernel regression estimator (2) with the Epanechnikov kernel of (5), and
--- the sums of (6), as exact fractions over all N samples. x is a sample's time, y its response, z the evaluation point, h the bandwidth.
+-- N. Langrené and X. Warin, "Fast and stable multivariate kernel density estimation by fast sum updating" (2019), in one dimension: the kernel
+-- density estimator (1) and the kernel regression estimator (2) with the Epanechnikov kernel of (5), and the sums of (6), as exact fractions
+-- over all N samples. x is a sample's time, y its response, z the evaluation point, h the bandwidth.
 use Prim.Native.Nat.{ℕ, zero, suc, _+_, _-_, _*_, _^_, _<_}
 use mathlib.Core.Path.{_≡_}
 use mathlib.Core.Bool.{_&&_}

@@ -1,4 +1,4 @@
--- Document 01, "What the instrument reports": the thirteen reports' numbers, conditions and places, and for each call the order in which
+-- SPECIFICATION, "Reports": the thirteen reports' numbers, conditions and places, and for each call the order in which
 -- they are looked at. A call is refused with the first check of its list that holds.
 use Prim.Native.Nat.{ℕ, zero, suc, _+_, _-_, _*_}
 use mathlib.Core.Bool.{Bool, true, false, _||_}
@@ -17,7 +17,7 @@ use Rattle.meanings.specs.Lists.{pick, lowest}
 use Rattle.meanings.specs.declared.Limits.{Limits}
 use Rattle.meanings.specs.Limits.{max-u16, max-bandwidth, max-output}
 
--- the report's number in document 01
+-- the report's number
 abbrev pub number : Report → ℕ
 number TooLong = 1
 number BadHeader = 2
@@ -38,7 +38,7 @@ pub record Fault : Type 0 where
   pub number : ℕ
   pub place : ℕ
 
--- a refusal of the code in document 01's numbers
+-- a refusal of the code in these numbers
 abbrev pub told : Refusal → Fault
 told r = record { number = number (r .report); place = r .place }
 
@@ -128,8 +128,7 @@ size-checks L ts vs = report 8 (at 0 (uneven-samples ts vs)) ∷ report 6 (at 0 
 abbrev pub bandwidth-checks : ℕ → List Check
 bandwidth-checks h = report 9 (at 0 (bad-bandwidth h)) ∷ []
 
--- the sweep with a list of so many numbers for its rows: 8 (minutes with values, marks with half widths, rows exactly five times marks), 6,
--- 7, 4, 5, 9, 10, lowest position each
+-- the sweep, with room for so many numbers in its rows: by lengths 8 (any of three that do not fit), 6, 7; then by positions 4, 5, 9, 10
 abbrev pub smooth-size-checks : Limits → List ℕ → List ℕ → List ℕ → List ℕ → ℕ → List Check
 smooth-size-checks L ts vs zs hs rows =
     report 8 (at 0 (uneven-samples ts vs || differ (length zs) (length hs) || differ rows (5 * length zs)))
@@ -192,6 +191,6 @@ read-checks L minutes values points bandwidths =
     (differ minutes (L .samples) || differ values (L .samples) || differ points (L .points) || differ bandwidths (L .points)))
     ∷ []
 
--- the program as bytes to bytes, with a buffer of so many bytes: 8
-abbrev pub write-checks : ℕ → List Check
-write-checks size = report 8 (at 0 (differ size max-output)) ∷ []
+-- the buffer for a text, of so many bytes, before the sheet itself: 8
+abbrev pub buffer-checks : ℕ → List Check
+buffer-checks size = report 8 (at 0 (differ size max-output)) ∷ []

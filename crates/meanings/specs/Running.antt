@@ -1,12 +1,13 @@
--- Document 01, "The running record": the six running sums, the record, the step, lists of steps, passes.
+-- SPECIFICATION, "The running record and the book", 3.1 to 3.10: the six running sums, the record, the step, lists of steps, passes.
 use Prim.Native.Nat.{ℕ, zero, suc, _+_, _-_, _*_, _%_, _^_}
 use mathlib.Core.List.{List, [], _∷_}
 use lib.Dec.{ltb, leb}
 use lib.ListN.{length, getD}
+use Rattle.meanings.specs.declared.Estimate.{Estimate}
 use Rattle.meanings.specs.declared.PowerSums.{PowerSums}
 use Rattle.meanings.specs.declared.RunningSums.{RunningSums}
 use Rattle.meanings.specs.Lists.{first, total}
-use Rattle.meanings.specs.Estimate.{over-run}
+use Rattle.meanings.specs.Estimate.{over-run, value-of}
 use Rattle.meanings.specs.Limits.{full}
 use Rattle.meanings.specs.Moves.{Move}
 use Rattle.meanings.specs.Reports.{Answer, given, refused, unless, first-of, advance-checks}
@@ -50,15 +51,15 @@ minus w a b = (a + (2 ^ w - b % 2 ^ w)) % 2 ^ w
 abbrev pub fresh : RunningSums
 fresh = record { left = 0; right = 0; sums = six (λ p q. 0) }
 
--- new right: the first position at or after the old right whose minute is over the right edge, else the list's length
+-- new right: from the old one on, up to a minute beyond the right edge or to the end of the readings
 abbrev pub new-right : List ℕ → ℕ → ℕ → ℕ → ℕ
 new-right ts right z h = first (λ i. ltb (z + h) (getD ts i 0)) right (length ts - right)
 
--- new left: the first position at or after the old left, and below the new right, whose minute is not under the left edge, else the new right
+-- new left: from the old one on, up to a minute that has reached the left edge or to the new right
 abbrev pub new-left : List ℕ → ℕ → ℕ → ℕ → ℕ → ℕ
 new-left ts left right′ z h = first (λ i. leb z (getD ts i 0 + h)) left (right′ - left)
 
--- new sums: the old ones plus what was taken in, less what was let go, modulo 2^64
+-- new sums: with the terms of what is inserted, without those of what is evicted, modulo 2^64
 abbrev pub new-sums : List ℕ → List ℕ → RunningSums → ℕ → ℕ → PowerSums
 new-sums ts vs r left′ right′ =
     six (λ p q.
@@ -94,11 +95,23 @@ abbrev pub after : List ℕ → List ℕ → RunningSums → List Move → Runni
 after ts vs r [] = r
 after ts vs r (m ∷ ms) = after ts vs (after-step ts vs r m) ms
 
--- takings plus lettings of a step: the positions passed by its edges
+-- insertions plus evictions of a step: the positions passed by its edges
 abbrev pub passed : RunningSums → RunningSums → ℕ
 passed r r′ = (r′ .right - r .right) + (r′ .left - r .left)
 
--- the takings plus lettings of a list of steps
+-- those of a list of steps
 abbrev pub passes : List ℕ → List ℕ → RunningSums → List Move → ℕ
 passes ts vs r [] = 0
 passes ts vs r (m ∷ ms) = passed r (after-step ts vs r m) + passes ts vs (after-step ts vs r m) ms
+
+-- (h² − z²) a + 2 z b − c modulo 2^w
+abbrev pub combined : ℕ → ℕ → ℕ → ℕ → ℕ → ℕ → ℕ
+combined w z h a b c = minus w (plus w (h * h * a) (2 * z * b)) (z * z * a + c)
+
+-- the row that a record of any origin gives at mark z with half width h: its edges, weight and sum by the formula over its six sums modulo
+-- 2^64, and their rounded quotient
+unfoldable pub record-row : RunningSums → ℕ → ℕ → Estimate
+record-row r z h =
+    let weight = combined 64 z h (r .sums .s00) (r .sums .s10) (r .sums .s20) in
+    let sum = combined 64 z h (r .sums .s01) (r .sums .s11) (r .sums .s21) in
+    record { left = r .left; right = r .right; weight = weight; sum = sum; value = value-of sum weight }

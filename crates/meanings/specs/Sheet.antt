@@ -1,4 +1,4 @@
--- Document 01, "The tank sheet": lines, numbers, names lines, and the reader as a function from any list of bytes to a report with its
+-- SPECIFICATION, "The sheet": lines, numbers, names lines, and the reader as a function from any list of bytes to a report with its
 -- place or the four lists.
 use Prim.Native.Nat.{ℕ, zero, suc, _+_, _-_, _*_}
 use mathlib.Core.Bool.{Bool, true, false, not, _&&_, _||_}
@@ -52,12 +52,12 @@ abbrev pub said : ℕ → List ℕ → ℕ
 said n [] = n
 said n (b ∷ bs) = said (n * 10 + (b - zero-digit)) bs
 
--- no leading zero, except 0 itself
+-- a digit 0 in front stands alone
 abbrev pub plain-front : ℕ → List ℕ → Bool
 plain-front b [] = true
 plain-front b (c ∷ cs) = not (eqb b zero-digit)
 
--- a number: 1 to 5 digits and no leading zero, except 0 itself
+-- a number: some digits, at most 5, with a plain front
 abbrev pub number-form : List ℕ → Bool
 number-form [] = false
 number-form (b ∷ bs) = digits (b ∷ bs) && leb (length (b ∷ bs)) 5 && plain-front b bs

@@ -1,7 +1,7 @@
-// The types that calls take and give, named by the field's terms. Each comment gives document 01's word.
+// The types that calls take and give, named by the field's terms. Each comment gives the brewery's word.
 // What each value has to be is defined in specs/.
 
-// "What the instrument reports": the thirteen reports. `number` of specs/Reports.antt gives each its number.
+// SPECIFICATION, "Reports": the thirteen reports. `number` of specs/Reports.antt gives each its number.
 pub enum Report {
     TooLong, // 1, overlong
     BadHeader, // 2, heading
@@ -98,7 +98,7 @@ pub enum Reading {
     Unread(Refusal),
 }
 
-// What the program as bytes to bytes gives: how many bytes it has written into the lent buffer, or the report.
+// What a writer of a text gives: how many bytes it has written into the lent buffer, or the report.
 pub enum Writing {
     Written(usize),
     Unwritten(Refusal),

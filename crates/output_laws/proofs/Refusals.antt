@@ -1,6 +1,6 @@
 -- A refused sheet's report is one of the thirteen, and its place is at most 32,768: it lies in the sheet or at its end, or the sheet is too
--- long. So a refusal has at most 23 bytes.
-use Prim.Native.Nat.{ℕ, _≤_}
+-- long. So its text has at most 23 bytes, and that of any two numbers of 64 bits at most 56.
+use Prim.Native.Nat.{ℕ, _^_, _≤_, _<_}
 use mathlib.Core.Path.{_≡_, ap}
 use mathlib.Core.List.{List, [], _∷_, _++_}
 use native.Mathlib.Omega.{arith}
@@ -67,4 +67,11 @@ refusal-text-fits s e q =
     let f = refusal-small full s e q in
     let n = decimal-length (e .number) 1 (omega arith) in
     let p = decimal-length (e .place) 4 (omega arith) in
+    simp length-append (omega arith)
+
+pub any-refusal-fits : (n p : ℕ) → n < 2 ^ 64 → p < 2 ^ 64 → length (refusal-text (record { number = n; place = p })) ≤ 56
+unfolding refusal-text
+any-refusal-fits n p l m =
+    let a = decimal-length n 19 (omega arith) in
+    let b = decimal-length p 19 (omega arith) in
     simp length-append (omega arith)

@@ -1,4 +1,4 @@
--- The second reading of the sheet says of document 01's own sheets what the document says: the whole sheet is the sheet of its readings and
+-- The second reading of the sheet says of SPECIFICATION's sheets what stands there: the whole sheet of 7.9 is the sheet of its readings and
 -- marks, and the sheet of C12 is refused with 10 at byte 16, for an edge that falls. Each way to be refused has a sheet of its own here.
 use Prim.Native.Nat.{ℕ, _<_}
 use mathlib.Core.Path.{_≡_, refl}
@@ -10,11 +10,12 @@ use Rattle.meanings.specs.declared.Limits.{Limits}
 use Rattle.meanings.specs.Limits.{full}
 use Rattle.meanings.specs.Bytes.{ascii, sample-header}
 use Rattle.meanings.specs.Moves.{Move}
-use Rattle.meanings.specs.Sheet.{Injection}
+use Rattle.meanings.specs.Sheet.{Injection, read-sheet}
 use Rattle.meanings.specs.SheetForm.{IsSheet, Refused, too-long, no-point-header, no-empty-line, malformed-point, faulty-point, no-point, no-sample-header, malformed-sample, faulty-sample, PointFault, SampleFault, edge, Neighbours, Follows, Begins, point-head}
 use Rattle.meanings.specs.Output.{decimal, decimal-with, text-line}
 use Rattle.meanings.specs.Cases.{contents}
 use Rattle.sheet_laws.proofs.ValueLines.{no-point-begins, no-sample-begins}
+use Rattle.sheet_laws.proofs.Outcomes.{refused-is-refused}
 
 move : ℕ → ℕ → Move
 move z h = record { point = z; bandwidth = h }
@@ -56,6 +57,11 @@ no-points-is-refused = no-point (omega arith) ([], refl)
 pub no-empty-line-is-refused : Refused full (ascii "mark,half\n0,1\n") 3 14
 unfolding move decimal decimal-with
 no-empty-line-is-refused = no-empty-line (omega arith) (move 0 1 ∷ []) (omega arith) refl
+
+-- an empty line left out in the midst: the line behind the marks is no mark line
+pub no-empty-line-in-the-midst-is-refused : Refused full (ascii "mark,half\n0,1\nminute,inj,vdk\n5,3,9\n") 3 14
+unfolding read-sheet
+no-empty-line-in-the-midst-is-refused = refused-is-refused full (ascii "mark,half\n0,1\nminute,inj,vdk\n5,3,9\n") 3 14 refl
 
 pub overlong-is-refused : (s : List ℕ) → 32768 < length s → Refused full s 1 32768
 overlong-is-refused s l = too-long l

@@ -1,30 +1,82 @@
--- A buffer of the right length is never refused, and what stands at its front is the whole output.
+-- In a buffer of the right length: the curve of an accepted sheet is what the program writes, and so is the text of a refused sheet's report.
 use Prim.Native.Nat.{ℕ}
-use mathlib.Core.Path.{_≡_, sym, _∙_}
+use mathlib.Core.Path.{_≡_, refl, sym, ap, _∙_}
 use mathlib.Core.List.{List, _++_}
 use native.Mathlib.Omega.{arith}
 use lib.ListN.{length, take, drop}
 use lib.Seq.{take-at}
-use Rattle.meanings.specs.Limits.{max-output}
-use Rattle.meanings.specs.Reports.{Answer, Fault, given, refused}
-use Rattle.meanings.specs.Output.{program}
-use Rattle.meanings.specs.Calls.{write, write-buffer}
+use Rattle.meanings.specs.declared.Refusal.{Refusal}
+use Rattle.meanings.specs.declared.Writing.{Writing}
+use Rattle.meanings.specs.declared.Writing.the-variants.{Written, Unwritten}
+use Rattle.meanings.specs.Limits.{full, max-output}
+use Rattle.meanings.specs.Reports.{Fault, given, refused, told, number}
+use Rattle.meanings.specs.Sheet.{Outcome, read-sheet}
+use Rattle.meanings.specs.Output.{refusal-text, outcome-text, program}
+use Rattle.meanings.specs.Calls.{told-writing, curve-size, filled-front, write, write-buffer, write-refusal-text, refusal-buffer}
 use Rattle.meanings.proofs.Checks.{differ-same}
 
-module _ (s out : List ℕ) (full : length out ≡ max-output) where
-  answered : write s out ≡ given (length (program s))
+-- a text at the front of a buffer
+front : (t rest now : List ℕ) (n : ℕ) → now ≡ t ++ rest → n ≡ length t → take n now ≡ t
+front t rest now n e l = rw e (take-at t rest n (sym l))
+
+-- the text of a refusal
+module _ (out : List ℕ) (right : length out ≡ max-output) (r : Writing) (f : Refusal) (k : ℕ) (numbered : k ≡ number (f .report))
+    (answer : told-writing r ≡ write-refusal-text k (f .place) out) where
+  answered : told-writing r ≡ given (length (refusal-text (told f)))
+  unfolding write-refusal-text
+  answered = answer ∙ rw (differ-same (length out) max-output right, numbered)
+
+  pub never-refused : (e : Refusal) → r ≡ Unwritten e → ⊥
+  never-refused e q = let g = sym answered ∙ ap told-writing q in let z : _≡_ {A = ℕ} 0 1 = cc in omega arith
+
+  module _ (n : ℕ) (q : r ≡ Written n) where
+    pub refusal-length : n ≡ length (refusal-text (told f))
+    refusal-length = let g = sym (ap told-writing q) ∙ answered in cc
+
+    pub refusal-front : (now : List ℕ) → now ≡ refusal-buffer k (f .place) out → take n now ≡ refusal-text (told f)
+    unfolding refusal-buffer
+    refusal-front now w =
+        let t = refusal-text (told f) in
+        front t (drop (length t) out) now n (w ∙ rw (differ-same (length out) max-output right, numbered)) refusal-length
+
+-- the text of a sheet
+module _ (s out : List ℕ) (right : length out ≡ max-output) (r : Writing) (answer : told-writing r ≡ write s out) where
+  of-outcome : told-writing r ≡ curve-size (read-sheet full s)
   unfolding write
-  answered = rw (differ-same (length out) max-output full)
+  of-outcome = answer ∙ rw (differ-same (length out) max-output right)
 
-  filled : write-buffer s out ≡ program s ++ drop (length (program s)) out
-  unfolding write-buffer
-  filled = rw (differ-same (length out) max-output full)
+  -- refused
+  pub refusal-is-written : (f : Refusal) → r ≡ Unwritten f → refusal-text (told f) ≡ program s
+  unfolding program
+  refusal-is-written f q = by (read-sheet full s) (sym (ap told-writing q) ∙ of-outcome)
+    where
+      by : (o : Outcome) → refused (told f) ≡ curve-size o → refusal-text (told f) ≡ outcome-text o
+      by (given c) e = let z : _≡_ {A = ℕ} 0 1 = cc in absurd (omega arith)
+      by (refused e′) e = let g : told f ≡ e′ = cc in ap refusal-text g
 
-  pub never-unwritten : (f : Fault) → ¬ (_≡_ {A = Answer ℕ} (refused f) (write s out))
-  never-unwritten f e = let g = e ∙ answered in let z : _≡_ {A = ℕ} 0 1 = cc in omega arith
+  -- accepted
+  module _ (n : ℕ) (q : r ≡ Written n) where
+    pub curve-length : n ≡ length (program s)
+    unfolding program
+    curve-length = by (read-sheet full s) (sym (ap told-writing q) ∙ of-outcome)
+      where
+        by : (o : Outcome) → given n ≡ curve-size o → n ≡ length (outcome-text o)
+        by (given c) e = cc
+        by (refused f) e = let z : _≡_ {A = ℕ} 0 1 = cc in absurd (omega arith)
 
-  pub whole-output : (n : ℕ) (now : List ℕ) → given n ≡ write s out → now ≡ write-buffer s out → (take n now ≡ program s) × (n ≡ length (program s))
-  whole-output n now e w =
-      let g = e ∙ answered in
-      let k : n ≡ length (program s) = cc in
-      (rw (w, filled) (take-at (program s) (drop (length (program s)) out) n (sym k)), k)
+    pub curve-front : (now : List ℕ) → now ≡ write-buffer s out → take n now ≡ program s
+    unfolding program write-buffer
+    curve-front now w =
+        by (read-sheet full s) (sym (ap told-writing q) ∙ of-outcome) (w ∙ rw (differ-same (length out) max-output right))
+      where
+        by : (o : Outcome) → given n ≡ curve-size o → now ≡ filled-front o (λ c. outcome-text (given c)) out → take n now ≡ outcome-text o
+        by (given c) e w = front (outcome-text (given c)) _ now n w (cc)
+        by (refused f) e w = let z : _≡_ {A = ℕ} 0 1 = cc in absurd (omega arith)
+
+-- a text that the program writes, at the front of the buffer
+module _ (s t now : List ℕ) (n : ℕ) (first : take n now ≡ t) (written : t ≡ program s) where
+  pub program-front : take n now ≡ program s
+  program-front = first ∙ written
+
+  pub program-length : n ≡ length t → n ≡ length (program s)
+  program-length e = e ∙ ap length written

@@ -1,10 +1,13 @@
 // The program: a tank sheet on standard input, its curve or its refusal on standard output.
+use checks::report_number;
+use meanings::Refusal;
 use meanings::Writing;
 ghost use mathlib.Core.Path.{_≡_};
 ghost use Prim.Native.Nat.{_+_};
 ghost use lib.ListN.{length, take};
 ghost use Rattle.meanings.specs.Limits.{max-sheet, max-output};
-ghost use Rattle.meanings.specs.Output.{program};
+ghost use Rattle.meanings.specs.Reports.{told};
+ghost use Rattle.meanings.specs.Output.{refusal-text, program};
 ghost use Rattle.tankcurve.specs.Input.{InputWithin};
 
 const IN: i32 = 0;
@@ -49,6 +52,20 @@ fn read_input(buf: &mut [u8]) -> Input
     Input::Bytes(done)
 }
 
+// Puts the text of a refusal at the front of the buffer, and gives its length.
+fn refuse(refusal: Refusal, out: &mut [u8]) -> usize
+    requires { ⌜ length (now out) ≡ max-output ⌝ }
+    ensures { λ r. ⌜ take r (now (out .exit)) ≡ refusal-text (told refusal) ⌝ }
+    ensures { λ r. ⌜ r ≡ length (refusal-text (told refusal)) ⌝ }
+{
+    let report = refusal.report;
+    let place = refusal.place as u64;
+    match text::refusal_text(report_number(report), place, out) {
+        Writing::Written(n) => n,
+        Writing::Unwritten(_) => 0,
+    }
+}
+
 // Puts what the program writes for a sheet at the front of the buffer, and gives its length.
 fn answer(sheet: &[u8], out: &mut [u8]) -> usize
     requires { ⌜ length (now out) ≡ max-output ⌝ }
@@ -57,7 +74,7 @@ fn answer(sheet: &[u8], out: &mut [u8]) -> usize
 {
     match text::curve_text(sheet, out) {
         Writing::Written(n) => n,
-        Writing::Unwritten(_) => 0,
+        Writing::Unwritten(refusal) => refuse(refusal, out),
     }
 }
 

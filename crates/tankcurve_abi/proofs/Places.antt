@@ -1,6 +1,6 @@
 -- Every refusal's place is at most 32,768: positions lie in lists of at most 1,024, and a sheet's place in it, at its end or at the limit. Its
 -- number is at most 13, so 16 times the place plus the number tells both.
-use Prim.Native.Nat.{ℕ, _+_, _-_, _*_, _/_, _%_, _≤_, zero-le}
+use Prim.Native.Nat.{ℕ, _+_, _-_, _*_, _/_, _%_, _^_, _≤_, _<_, zero-le}
 use mathlib.Core.Path.{_≡_, refl, ap}
 use mathlib.Core.Bool.{Bool, true, false, _||_}
 use mathlib.Core.List.{List, [], _∷_}
@@ -15,19 +15,20 @@ use Rattle.meanings.specs.declared.Refusal.{Refusal}
 use Rattle.meanings.specs.declared.RunningSums.{RunningSums}
 use Rattle.meanings.specs.Limits.{full, max-u16, max-sheet, max-output}
 use Rattle.meanings.specs.Lists.{pick, first, lowest}
-use Rattle.meanings.specs.Reports.{Fault, Answer, given, refused, unless, told, number, Check, at, or-later, first-of, differ, decreases, bad-bandwidth, edge-decreases, uneven-samples, bandwidth-checks, evaluate-checks, advance-checks, smooth-checks, fill-checks, read-checks, write-checks}
+use Rattle.meanings.specs.Reports.{Fault, Answer, given, refused, unless, told, number, Check, at, or-later, first-of, differ, decreases, bad-bandwidth, edge-decreases, uneven-samples, bandwidth-checks, evaluate-checks, advance-checks, smooth-checks, fill-checks, read-checks, buffer-checks}
 use Rattle.meanings.specs.Moves.{moves}
 use Rattle.meanings.specs.Estimate.{estimate}
 use Rattle.meanings.specs.Running.{fresh, moved, advance, passes}
 use Rattle.meanings.specs.Grid.{presets}
 use Rattle.meanings.specs.Sheet.{Outcome, or-next, read-sheet}
-use Rattle.meanings.specs.Output.{program}
-use Rattle.meanings.specs.Calls.{evaluate, smooth, smooth-refusal, fill, counts, read, write, write-refusal}
+use Rattle.meanings.specs.Output.{curve-text, refusal-text}
+use Rattle.meanings.specs.Calls.{evaluate, smooth, smooth-refusal, fill, counts, read, buffer-refusal, curve-size, write, write-refusal-text}
 use Rattle.meanings.proofs.Checks.{at-none, or-false, differ-false, given-accepted}
 use Rattle.meanings.proofs.Passes.{passes-at-most-twice}
 use Rattle.meanings.proofs.SmoothSteps.{smooth-accepts}
-use Rattle.output_laws.proofs.Refusals.{refusal-small}
-use Rattle.output_laws.proofs.OutputFits.{program-fits}
+use Rattle.output_laws.proofs.Refusals.{refusal-small, any-refusal-fits}
+use Rattle.output_laws.proofs.AcceptedSheet.{accepted-contents}
+use Rattle.output_laws.proofs.OutputFits.{curve-text-fits}
 use Rattle.tankcurve_abi.specs.Answers.{code}
 
 pub number-range : (r : Report) → (1 ≤ number r) × (number r ≤ 13)
@@ -191,10 +192,25 @@ pub counts-place : (o : Outcome) → refusal-place o ≤ max-sheet → refusal-p
 counts-place (given c) l = l
 counts-place (refused e) l = l
 
+curve-place : (o : Outcome) → refusal-place o ≤ max-sheet → refusal-place (curve-size o) ≤ max-sheet
+curve-place (given c) l = l
+curve-place (refused e) l = l
+
 pub write-place : (s out : List ℕ) → refusal-place (write s out) ≤ max-sheet
 unfolding write
-write-place s out =
-    answer-small (write-checks (length out)) (length (program s)) (at-start (differ (length out) max-output), λ even. tt)
+write-place s out = by (buffer-refusal out) refl
+  where
+    by : (f : Option Fault) → buffer-refusal out ≡ f → refusal-place (curve-size (or-next f (read-sheet full s))) ≤ max-sheet
+    by none q = curve-place (read-sheet full s) (sheet-place s)
+    by (some e) q = fault-small (buffer-checks (length out)) (at-start (differ (length out) max-output), λ even. tt) e q
+
+pub refusal-text-place : (n p : ℕ) (out : List ℕ) → refusal-place (write-refusal-text n p out) ≤ max-sheet
+unfolding write-refusal-text
+refusal-text-place n p out =
+    answer-small (buffer-checks (length out)) (length (refusal-text (record { number = n; place = p }))) (
+      at-start (differ (length out) max-output),
+      λ even. tt,
+    )
 
 -- what an accepted sweep and an accepted text have to tell is small too
 pub passes-small : (ts vs zs hs rs : List ℕ) (n : ℕ) → smooth full ts vs zs hs rs ≡ given n → n ≤ 2048
@@ -207,6 +223,15 @@ passes-small ts vs zs hs rs n q =
 
 pub size-small : (s out : List ℕ) (n : ℕ) → write s out ≡ given n → n ≤ max-output
 unfolding write
-size-small s out n q =
-    let a = given-accepted (write-refusal out) (length (program s)) n q in
-    omega (arith, a .1, program-fits s)
+size-small s out n q = by (buffer-refusal out) (read-sheet full s) refl q
+  where
+    by : (f : Option Fault) (o : Outcome) → read-sheet full s ≡ o → curve-size (or-next f o) ≡ given n → n ≤ max-output
+    by none (given c) r q = let e : length (curve-text c) ≡ n = cc in omega (arith, e, curve-text-fits c (accepted-contents s c r))
+    by none (refused e) r q = let z : _≡_ {A = ℕ} 0 1 = cc in absurd (omega arith)
+    by (some e) o r q = let z : _≡_ {A = ℕ} 0 1 = cc in absurd (omega arith)
+
+pub refusal-size-small : (n p : ℕ) (out : List ℕ) (k : ℕ) → n < 2 ^ 64 → p < 2 ^ 64 → write-refusal-text n p out ≡ given k → k ≤ 56
+unfolding write-refusal-text
+refusal-size-small n p out k l m q =
+    let a = given-accepted (buffer-refusal out) (length (refusal-text (record { number = n; place = p }))) k q in
+    omega (arith, a .1, any-refusal-fits n p l m)

@@ -19,11 +19,12 @@ use meanings::Smoothing;
 use meanings::Writing;
 use sheet::read_sheet;
 use text::curve_text;
+use text::refusal_text;
 ghost use mathlib.Core.Path.{_≡_};
 ghost use Rattle.meanings.specs.Limits.{full};
 ghost use Rattle.meanings.specs.Estimate.{fields};
 ghost use Rattle.meanings.specs.Running.{advance as advance-meaning};
-ghost use Rattle.meanings.specs.Calls.{evaluate as evaluate-meaning, smooth as smooth-meaning, smooth-rows, fill, fill-points, fill-bandwidths, counts as counts-of, read, read-minutes, read-values, read-evaluation-points, read-bandwidths, write, write-buffer};
+ghost use Rattle.meanings.specs.Calls.{evaluate as evaluate-meaning, smooth as smooth-meaning, smooth-rows, fill, fill-points, fill-bandwidths, counts as counts-of, read, read-minutes, read-values, read-evaluation-points, read-bandwidths, write, write-buffer, write-refusal-text, refusal-buffer};
 ghost use Rattle.tankcurve_abi.specs.Answers.{answered, untold, sized, stored, bounds as bounds-of, count-numbers, record-numbers, record-of as record-meaning};
 
 // The question at one mark. row: five numbers, left, right, weight, sum, value.
@@ -167,7 +168,7 @@ pub extern "C" fn tankcurve_read(
     }
 }
 
-// The program as bytes to bytes: out has 31,291 bytes, and the detail is how many are written.
+// The curve of a sheet as bytes: out has 31,291 bytes, and the detail is how many are written. A refused sheet's report is the answer.
 #[no_mangle]
 pub extern "C" fn tankcurve_text(sheet: &[u8], out: &mut [u8]) -> u64
     ensures { λ r. ⌜ r ≡ answered (λ n. n) (write (now (sheet .entry)) (now (out .entry))) ⌝ }
@@ -176,5 +177,17 @@ pub extern "C" fn tankcurve_text(sheet: &[u8], out: &mut [u8]) -> u64
     match curve_text(sheet, out) {
         Writing::Unwritten(refusal) => refusal_code(refusal),
         Writing::Written(size) => 16 * size as u64,
+    }
+}
+
+// The text of a refusal with this number and place: out has 31,291 bytes, and the detail is how many are written.
+#[no_mangle]
+pub extern "C" fn tankcurve_refusal_text(number: u64, place: u64, out: &mut [u8]) -> u64
+    ensures { λ r. ⌜ r ≡ answered (λ n. n) (write-refusal-text number place (now (out .entry))) ⌝ }
+    ensures { λ _. ⌜ now (out .exit) ≡ refusal-buffer number place (now (out .entry)) ⌝ }
+{
+    match refusal_text(number, place, out) {
+        Writing::Unwritten(refusal) => refusal_code(refusal),
+        Writing::Written(bytes) => 16 * bytes as u64,
     }
 }

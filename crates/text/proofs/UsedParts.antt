@@ -1,96 +1,183 @@
--- What the reader's answer and lists at exit say of the sheet: the used parts are an accepted sheet's contents and the program writes their
--- curve, or the sheet is refused and the program writes that report.
-use Prim.Native.Nat.{ℕ, _+_, _≤_}
+-- What the reader's answer and lists at exit say of the sheet: the used parts are its contents, or it is refused with that report. What is
+-- then written and answered is what it should be.
+use Prim.Native.Nat.{ℕ, _^_, _≤_, _<_}
 use mathlib.Core.Path.{_≡_, refl, sym, ap, _∙_}
 use mathlib.Core.Bool.{false}
 use mathlib.Core.List.{List, _++_}
 use native.Mathlib.Omega.{arith}
 use native.Mathlib.Nat.{zero-add}
 use lib.ListN.{length, take, length-append}
-use lib.Seq.{take-at}
+use lib.Seq.{take-at, length-take-le}
+use Rattle.meanings.specs.declared.Refusal.{Refusal}
+use Rattle.meanings.specs.declared.Reading.{Reading}
+use Rattle.meanings.specs.declared.Reading.the-variants.{Used, Unread}
 use Rattle.meanings.specs.Limits.{full, max-output}
-use Rattle.meanings.specs.Reports.{Fault, given, refused}
+use Rattle.meanings.specs.Reports.{Fault, told, given, refused}
 use Rattle.meanings.specs.Sheet.{Contents, Outcome, read-sheet}
-use Rattle.meanings.specs.Output.{refusal-text, outcome-text, program}
-use Rattle.meanings.specs.Calls.{Counts, counts, read, read-minutes, read-values, read-evaluation-points, read-bandwidths, write, write-buffer}
+use Rattle.meanings.specs.Output.{curve-text, refusal-text}
+use Rattle.meanings.specs.Calls.{Counts, counts, told-reading, read, read-minutes, read-values, read-evaluation-points, read-bandwidths, write, write-buffer, write-refusal-text, refusal-buffer}
 use Rattle.meanings.proofs.Checks.{differ-true, differ-same}
 use Rattle.output_laws.proofs.AcceptedSheet.{accepted-contents}
-use Rattle.output_laws.proofs.Refusals.{refusal-text-fits}
+use Rattle.output_laws.proofs.Refusals.{any-refusal-fits}
 use Rattle.checks.specs.ReaderLists.{uneven-lists}
 use Rattle.sheet.proofs.Scans.{even-read}
 use Rattle.text.specs.Written.{written}
 use Rattle.text.specs.Table.{contents-of, curve-of, Accepted}
 
--- the used parts of the four lists at exit
-pub record UsedParts (s ts vs zs hs : List ℕ) (n m : ℕ) : Type 0 where
-  pub minutes-room : n ≤ length ts
-  pub values-room : n ≤ length vs
-  pub points-room : m ≤ length zs
-  pub bandwidths-room : m ≤ length hs
-  pub parts-accepted : Accepted (take n ts) (take n vs) (take m zs) (take m hs)
-  pub parts-text : program s ≡ curve-of (take n ts) (take n vs) (take m zs) (take m hs)
+-- a buffer of another length is refused and stays
+module _ (out : List ℕ) (another : ¬ (length out ≡ max-output)) where
+  pub other-buffer : (s : List ℕ) → refused (record { number = 8; place = 0 }) ≡ write s out
+  unfolding write
+  other-buffer s = rw (differ-true (length out) max-output another)
 
--- what the program writes for an outcome
-program-of : (s : List ℕ) (o : Outcome) → read-sheet full s ≡ o → program s ≡ outcome-text o
-unfolding program
-program-of s o r = ap outcome-text r
+  pub other-buffer-stays : (s : List ℕ) → out ≡ write-buffer s out
+  unfolding write-buffer
+  other-buffer-stays s = rw (differ-true (length out) max-output another)
+
+  pub other-refusal-buffer : (n p : ℕ) → refused (record { number = 8; place = 0 }) ≡ write-refusal-text n p out
+  unfolding write-refusal-text
+  other-refusal-buffer n p = rw (differ-true (length out) max-output another)
+
+  pub other-refusal-buffer-stays : (n p : ℕ) → out ≡ refusal-buffer n p out
+  unfolding refusal-buffer
+  other-refusal-buffer-stays n p = rw (differ-true (length out) max-output another)
+
+-- one of the right length holds the text of any two numbers of 64 bits
+module _ (n p : ℕ) (out : List ℕ) (right : length out ≡ max-output) where
+  pub refusal-fits : n < 2 ^ 64 → p < 2 ^ 64 → length (refusal-text (record { number = n; place = p })) ≤ length out
+  refusal-fits a b = omega (arith, any-refusal-fits n p a b)
+
+  pub refusal-size : (r : ℕ) → r ≡ length (refusal-text (record { number = n; place = p })) → given r ≡ write-refusal-text n p out
+  unfolding write-refusal-text
+  refusal-size r e = rw (differ-same (length out) max-output right, e)
+
+  pub refusal-written : (now : List ℕ) → now ≡ written out 0 (refusal-text (record { number = n; place = p })) → now ≡ refusal-buffer n p out
+  unfolding refusal-buffer written
+  refusal-written now w = rw (differ-same (length out) max-output right) (w ∙ rw zero-add)
+
+-- the contents of an accepted sheet with so many readings and marks
+record UsedContents (s : List ℕ) (n m : ℕ) : Type 0 where
+  contents : Contents
+  accepted : read-sheet full s ≡ given contents
+  minutes-used : length (contents .minutes) ≡ n
+  values-used : length (contents .values) ≡ n
+  points-used : length (contents .points) ≡ m
+  bandwidths-used : length (contents .bandwidths) ≡ m
 
 front-of : (part rest out : List ℕ) (n : ℕ) → out ≡ part ++ rest → length part ≡ n → (take n out ≡ part) × (n ≤ length out)
 front-of part rest out n e l = (rw e (take-at part rest n l), let k = ap length e ∙ length-append part rest in omega arith)
 
-module _ (s ts vs zs hs : List ℕ) (even : uneven-lists full (length ts) (length vs) (length zs) (length hs) ≡ false) where
-  pub used-parts : (ts′ vs′ zs′ hs′ : List ℕ) (n m : ℕ) → given (record { samples = n; points = m }) ≡ counts (read full s ts vs zs hs)
-      → ts′ ≡ read-minutes (read full s ts vs zs hs) ts
-      → vs′ ≡ read-values (read full s ts vs zs hs) vs
-      → zs′ ≡ read-evaluation-points (read full s ts vs zs hs) zs
-      → hs′ ≡ read-bandwidths (read full s ts vs zs hs) hs
-      → UsedParts s ts′ vs′ zs′ hs′ n m
-  used-parts ts′ vs′ zs′ hs′ n m a b c d e = by (read-sheet full s) refl (rw g at a) (rw g at b) (rw g at c) (rw g at d) (rw g at e)
-    where
-      g : read full s ts vs zs hs ≡ read-sheet full s
-      g = even-read s ts vs zs hs even
+-- a reader with lists of the right lengths
+module _ (s ts vs zs hs : List ℕ) (r : Reading) (answer : told-reading r ≡ counts (read full s ts vs zs hs))
+    (even : uneven-lists full (length ts) (length vs) (length zs) (length hs) ≡ false) where
+  same-read : read full s ts vs zs hs ≡ read-sheet full s
+  same-read = even-read s ts vs zs hs even
 
-      by : (o : Outcome) → read-sheet full s ≡ o → given (record { samples = n; points = m }) ≡ counts o → ts′ ≡ read-minutes o ts
-          → vs′ ≡ read-values o vs → zs′ ≡ read-evaluation-points o zs → hs′ ≡ read-bandwidths o hs → UsedParts s ts′ vs′ zs′ hs′ n m
-      by (refused f) r a b c d e = let z : _≡_ {A = ℕ} 0 1 = cc in absurd (omega arith)
-      by (given k) r a b c d e =
-          let q : _≡_ {A = Counts} (record { samples = n; points = m }) (record { samples = length (k .minutes); points = length (k .points) }) = cc in
-          let n-is : n ≡ length (k .minutes) = ap (λ (x : Counts). x .samples) q in
-          let m-is : m ≡ length (k .points) = ap (λ (x : Counts). x .points) q in
-          let f = accepted-contents s k r in
-          let t = front-of (k .minutes) _ ts′ n b (sym n-is) in
-          let v = front-of (k .values) _ vs′ n c (omega (arith, f .even-samples)) in
-          let z = front-of (k .points) _ zs′ m d (sym m-is) in
-          let h = front-of (k .bandwidths) _ hs′ m e (omega (arith, f .even-points)) in
-          let same : contents-of (take n ts′) (take n vs′) (take m zs′) (take m hs′) ≡ k = rw (t .0, v .0, z .0, h .0) in
-          record {
-            minutes-room = t .1;
-            values-room = v .1;
-            points-room = z .1;
-            bandwidths-room = h .1;
-            parts-accepted = record { sheet = s; accepted = r ∙ ap (λ (c : Contents). given c) (sym same) };
-            parts-text = program-of s (given k) r ∙ ap (λ (c : Contents). outcome-text (given c)) (sym same);
-          }
+  -- that refuses the sheet
+  module _ (f : Refusal) (unread : r ≡ Unread f) (out : List ℕ) (right : length out ≡ max-output) where
+    refused-sheet : read-sheet full s ≡ refused (told f)
+    refused-sheet = by (read-sheet full s) (sym (ap told-reading unread) ∙ answer ∙ ap counts same-read)
+      where
+        by : (o : Outcome) → refused (told f) ≡ counts o → o ≡ refused (told f)
+        by (given k) a = let z : _≡_ {A = ℕ} 0 1 = cc in absurd (omega arith)
+        by (refused k) a = cc
 
-  pub refused-text : (f : Fault) → refused f ≡ counts (read full s ts vs zs hs) → (program s ≡ refusal-text f) × (length (refusal-text f) ≤ max-output)
-  refused-text f a = by (read-sheet full s) refl (rw g at a)
-    where
-      g : read full s ts vs zs hs ≡ read-sheet full s
-      g = even-read s ts vs zs hs even
+    pub sheet-refused : refused (told f) ≡ write s out
+    unfolding write
+    sheet-refused = rw (differ-same (length out) max-output right, refused-sheet)
 
-      by : (o : Outcome) → read-sheet full s ≡ o → refused f ≡ counts o → (program s ≡ refusal-text f) × (length (refusal-text f) ≤ max-output)
-      by (given k) r a = let z : _≡_ {A = ℕ} 0 1 = cc in absurd (omega arith)
-      by (refused k) r a =
-          let e : f ≡ k = cc in
-          let l = refusal-text-fits s k r in
-          rw e (program-of s (refused k) r, omega arith)
+    pub refused-sheet-stays : out ≡ write-buffer s out
+    unfolding write-buffer
+    refused-sheet-stays = rw (differ-same (length out) max-output right, refused-sheet)
 
-module _ (s out : List ℕ) where
-  pub other-buffer : ¬ (length out ≡ max-output) → (write s out ≡ refused (record { number = 8; place = 0 })) × (write-buffer s out ≡ out)
-  unfolding write write-buffer
-  other-buffer n = (rw (differ-true (length out) max-output n), rw (differ-true (length out) max-output n))
+  -- that accepts it
+  module _ (n m : ℕ) (used : r ≡ Used n m) where
+    sheet-contents : UsedContents s n m
+    sheet-contents = by (read-sheet full s) refl (sym (ap told-reading used) ∙ answer ∙ ap counts same-read)
+      where
+        by : (o : Outcome) → read-sheet full s ≡ o → given (record { samples = n; points = m }) ≡ counts o → UsedContents s n m
+        by (refused f) q a = let z : _≡_ {A = ℕ} 0 1 = cc in absurd (omega arith)
+        by (given k) q a =
+            let g : _≡_ {A = Counts} (record { samples = n; points = m }) (record { samples = length (k .minutes); points = length (k .points) }) = cc in
+            let n-is : n ≡ length (k .minutes) = ap (λ (x : Counts). x .samples) g in
+            let m-is : m ≡ length (k .points) = ap (λ (x : Counts). x .points) g in
+            let f = accepted-contents s k q in
+            record {
+              contents = k;
+              accepted = q;
+              minutes-used = sym n-is;
+              values-used = omega (arith, f .even-samples);
+              points-used = sym m-is;
+              bandwidths-used = omega (arith, f .even-points);
+            }
 
-  pub written-program : (t now : List ℕ) (r : ℕ) → length out ≡ max-output → program s ≡ t → now ≡ written out 0 t → r ≡ length t
-      → (given r ≡ write s out) × (now ≡ write-buffer s out)
-  unfolding write write-buffer written
-  written-program t now r l p w e = (rw (differ-same (length out) max-output l, p, e), rw (differ-same (length out) max-output l, p) (w ∙ rw zero-add))
+    read-given : read full s ts vs zs hs ≡ given (sheet-contents .contents)
+    read-given = same-read ∙ sheet-contents .accepted
+
+    -- each list at exit has the used part in front
+    module _ (ts′ : List ℕ) (minutes : ts′ ≡ read-minutes (read full s ts vs zs hs) ts) where
+      minutes-front : (take n ts′ ≡ sheet-contents .contents .minutes) × (n ≤ length ts′)
+      minutes-front =
+          front-of _ _ ts′ n (minutes ∙ ap (λ (o : Outcome). read-minutes o ts) read-given) (sheet-contents .minutes-used)
+
+      pub minutes-room : n ≤ length ts′
+      minutes-room = minutes-front .1
+
+      pub minutes-count : n ≡ length (take n ts′)
+      minutes-count = sym (length-take-le n ts′ minutes-room)
+
+    module _ (vs′ : List ℕ) (values : vs′ ≡ read-values (read full s ts vs zs hs) vs) where
+      values-front : (take n vs′ ≡ sheet-contents .contents .values) × (n ≤ length vs′)
+      values-front = front-of _ _ vs′ n (values ∙ ap (λ (o : Outcome). read-values o vs) read-given) (sheet-contents .values-used)
+
+      pub values-room : n ≤ length vs′
+      values-room = values-front .1
+
+      pub values-count : n ≡ length (take n vs′)
+      values-count = sym (length-take-le n vs′ values-room)
+
+    module _ (zs′ : List ℕ) (points : zs′ ≡ read-evaluation-points (read full s ts vs zs hs) zs) where
+      points-front : (take m zs′ ≡ sheet-contents .contents .points) × (m ≤ length zs′)
+      points-front =
+          front-of _ _ zs′ m (points ∙ ap (λ (o : Outcome). read-evaluation-points o zs) read-given) (sheet-contents .points-used)
+
+      pub points-room : m ≤ length zs′
+      points-room = points-front .1
+
+      pub points-count : m ≡ length (take m zs′)
+      points-count = sym (length-take-le m zs′ points-room)
+
+    module _ (hs′ : List ℕ) (bandwidths : hs′ ≡ read-bandwidths (read full s ts vs zs hs) hs) where
+      bandwidths-front : (take m hs′ ≡ sheet-contents .contents .bandwidths) × (m ≤ length hs′)
+      bandwidths-front =
+          front-of _ _ hs′ m (bandwidths ∙ ap (λ (o : Outcome). read-bandwidths o hs) read-given) (sheet-contents .bandwidths-used)
+
+      pub bandwidths-room : m ≤ length hs′
+      bandwidths-room = bandwidths-front .1
+
+      pub bandwidths-count : m ≡ length (take m hs′)
+      bandwidths-count = sym (length-take-le m hs′ bandwidths-room)
+
+    -- and the used parts are the contents
+    module _ (ts′ vs′ zs′ hs′ : List ℕ) (minutes : ts′ ≡ read-minutes (read full s ts vs zs hs) ts)
+        (values : vs′ ≡ read-values (read full s ts vs zs hs) vs) (points : zs′ ≡ read-evaluation-points (read full s ts vs zs hs) zs)
+        (bandwidths : hs′ ≡ read-bandwidths (read full s ts vs zs hs) hs) where
+      parts-are : contents-of (take n ts′) (take n vs′) (take m zs′) (take m hs′) ≡ sheet-contents .contents
+      parts-are = rw (minutes-front ts′ minutes .0, values-front vs′ values .0, points-front zs′ points .0, bandwidths-front hs′ bandwidths .0)
+
+      pub parts-read : read-sheet full s ≡ given (contents-of (take n ts′) (take n vs′) (take m zs′) (take m hs′))
+      parts-read = sheet-contents .accepted ∙ ap (λ (c : Contents). given c) (sym parts-are)
+
+      pub parts-accepted : Accepted (take n ts′) (take n vs′) (take m zs′) (take m hs′)
+      parts-accepted = record { sheet = s; accepted = parts-read }
+
+-- what is written of them
+module _ (s ts vs zs hs out now : List ℕ) (curve : now ≡ written out 0 (curve-of ts vs zs hs))
+    (accepted : read-sheet full s ≡ given (contents-of ts vs zs hs)) (right : length out ≡ max-output) where
+  pub curve-written : now ≡ write-buffer s out
+  unfolding write-buffer written
+  curve-written = rw (differ-same (length out) max-output right, accepted) (curve ∙ rw zero-add)
+
+  pub curve-size : (size : ℕ) → size ≡ length (curve-of ts vs zs hs) → given size ≡ write s out
+  unfolding write
+  curve-size size e = rw (differ-same (length out) max-output right, accepted, e)

@@ -2,13 +2,10 @@
 use crate::writer::put_curve_line;
 use crate::writer::put_pair_line;
 use crate::writer::put_text;
-use checks::report_number;
 use meanings::Estimate;
-use meanings::Refusal;
 ghost use mathlib.Core.Path.{_≡_};
 ghost use Prim.Native.Nat.{_+_, _*_, _≤_};
 ghost use lib.ListN.{length};
-ghost use Rattle.meanings.specs.Reports.{told};
 ghost use Rattle.meanings.specs.Output.{refusal-text};
 ghost use Rattle.text.specs.Written.{written};
 ghost use Rattle.text.specs.Table.{row-at, table-lines, table-text};
@@ -69,12 +66,11 @@ pub(crate) fn put_curve(
 }
 
 // A refusal: number and place.
-pub(crate) fn put_refusal(out: &mut [u8], refusal: Refusal) -> usize
-    requires { ⌜ length (refusal-text (told refusal)) ≤ length (now out) ⌝ }
-    ensures { λ _. ⌜ now (out .exit) ≡ written (now (out .entry)) 0 (refusal-text (told refusal)) ⌝ }
-    ensures { λ r. ⌜ r ≡ length (refusal-text (told refusal)) ⌝ }
+pub(crate) fn put_refusal(out: &mut [u8], number: u64, place: u64) -> usize
+    requires { ⌜ length (refusal-text (record { number = number; place = place })) ≤ length (now out) ⌝ }
+    ensures { λ _. ⌜ now (out .exit) ≡ written (now (out .entry)) 0 (refusal-text (record { number = number; place = place })) ⌝ }
+    ensures { λ r. ⌜ r ≡ length (refusal-text (record { number = number; place = place })) ⌝ }
 {
-    let report = refusal.report;
     let line = put_text(out, 0, b"refused,place\n");
-    put_pair_line(out, line, report_number(report), refusal.place as u64)
+    put_pair_line(out, line, number, place)
 }

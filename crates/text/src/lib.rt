@@ -1,4 +1,4 @@
-// The program as bytes to bytes: from a sheet to the text that the program writes.
+// The texts of the program, as bytes in a lent buffer: the curve of a sheet, and a refusal.
 mod curve;
 mod writer;
 
@@ -14,7 +14,7 @@ use sheet::read_sheet;
 ghost use mathlib.Core.Path.{_≡_};
 ghost use Prim.Native.Nat.{_*_};
 ghost use lib.ListN.{length};
-ghost use Rattle.meanings.specs.Calls.{told-writing, write, write-buffer};
+ghost use Rattle.meanings.specs.Calls.{told-writing, write, write-buffer, write-refusal-text, refusal-buffer};
 ghost use Rattle.text.specs.Written.{written};
 ghost use Rattle.text.specs.Table.{Accepted, curve-of};
 
@@ -58,8 +58,8 @@ pub(crate) fn put_accepted(
     put_swept(out, minutes, values, points, bandwidths, &mut rows[..size])
 }
 
-// Writes the curve of a sheet, or its refusal, into a buffer of 31,291 bytes, which no output exceeds. A buffer of another length is refused
-// with 8.
+// Writes the curve of a sheet into a buffer of 31,291 bytes, which no curve exceeds. A buffer of another length is refused with 8, and a
+// refused sheet with its own report; the buffer then stays as it was.
 pub fn curve_text(sheet: &[u8], out: &mut [u8]) -> Writing
     ensures { λ r. ⌜ told-writing r ≡ write (now (sheet .entry)) (now (out .entry)) ⌝ }
     ensures { λ _. ⌜ now (out .exit) ≡ write-buffer (now (sheet .entry)) (now (out .entry)) ⌝ }
@@ -81,7 +81,7 @@ pub fn curve_text(sheet: &[u8], out: &mut [u8]) -> Writing
         &mut points,
         &mut bandwidths,
     ) {
-        Reading::Unread(refusal) => Writing::Written(put_refusal(out, refusal)),
+        Reading::Unread(refusal) => Writing::Unwritten(refusal),
         Reading::Used {
             samples: n,
             points: m,
@@ -93,4 +93,19 @@ pub fn curve_text(sheet: &[u8], out: &mut [u8]) -> Writing
             &bandwidths[..m],
         )),
     }
+}
+
+// Writes the text of a refusal with this number and place into a buffer of the same length; another length is refused with 8.
+pub fn refusal_text(number: u64, place: u64, out: &mut [u8]) -> Writing
+    ensures { λ r. ⌜ told-writing r ≡ write-refusal-text number place (now (out .entry)) ⌝ }
+    ensures { λ _. ⌜ now (out .exit) ≡ refusal-buffer number place (now (out .entry)) ⌝ }
+{
+    let size = out.len();
+    if size != 31291 {
+        return Writing::Unwritten(Refusal {
+            report: Report::LengthMismatch,
+            place: 0,
+        });
+    }
+    Writing::Written(put_refusal(out, number, place))
 }

@@ -19,6 +19,7 @@ use tankcurve_abi::tankcurve_advance;
 use tankcurve_abi::tankcurve_evaluate;
 use tankcurve_abi::tankcurve_fill;
 use tankcurve_abi::tankcurve_read;
+use tankcurve_abi::tankcurve_refusal_text;
 use tankcurve_abi::tankcurve_smooth;
 use tankcurve_abi::tankcurve_text;
 use tankcurve_abi::tankcurve_window;
@@ -241,12 +242,16 @@ pub(crate) fn read_case(input: &[u8], from: usize) -> usize {
     after(input, start + n)
 }
 
-fn text_with(sheet: &[u8], out: &mut [u8]) {
-    let answer = tankcurve_text(sheet, out);
+// What a call has answered and written: a text's bytes as they are, then the rest of the buffer.
+fn show_text(answer: u64, out: &[u8]) {
     show_answer(answer);
     let n = written(answer, out.len());
     show_bytes(&out[..n]);
     show_u8(&out[n..]);
+}
+
+fn text_with(sheet: &[u8], out: &mut [u8]) {
+    show_text(tankcurve_text(sheet, out), out);
 }
 
 pub(crate) fn text_case(input: &[u8], from: usize) -> usize {
@@ -258,4 +263,18 @@ pub(crate) fn text_case(input: &[u8], from: usize) -> usize {
     let oc = at_most(o.value, 31300);
     text_with(&input[start..start + n], &mut out[..oc]);
     after(input, start + n)
+}
+
+fn refusal_text_with(number: u64, place: u64, out: &mut [u8]) {
+    show_text(tankcurve_refusal_text(number, place, out), out);
+}
+
+pub(crate) fn refusal_text_case(input: &[u8], from: usize) -> usize {
+    let mut out = [7u8; 31300];
+    let number = token(input, from);
+    let place = token(input, number.next);
+    let o = token(input, place.next);
+    let oc = at_most(o.value, 31300);
+    refusal_text_with(number.value, place.value, &mut out[..oc]);
+    o.next
 }

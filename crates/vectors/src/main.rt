@@ -22,6 +22,7 @@ fn case(input: &[u8], from: usize) -> usize {
         5 => cases::fill_case(input, at),
         6 => cases::read_case(input, at),
         7 => cases::text_case(input, at),
+        8 => cases::refusal_text_case(input, at),
         _ => at,
     }
 }

@@ -8,7 +8,7 @@ mod text;
 
 pub use read::read;
 pub use smooth::smooth;
-pub use text::text;
+pub use text::{refusal_text, text};
 
 pub(crate) use checks::smooth_fault;
 pub(crate) use smooth::value;
@@ -19,7 +19,7 @@ pub const MAX_SHEET: usize = 32_768;
 pub const MAX_OUTPUT: usize = 31_291;
 pub const MISSING: u64 = 65_536;
 
-/// "What the instrument reports", under document 01's numbers.
+/// Why a call refused, under the numbers of the instrument's reports.
 #[derive(Clone, Copy, Debug, PartialEq, Eq)]
 pub enum Report {
     TooLong = 1,

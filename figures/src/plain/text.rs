@@ -1,4 +1,4 @@
-//! The program as bytes to bytes.
+//! What the program writes, as bytes in a buffer.
 
 use super::{read, refuse, smooth, Refusal, Report, MAX_OUTPUT, MAX_POINTS, MAX_SAMPLES, MISSING};
 
@@ -69,7 +69,7 @@ fn put_curve(
     Ok(put_pair_line(out, at, minutes.len() as u64, passes))
 }
 
-/// The text that the program writes for a sheet, in front of `out`, and its length.
+/// The curve of a sheet, in front of `out`, and its length.
 #[inline(never)]
 pub fn text(sheet: &[u8], out: &mut [u8]) -> Result<usize, Refusal> {
     if out.len() != MAX_OUTPUT {
@@ -79,24 +79,28 @@ pub fn text(sheet: &[u8], out: &mut [u8]) -> Result<usize, Refusal> {
     let mut values = [0; MAX_SAMPLES];
     let mut points = [0; MAX_POINTS];
     let mut bandwidths = [0; MAX_POINTS];
-    match read(
+    let (n, m) = read(
         sheet,
         &mut minutes,
         &mut values,
         &mut points,
         &mut bandwidths,
-    ) {
-        Err(refusal) => {
-            let at = put_text(out, 0, b"refused,place\n");
-            let place = refusal.place as u64;
-            Ok(put_pair_line(out, at, refusal.report as u64, place))
-        }
-        Ok((n, m)) => put_curve(
-            out,
-            &minutes[..n],
-            &values[..n],
-            &points[..m],
-            &bandwidths[..m],
-        ),
+    )?;
+    put_curve(
+        out,
+        &minutes[..n],
+        &values[..n],
+        &points[..m],
+        &bandwidths[..m],
+    )
+}
+
+/// The text of a refusal, in front of `out`, and its length.
+#[inline(never)]
+pub fn refusal_text(number: u64, place: u64, out: &mut [u8]) -> Result<usize, Refusal> {
+    if out.len() != MAX_OUTPUT {
+        return refuse(Report::LengthMismatch, 0);
     }
+    let at = put_text(out, 0, b"refused,place\n");
+    Ok(put_pair_line(out, at, number, place))
 }

@@ -1,7 +1,12 @@
-//! Reads a sheet from standard input and writes its curve; then the estimates of lists given here, five
-//! numbers a point, and the passes.
+//! Reads a sheet from standard input and writes its curve, or why it was refused; then the estimates of
+//! lists given here, five numbers a point, and the passes.
 
 use std::io::{self, Read, Write};
+
+/// A report that this program's own lists and buffers should not earn.
+fn refused(refusal: tankcurve::Refusal) -> io::Error {
+    io::Error::other(format!("{refusal:?}"))
+}
 
 fn main() -> io::Result<()> {
     let mut sheet = Vec::new();
@@ -10,25 +15,26 @@ fn main() -> io::Result<()> {
         .take(tankcurve::MAX_SHEET as u64 + 1)
         .read_to_end(&mut sheet)?;
     let mut out = [0; tankcurve::MAX_OUTPUT];
+    let text = match tankcurve::text(&sheet, &mut out) {
+        Ok(curve) => curve,
+        Err(refusal) => tankcurve::refusal_text(refusal, &mut out).map_err(refused)?,
+    };
     let mut standard = io::stdout().lock();
-    standard.write_all(tankcurve::text(&sheet, &mut out))?;
+    standard.write_all(text)?;
 
     let minutes = [10, 20, 20, 35];
     let values = [40, 60, 80, 20];
     let points = [20, 25, 60];
     let bandwidths = [10, 15, 20];
     let mut rows = [0; 15];
-    match tankcurve::smooth(&minutes, &values, &points, &bandwidths, &mut rows) {
-        Ok(passes) => {
-            for row in rows.chunks_exact(5) {
-                writeln!(
-                    standard,
-                    "{} {} {} {} {}",
-                    row[0], row[1], row[2], row[3], row[4]
-                )?;
-            }
-            writeln!(standard, "passes {passes}")
-        }
-        Err(refusal) => writeln!(standard, "{refusal:?}"),
+    let passes =
+        tankcurve::smooth(&minutes, &values, &points, &bandwidths, &mut rows).map_err(refused)?;
+    for row in rows.chunks_exact(5) {
+        writeln!(
+            standard,
+            "{} {} {} {} {}",
+            row[0], row[1], row[2], row[3], row[4]
+        )?;
     }
+    writeln!(standard, "passes {passes}")
 }

@@ -5,9 +5,9 @@
 //! or changes what the proved calls answer. Where a length is part of a type here, [`slices`] has the
 //! same call over slices of any length.
 //!
-//! The quoted words are those of document 01. `link/include/tankcurve.h` tells what lies outside the
-//! proof; of that, safe Rust leaves the stack, the compiler's back end and the declarations in
-//! `slices`, which `tests/parameters.rs` tests.
+//! What the calls mean stands in `docs/SPECIFICATION.md`; the quoted words are the trade's.
+//! `link/include/tankcurve.h` tells what lies outside the proof; of that, safe Rust leaves the stack,
+//! the compiler's back end and the declarations in `slices`, which `tests/parameters.rs` tests.
 
 #![deny(unsafe_code)]
 
@@ -22,13 +22,13 @@ pub const MAX_POINTS: usize = 512;
 /// How many bytes a sheet may have; no place is greater.
 pub const MAX_SHEET: usize = 32_768;
 
-/// How many bytes the buffer of [`text`] has; no text is longer.
+/// How many bytes the buffer of [`text`] and of [`refusal_text`] has; no text is longer.
 pub const MAX_OUTPUT: usize = 31_291;
 
 /// The value of a row of weight 0.
 pub const MISSING: u64 = 65_536;
 
-/// "What the instrument reports", under document 01's numbers.
+/// Why a call refused, under the numbers of the instrument's reports.
 #[derive(Clone, Copy, Debug, PartialEq, Eq)]
 pub enum Report {
     /// "overlong"
@@ -230,11 +230,24 @@ pub fn read(
     Ok(Counts { samples, points })
 }
 
-/// The text that the program writes for a sheet, a refused sheet's text included: the front part of
-/// `out`, whose rest is untouched.
-pub fn text<'a>(sheet: &[u8], out: &'a mut [u8; MAX_OUTPUT]) -> &'a [u8] {
-    let length = slices::detail(slices::text(sheet, out)) as usize;
-    out.get(..length).unwrap_or_default()
+/// The curve of a sheet, as the program writes it: the front part of `out`, whose rest is untouched.
+/// Reports and places are those of [`read`]; [`refusal_text`] says them as the program does.
+pub fn text<'a>(sheet: &[u8], out: &'a mut [u8; MAX_OUTPUT]) -> Result<&'a [u8], Refusal> {
+    let length = outcome(slices::text(sheet, out))?;
+    Ok(front(out, length))
+}
+
+/// The text of a refusal, as the program writes it: the front part of `out`, whose rest is untouched.
+/// A buffer of this type earns no report.
+pub fn refusal_text(refusal: Refusal, out: &mut [u8; MAX_OUTPUT]) -> Result<&[u8], Refusal> {
+    let number = refusal.report as u64;
+    let length = outcome(slices::refusal_text(number, refusal.place, out))?;
+    Ok(front(out, length))
+}
+
+/// The first bytes of a buffer.
+fn front(out: &[u8; MAX_OUTPUT], length: u64) -> &[u8] {
+    out.get(..length as usize).unwrap_or_default()
 }
 
 /// What a call returned, as its detail or its refusal.

@@ -86,6 +86,9 @@ mod exports {
             out: *mut u8,
             out_len: usize,
         ) -> u64;
+
+        pub fn tankcurve_refusal_text(number: u64, place: u64, out: *mut u8, out_len: usize)
+            -> u64;
     }
 }
 
@@ -243,7 +246,14 @@ pub fn read(
     }
 }
 
-/// The text that the program writes for a sheet. `out`: 31,291 bytes. Detail: the bytes written.
+/// The curve of a sheet, as the program writes it. `out`: 31,291 bytes. Detail: the bytes written; of a
+/// refused sheet its number and place, and `out` is untouched.
 pub fn text(sheet: &[u8], out: &mut [u8]) -> u64 {
     unsafe { exports::tankcurve_text(sheet.as_ptr(), sheet.len(), out.as_mut_ptr(), out.len()) }
+}
+
+/// The text of a refusal with any number and place, as the program writes it. `out`: 31,291 bytes.
+/// Detail: the bytes written.
+pub fn refusal_text(number: u64, place: u64, out: &mut [u8]) -> u64 {
+    unsafe { exports::tankcurve_refusal_text(number, place, out.as_mut_ptr(), out.len()) }
 }

@@ -16,7 +16,7 @@ const TEXT: &[u8] = b"mark,half,left,right,weight,sum,vdk\n12,7,0,2,96,2112,22\n
 /// A sheet whose line at byte 52 has a minute below the one before.
 const FALLING_SHEET: &[u8] =
     b"mark,half\n12,7\n14,9\n\nminute,inj,vdk\n11,3,21\n12,1,22\n11,4,23\n30,5,24\n";
-const REFUSED: &[u8] = b"refused,place\n4,52\n";
+const FALLING_TEXT: &[u8] = b"refused,place\n4,52\n";
 
 fn refused<T>(report: Report, place: u64) -> Result<T, Refusal> {
     Err(Refusal { report, place })
@@ -50,7 +50,7 @@ fn evaluate() {
     );
 }
 
-/// Empty lists, whose pointers lead nowhere: case C4 of document 01.
+/// Empty lists, whose pointers lead nowhere: case C4, and an empty sheet.
 #[test]
 fn empty_lists() {
     let missing = Estimate {
@@ -76,8 +76,13 @@ fn empty_lists() {
         8
     );
     assert_eq!(slices::text(&[], &mut []), 8);
+    assert_eq!(slices::refusal_text(4, 52, &mut []), 8);
     let mut out = [90; tankcurve::MAX_OUTPUT];
-    assert_eq!(tankcurve::text(&[], &mut out), b"refused,place\n2,0\n");
+    assert_eq!(
+        tankcurve::text(&[], &mut out),
+        refused(Report::BadHeader, 0)
+    );
+    assert_eq!(out, [90; tankcurve::MAX_OUTPUT]);
 }
 
 #[test]
@@ -318,14 +323,66 @@ fn read() {
 #[test]
 fn text() {
     let mut out = [90; 31_291];
-    assert_eq!(slices::text(FALLING_SHEET, &mut out), 16 * 19);
-    assert_eq!((&out[..19], &out[19..]), (REFUSED, &[90; 31_272][..]));
+    assert_eq!(slices::text(FALLING_SHEET, &mut out), 16 * 52 + 4);
+    assert_eq!(out, [90; 31_291]);
     assert_eq!(slices::text(SHEET, &mut out), 16 * 94);
     assert_eq!((&out[..94], &out[94..]), (TEXT, &[90; 31_197][..]));
+    // Another length comes before what a sheet is refused for.
     let mut long = [90; 31_292];
-    assert_eq!(slices::text(SHEET, &mut long), 8);
+    for sheet in [SHEET, FALLING_SHEET] {
+        assert_eq!(slices::text(sheet, &mut long), 8);
+        assert_eq!(slices::text(sheet, &mut long[..31_290]), 8);
+    }
     assert_eq!(long, [90; 31_292]);
 
-    assert_eq!(tankcurve::text(FALLING_SHEET, &mut out), REFUSED);
-    assert_eq!(tankcurve::text(SHEET, &mut out), TEXT);
+    let mut typed = [90; 31_291];
+    assert_eq!(
+        tankcurve::text(FALLING_SHEET, &mut typed),
+        refused(Report::SampleOutOfOrder, 52)
+    );
+    assert_eq!(typed, [90; 31_291]);
+    assert_eq!(tankcurve::text(SHEET, &mut typed), Ok(TEXT));
+    assert_eq!(typed, out);
+}
+
+#[test]
+fn refusal_text() {
+    let mut out = [90; 31_291];
+    assert_eq!(slices::refusal_text(4, 52, &mut out), 16 * 19);
+    assert_eq!((&out[..19], &out[19..]), (FALLING_TEXT, &[90; 31_272][..]));
+    let mut long = [90; 31_292];
+    assert_eq!(slices::refusal_text(4, 52, &mut long), 8);
+    assert_eq!(slices::refusal_text(4, 52, &mut long[..31_290]), 8);
+    assert_eq!(long, [90; 31_292]);
+
+    // Numbers that no call reports, and every digit of 64 bits.
+    let mut wide = [90; 31_291];
+    let written = b"refused,place\n18446744073709551615,9876543210\n";
+    assert_eq!(
+        slices::refusal_text(u64::MAX, 9_876_543_210, &mut wide),
+        16 * 46
+    );
+    assert_eq!(
+        (&wide[..46], &wide[46..]),
+        (&written[..], &[90; 31_245][..])
+    );
+
+    let mut typed = [90; 31_291];
+    let refusal = Refusal {
+        report: Report::SampleOutOfOrder,
+        place: 52,
+    };
+    assert_eq!(
+        tankcurve::refusal_text(refusal, &mut typed),
+        Ok(FALLING_TEXT)
+    );
+    assert_eq!(typed, out);
+    let refusal = Refusal {
+        report: Report::GridOverflow,
+        place: u64::MAX,
+    };
+    assert_eq!(
+        tankcurve::refusal_text(refusal, &mut typed),
+        Ok(&b"refused,place\n13,18446744073709551615\n"[..])
+    );
 }

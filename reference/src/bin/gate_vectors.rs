@@ -7,8 +7,8 @@
 //!
 //! # Calls
 //!
-//! Numbers and slices only. The words on the right are document 01's; lent
-//! lists are starred.
+//! Numbers and slices only. The words on the right are those of
+//! docs/SPECIFICATION.md; lent lists are starred.
 //!
 //! ```text
 //! 1 evaluate(minutes, values, point, bandwidth, row*)      the question at one mark: its row
@@ -17,7 +17,8 @@
 //! 4 smooth(minutes, values, points, bandwidths, rows*)     the sweep
 //! 5 fill(first, spacing, preset, points*, bandwidths*)     the mark filler
 //! 6 read(sheet, minutes*, values*, points*, bandwidths*, counts*)   the reader
-//! 7 text(sheet, out*)                                      the program, bytes to bytes
+//! 7 text(sheet, out*)                                      the curve that the program writes
+//! 8 refusal_text(number, place, out*)                      the refusal that the program writes
 //! ```
 //!
 //! An answer is a number and a detail. Number 0 is accepted, with the passes
@@ -25,8 +26,8 @@
 //! its place. The row has exactly 5 numbers, bounds 2 (left and right), the
 //! record 8 (left, right and the six sums), counts 2 (kept readings and marks),
 //! out 31,291 bytes. Another length of these is report 8 at place 0, before any
-//! other. A refused sheet's text is written, so the call that writes it
-//! accepts.
+//! other. A refused sheet has no curve: call 7 then answers with the sheet's
+//! report, and call 8 writes the text of any number and place.
 //!
 //! # Standard input
 //!
@@ -42,6 +43,7 @@
 //! 5 first spacing preset length-of-points length-of-bandwidths
 //! 6 length-of-minutes -values -points -bandwidths -counts size-of-sheet
 //! 7 length-of-out size-of-sheet
+//! 8 number place length-of-out
 //! ```
 //!
 //! The bytes of a sheet stand as they are behind the line of calls 6 and 7,
@@ -55,35 +57,39 @@
 //! call, whole, a line each. A list is written as runs of equal elements, each
 //! `VALUE` or, for more than one, `VALUE*COUNT`, and a space behind each run.
 //! Before the call a lent list holds 7 everywhere, except the record, which the
-//! case gives. For an accepted text the bytes written stand as they are before
-//! the line of out's other bytes.
+//! case gives. For an accepted call 7 or 8 the bytes written stand as they are
+//! before the line of out's other bytes.
 
-use reference::{fill, one_mark, one_mark_run, program, read, step, sweep, Record, Refusal, KNOB};
-use std::collections::{BTreeMap, BTreeSet};
+use reference::{
+    fill, one_mark, one_mark_run, read, refusal_text, step, sweep, text, Record, Refusal, KNOB,
+    MOST_OUTPUT,
+};
+use std::collections::BTreeMap;
 use std::io::Write as _;
 
 /// The most bytes of standard input.
 const MOST_STDIN: usize = 500_000;
 
 /// The bytes of out.
-const OUT: usize = 31_291;
+const OUT: usize = MOST_OUTPUT;
+
+/// The most bytes of out in a case.
+const MOST_OUT: usize = 31_300;
 
 /// The reader's five lengths.
 const READER: [usize; 5] = [1024, 1024, 512, 512, 2];
 
 /// What each call can answer.
-const REPORTS: [&[u64]; 7] = [
+const REPORTS: [&[u64]; 8] = [
     &[8, 6, 4, 9, 0],
     &[8, 6, 4, 9, 0],
     &[8, 6, 11, 9, 0],
     &[8, 6, 7, 4, 5, 9, 10, 0],
     &[8, 7, 6, 12, 13, 0],
     &[8, 1, 2, 3, 4, 5, 9, 10, 6, 7, 0],
+    &[8, 1, 2, 3, 4, 5, 9, 10, 6, 7, 0],
     &[8, 0],
 ];
-
-/// The reports that a sheet can earn.
-const SHEET_REPORTS: [u64; 9] = [1, 2, 3, 4, 5, 6, 7, 9, 10];
 
 // ------------------------------------------------------------- the two files
 
@@ -147,7 +153,7 @@ fn runs(list: &[u64]) -> String {
     line + "\n"
 }
 
-/// "uneven | list lengths don't agree | 0", for a list of a fixed length.
+/// Report 8 of a list that has one length only.
 fn sized(length: usize, wanted: usize) -> Result<(), Refusal> {
     if length == wanted {
         Ok(())
@@ -167,8 +173,6 @@ struct Cases {
     stdout: Vec<u8>,
     /// How often each call gave each number.
     told: BTreeMap<(u64, u64), usize>,
-    /// The reports among the texts.
-    refused_texts: BTreeSet<u64>,
 }
 
 impl Cases {
@@ -353,21 +357,24 @@ impl Cases {
     }
 
     fn text(&mut self, sheet: &[u8], out: usize) -> Answer {
-        self.case(&[7, length(out, 31_300), sheet.len() as u64]);
+        self.case(&[7, length(out, MOST_OUT), sheet.len() as u64]);
         self.sheet_bytes(sheet);
-        let text = program(sheet);
-        assert!(text.len() <= OUT);
-        if sized(out, OUT).is_err() {
-            let result = sized(out, OUT).map(|()| 0);
-            return self.answer(7, result, b"", vec![vec![7; out]]);
-        }
-        if let Some(report) = text.strip_prefix(b"refused,place\n") {
-            let digits = report.split(|&b| b == b',').next().unwrap_or(b"");
-            let number = String::from_utf8_lossy(digits).parse::<u64>();
-            self.refused_texts.extend(number.ok());
-        }
-        let rest = vec![7; OUT - text.len()];
-        self.answer(7, Ok(text.len() as u64), &text, vec![rest])
+        let mut list = vec![7; out];
+        let result = text(sheet, &mut list);
+        self.written(7, result, &list)
+    }
+
+    fn refusal_text(&mut self, number: u64, place: u64, out: usize) -> Answer {
+        self.case(&[8, number, place, length(out, MOST_OUT)]);
+        let mut list = vec![7; out];
+        let result = refusal_text(number, place, &mut list);
+        self.written(8, result, &list)
+    }
+
+    /// The answer of a call that writes bytes to the front of out.
+    fn written(&mut self, call: u64, result: Result<usize, Refusal>, out: &[u8]) -> Answer {
+        let (front, rest) = out.split_at(result.unwrap_or(0));
+        self.answer(call, result.map(|n| n as u64), front, vec![wide(rest)])
     }
 
     /// Both calls at one mark; gives the row's answer.
@@ -393,34 +400,44 @@ impl Cases {
         record
     }
 
-    /// A sheet read, and its text; gives the reader's answer.
+    /// A sheet read, and its text; gives the reader's answer. The text is
+    /// refused as the reader refuses.
     fn sheet(&mut self, sheet: &[u8]) -> Answer {
-        self.text(sheet, OUT);
-        self.read(sheet, READER)
+        let text = self.text(sheet, OUT);
+        let answer = self.read(sheet, READER);
+        assert_eq!(text.number, answer.number);
+        if answer.number != 0 {
+            text.refused(answer.number, answer.detail);
+        }
+        answer
     }
 
     fn whole_stdin(&self) -> Vec<u8> {
         [format!("{}\n", self.count).as_bytes(), &self.stdin].concat()
     }
 
-    /// Each report of each call occurs at least twice and no other one, each
-    /// report of a sheet occurs as a text, and the input is short enough.
+    /// Each report of each call occurs at least twice and no other one, and the
+    /// input is short enough. Report 1 of a text occurs once: its sheet has
+    /// 32,769 bytes.
     fn check(&self) {
         for (call, reports) in (1..).zip(REPORTS) {
             for &number in reports {
                 let times = self.told.get(&(call, number)).copied().unwrap_or(0);
-                assert!(times >= 2, "call {call}, number {number}: {times} cases");
+                let least = if (call, number) == (7, 1) { 1 } else { 2 };
+                assert!(
+                    times >= least,
+                    "call {call}, number {number}: {times} cases"
+                );
             }
             let seen = self.told.keys().filter(|key| key.0 == call).count();
             assert_eq!(seen, reports.len(), "call {call} gives another number");
         }
-        assert_eq!(self.refused_texts, BTreeSet::from(SHEET_REPORTS));
         let size = self.whole_stdin().len();
         assert!(size <= MOST_STDIN, "{size} bytes of standard input");
     }
 }
 
-// --------------------------------------------------------------- document 01
+// ------------------------------------------------------- the published cases
 
 const FRESH: [u64; 8] = [0; 8];
 
@@ -431,9 +448,10 @@ const SHEET: &[u8] = b"mark,half\n20,10\n25,15\n60,20\n\nminute,inj,vdk\n\
 
 const C12: &[u8] = b"mark,half\n20,10\n21,12\n";
 
-/// The rows, sheets and tables of document 01.
+/// The cases C1 to C12, the published sheet, and what the specification says
+/// of single numbers.
 #[rustfmt::skip]
-fn document(cases: &mut Cases) {
+fn published(cases: &mut Cases) {
     let (m, v) = ([10, 20, 20, 35], [40, 60, 80, 20]);
 
     // C1, C2, C3: at one mark, as steps, as a sweep.
@@ -723,6 +741,9 @@ fn sheet_cases(cases: &mut Cases) {
         ("mark,half\n20,1:\n\n", 3, 10),
         ("mark,half\n20,1/\n\n", 3, 10),
         ("mark,half\n 20,1\n\n", 3, 10),
+        // A carriage return or a blank where the empty line belongs.
+        ("mark,half\n20,10\n\r\nminute,inj,vdk\n", 3, 16),
+        ("mark,half\n20,10\n \nminute,inj,vdk\n", 3, 16),
         // Marks and half widths.
         ("mark,half\n20,10\n19,10\n", 5, 16),
         ("mark,half\n20,10\n19,0\n", 5, 16),
@@ -732,6 +753,8 @@ fn sheet_cases(cases: &mut Cases) {
         ("mark,half\n20,99999\n", 9, 10),
         ("mark,half\n20,10\n20,9\n", 10, 16),
         ("mark,half\n20,10\n21,8\n\nminute,inj,vdk\n", 10, 16),
+        // A left edge below 0 that falls.
+        ("mark,half\n5,10\n6,12\n\nminute,inj,vdk\n", 10, 15),
         ("mark,half\n\nnothing else", 7, 10),
         ("mark,half\n\nminute,inj,vdk\n", 7, 10),
         // Readings.
@@ -892,6 +915,9 @@ fn order(cases: &mut Cases) {
     ] {
         let sheet = format!("mark,half\n{}{line}", "5,2\n".repeat(512));
         cases.read(sheet.as_bytes(), READER).refused(number, 2058);
+        if number == 6 {
+            cases.text(sheet.as_bytes(), OUT).refused(number, 2058);
+        }
     }
     // Within a line 3, 4; that 4 comes before 6 is among the sheets at the
     // limits.
@@ -910,6 +936,28 @@ fn order(cases: &mut Cases) {
     // No marks before anything of the second names line.
     cases.read(b"mark,half\n\n", READER).refused(7, 10);
     cases.read(b"mark,half\n\nx", READER).refused(7, 10);
+}
+
+// ---------------------------------------------------- the texts of refusals
+
+/// Numbers and places of every count of digits, a sheet's reports among them.
+#[rustfmt::skip]
+fn refusal_texts(cases: &mut Cases) {
+    let size = |number: u64, place: u64| 16 + (number.to_string().len() + place.to_string().len()) as u64;
+    for (number, place) in [
+        (0, 0), (0, 1), (1, 0), (1, 1), (2, 0), (10, 16), (1, 32_768), (13, 0), (0, !0), (!0, 0), (1, !0), (!0, 1),
+        (!0, !0), (!0 - 1, 1 << 63), (9, 10), (10, 9), (99, 100), (7, u64::from(u32::MAX)), (1 << 32, 7),
+    ] {
+        let answer = cases.refusal_text(number, place, OUT);
+        assert_eq!((answer.number, answer.detail), (0, size(number, place)));
+    }
+    // A one and zeros, and nines, one of each count of digits.
+    for digits in 1..20 {
+        let power = 10u64.pow(digits);
+        cases.refusal_text(power, power - 1, OUT);
+    }
+    // Each digit, 0 inside and at the end.
+    cases.refusal_text(1_234_567_890, 9_080_706_050_403_020_100, OUT);
 }
 
 // ------------------------------------------------------ lengths of lent lists
@@ -974,6 +1022,9 @@ fn lengths(cases: &mut Cases) {
     for out in [OUT - 1, OUT + 1, 0, 115, 31_300] {
         for sheet in [SHEET, C12, b""] {
             cases.text(sheet, out).refused(8, 0);
+        }
+        for (number, place) in [(10, 16), (0, 0), (!0, !0)] {
+            cases.refusal_text(number, place, out).refused(8, 0);
         }
     }
 }
@@ -1411,9 +1462,16 @@ fn random_text(dice: &mut Dice, cases: &mut Cases) {
     cases.text(&sheet, OUT);
 }
 
+/// A number and a place of any size.
+fn random_refusal_text(dice: &mut Dice, cases: &mut Cases) {
+    let number = dice.next() >> dice.below(64);
+    let place = dice.next() >> dice.below(64);
+    cases.refusal_text(number, place, OUT);
+}
+
 fn random(cases: &mut Cases) {
     let mut dice = Dice(1);
-    let kinds: [(usize, fn(&mut Dice, &mut Cases)); 7] = [
+    let kinds: [(usize, fn(&mut Dice, &mut Cases)); 8] = [
         (70, random_one_mark),
         (40, random_step),
         (10, random_steps),
@@ -1421,6 +1479,7 @@ fn random(cases: &mut Cases) {
         (50, random_fill),
         (60, random_read),
         (60, random_text),
+        (15, random_refusal_text),
     ];
     for (times, make) in kinds {
         for _ in 0..times {
@@ -1431,12 +1490,13 @@ fn random(cases: &mut Cases) {
 
 fn main() -> std::io::Result<()> {
     let mut cases = Cases::default();
-    document(&mut cases);
+    published(&mut cases);
     one_mark_cases(&mut cases);
     sweep_cases(&mut cases);
     filler_cases(&mut cases);
     sheet_cases(&mut cases);
     order(&mut cases);
+    refusal_texts(&mut cases);
     lengths(&mut cases);
     random(&mut cases);
     cases.check();

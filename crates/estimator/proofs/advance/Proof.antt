@@ -1,4 +1,4 @@
--- A refusal is the check's, told in document 01's numbers; where there is none the record's edges lie within the readings, and the step is
+-- A refusal is the check's, told by number and place; where there is none the record's edges lie within the readings, and the step is
 -- the meaning's.
 use mathlib.Core.Path.{ap}
 use borrow.Author.Needs.{needs}

@@ -1,4 +1,4 @@
--- A refusal is the check's, told in document 01's numbers; where there is none the readings are accepted, and the row is the meaning's.
+-- A refusal is the check's, told by number and place; where there is none the readings are accepted, and the row is the meaning's.
 use mathlib.Core.Path.{_≡_, sym, ap}
 use borrow.Author.Needs.{needs}
 use Rattle.meanings.specs.Reports.{given, evaluate-checks}

@@ -1,7 +1,5 @@
--- The buffer has the right length, so the call never refuses it, and its front is the whole output.
-use mathlib.Core.Path.{sym, ap, _∙_}
-use Rattle.meanings.specs.Calls.{told-writing}
-use Rattle.tankcurve.proofs.FullBuffer.{never-unwritten, whole-output}
+-- The buffer has the right length: the curve, or the text of the sheet's report, is the whole output, and it stands at the front.
+use Rattle.tankcurve.proofs.FullBuffer.{curve-front, curve-length, refusal-is-written, program-front, program-length}
 use borrow.Author.Needs.{needs}
 use Rattle.tankcurve.proofs.answer.Statement.{statement}
 use Rattle.tankcurve.proofs.answer.Tie as tie
@@ -12,20 +10,23 @@ curve-text-requires c κs = search needs
 enum-known-n : tie.Need-enum-known-n
 enum-known-n c = search needs
 
-enum-told : tie.Need-enum-told
-enum-told c = search needs
+enum-known-refusal : tie.Need-enum-known-refusal
+enum-known-refusal c = search needs
+
+refuse-requires : tie.Need-refuse-requires
+refuse-requires c κs = search needs
 
 same-length : tie.Need-same-length
 same-length c = search needs
 
 returns : tie.Need-returns
-returns c = whole-output (c .before .before .before .before .before .before .before .before .before .args .sheet .now) (c .before .before .before .before .before .before .before .before .before .args .out .now) (c .before .before .before .before .before .before .before .before .before .pre) (c .before .n .given .0 .0) (c .before .before .before .before .before .curve-text .last .1 .0) (sym (ap told-writing (c .before .n .given .1)) ∙ c .before .before .before .before .before .curve-text .ensures .0) (c .before .before .before .before .before .curve-text .ensures .1)
+returns c = (search curve-front, search curve-length)
 
 same-length-2 : tie.Need-same-length-2
 same-length-2 c = search needs
 
 returns-2 : tie.Need-returns-2
-returns-2 c = absurd (never-unwritten (c .before .before .before .before .before .before .before .before .args .sheet .now) (c .before .before .before .before .before .before .before .before .args .out .now) (c .before .before .before .before .before .before .before .before .pre) _ (sym (ap told-writing (c .enum-told .given .1)) ∙ c .before .before .before .before .curve-text .ensures .0))
+returns-2 c = (search (program-front, refusal-is-written), search (program-length, refusal-is-written))
 
 pub answer-spec : {M : Type 1} → statement M
 answer-spec =
@@ -33,7 +34,8 @@ answer-spec =
     (tie.spec
     curve-text-requires
     enum-known-n
-    enum-told
+    enum-known-refusal
+    refuse-requires
     same-length
     returns
     same-length-2

@@ -1,11 +1,7 @@
--- The call below, its answer as one number: a text has at most 31,291 bytes.
-use mathlib.Core.Path.{_≡_, sym, ap, _∙_}
-use Prim.Native.Nat.{ℕ}
+-- The call below, its answer as one number: a place is at most 32,768, and a curve has at most 31,291 bytes.
+use Prim.Native.Nat.{_≤_}
 use native.Mathlib.Omega.{arith}
-use Rattle.meanings.specs.Reports.{told}
-use Rattle.meanings.specs.Calls.{told-writing, write}
-use Rattle.tankcurve_abi.specs.Answers.{answered}
-use Rattle.tankcurve_abi.proofs.Places.{told-place, write-place, size-small}
+use Rattle.tankcurve_abi.proofs.Texts.{text-place, text-size, text-refused, text-written}
 use borrow.Author.Needs.{needs}
 use Rattle.tankcurve_abi.proofs.tankcurve_text.Statement.{statement}
 use Rattle.tankcurve_abi.proofs.tankcurve_text.Tie as tie
@@ -17,35 +13,25 @@ enum-known-refusal : tie.Need-enum-known-refusal
 enum-known-refusal c = search needs
 
 refusal-code-requires : tie.Need-refusal-code-requires
-refusal-code-requires c κs =
-    let a = c .before .before .before .before .before .before .before .before .before .args in
-    told-place (write (a .sheet .now) (a .out .now)) (told (c .before .refusal .given .0 .0)) (sym (ap told-writing (c .before .refusal .given .1)) ∙ c .before .before .before .before .before .curve-text .ensures .0)
-    (write-place (a .sheet .now) (a .out .now))
+refusal-code-requires c κs = search text-place
 
 enum-known-size : tie.Need-enum-known-size
 enum-known-size c = search needs
 
 mul-result : tie.Need-mul-result
-mul-result c =
-    let a = c .before .before .before .before .before .before .before .before .before .args in
-    let l = size-small (a .sheet .now) (a .out .now) (c .before .size .given .0 .0) (sym (c .before .before .before .before .before .curve-text .ensures .0) ∙ ap told-writing (c .before .size .given .1)) in
-    omega arith
+mul-result c = let few : c .before .size .given .0 .0 ≤ 31291 = search text-size in omega arith
 
 same-length : tie.Need-same-length
 same-length c = search needs
 
 returns : tie.Need-returns
-returns c =
-    let q = sym (ap told-writing (c .before .before .refusal .given .1)) ∙ c .before .before .before .before .before .before .curve-text .ensures .0 in
-    (c .refusal-code .ensures ∙ ap (answered (λ (n : ℕ). n)) q, c .before .before .before .before .before .before .curve-text .ensures .1)
+returns c = (search text-refused, search needs)
 
 same-length-2 : tie.Need-same-length-2
 same-length-2 c = search needs
 
 returns-2 : tie.Need-returns-2
-returns-2 c =
-    let q = sym (ap told-writing (c .before .size .given .1)) ∙ c .before .before .before .before .before .curve-text .ensures .0 in
-    (ap (answered (λ (n : ℕ). n)) q, c .before .before .before .before .before .curve-text .ensures .1)
+returns-2 c = (search text-written, search needs)
 
 pub tankcurve-text-spec : {M : Type 1} → statement M
 tankcurve-text-spec =

@@ -1,4 +1,4 @@
--- The checks are made in document 01's order, each after those before it have found nothing.
+-- The checks are made in the order of a mark line, 5, 9, 10, 6, each after those before it have found nothing.
 use mathlib.Core.Path.{sym}
 use borrow.Author.Tests.{le-leb, lt-leb}
 use lib.Seq.{length-take-le}

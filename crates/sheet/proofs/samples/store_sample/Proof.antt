@@ -1,4 +1,4 @@
--- The checks are made in document 01's order; what is kept is stored just behind the readings before, and a line that is not kept leaves
+-- The checks are made in the order of a reading line, 4, 6; what is kept is stored just behind the readings before, and a line that is not kept leaves
 -- them as they are.
 use mathlib.Core.Path.{_≡_, sym, ap, _∙_}
 use mathlib.Core.Option.{none, some}

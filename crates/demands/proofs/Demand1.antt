@@ -1,0 +1,330 @@
+-- Demand 1. A call's contract equates its answer with the call's meaning, whose list of checks finds just the listed conditions; each lent list
+-- at exit is what it was wherever that list finds one. That the code ends on every input is the proof of each function itself.
+use Prim.Native.Nat.{ℕ, _+_, _*_, _≤_}
+use mathlib.Core.Path.{_≡_, refl, sym, ap, _∙_}
+use mathlib.Core.Logic.{_⊎_, inl, inr}
+use mathlib.Core.List.{List, [], _∷_, _++_}
+use mathlib.Core.Option.{Option, none, some}
+use native.Mathlib.Omega.{arith}
+use denote.Ref.{RefT}
+use lib.ListN.{length, getD, drop, replicate}
+use Rattle.meanings.specs.declared.RunningSums.{RunningSums}
+use Rattle.meanings.specs.declared.Evaluation.{Evaluation}
+use Rattle.meanings.specs.declared.Advance.{Advance}
+use Rattle.meanings.specs.declared.Smoothing.{Smoothing}
+use Rattle.meanings.specs.declared.Filling.{Filling}
+use Rattle.meanings.specs.declared.Reading.{Reading}
+use Rattle.meanings.specs.declared.Writing.{Writing}
+use Rattle.meanings.specs.Limits.{full}
+use Rattle.meanings.specs.Moves.{moves}
+use Rattle.meanings.specs.Reports.{Fault, Answer, given, refused, unless, accepted-or, Check, first-of, evaluate-checks, advance-checks, smooth-checks, fill-checks, read-checks, buffer-checks}
+use Rattle.meanings.specs.Estimate.{estimate, run-of, left-of, fields, rows}
+use Rattle.meanings.specs.Running.{fresh, moved, advance, passes}
+use Rattle.meanings.specs.Grid.{presets, grid}
+use Rattle.meanings.specs.Claim.{refusal}
+use Rattle.meanings.specs.Sheet.{Contents, Outcome, or-next, read-sheet}
+use Rattle.meanings.specs.SheetForm.{Refused}
+use Rattle.meanings.specs.Output.{curve-text, refusal-text}
+use Rattle.meanings.specs.Calls.{told-evaluation, told-advance, told-smoothing, told-filling, told-reading, told-writing, evaluate, window, window-start, smooth, smooth-rows, fill, fill-points, fill-bandwidths, read, counts, filled-front, write, write-buffer, curve-size, write-refusal-text, refusal-buffer}
+use Rattle.tankcurve_abi.specs.Answers.{answered, untold, sized, stored, bounds, count-numbers, record-numbers, record-of}
+use Rattle.estimator.proofs.evaluate.Met as evaluate-met
+use Rattle.estimator.proofs.window.Met as window-met
+use Rattle.estimator.proofs.advance.Met as advance-met
+use Rattle.estimator.proofs.smooth.Met as smooth-met
+use Rattle.grid.proofs.fill_grid.Met as fill-grid-met
+use Rattle.sheet.proofs.read_sheet.Met as read-sheet-met
+use Rattle.text.proofs.curve_text.Met as curve-text-met
+use Rattle.text.proofs.refusal_text.Met as refusal-text-met
+use Rattle.tankcurve_abi.proofs.tankcurve_evaluate.Met as exported-evaluate-met
+use Rattle.tankcurve_abi.proofs.tankcurve_window.Met as exported-window-met
+use Rattle.tankcurve_abi.proofs.tankcurve_advance.Met as exported-advance-met
+use Rattle.tankcurve_abi.proofs.tankcurve_smooth.Met as exported-smooth-met
+use Rattle.tankcurve_abi.proofs.tankcurve_fill.Met as exported-fill-met
+use Rattle.tankcurve_abi.proofs.tankcurve_read.Met as exported-read-met
+use Rattle.tankcurve_abi.proofs.tankcurve_text.Met as exported-text-met
+use Rattle.tankcurve_abi.proofs.tankcurve_refusal_text.Met as exported-refusal-text-met
+use Rattle.demands.specs.Calls.{Place, EveryInputTaken, EvaluateCall, WindowCall, AdvanceCall, SmoothCall, FillCall, ReadCall, TextCall, RefusalTextCall, ExportedEvaluate, ExportedWindow, ExportedAdvance, ExportedSmooth, ExportedFill, ExportedRead, ExportedText, ExportedRefusalText}
+use Rattle.demands.specs.Conditions.{Conditions, RefusedExactly, NoFault, FirstFault, FirstOrElse, evaluate-conditions, advance-conditions, smooth-conditions, fill-conditions, read-conditions, buffer-conditions, length-first, code-refusal}
+use Rattle.demands.specs.Demands.{RefusedAndStays}
+use Rattle.demands.proofs.FirstFaults.{FindAll, refused-exactly}
+use Rattle.demands.proofs.CallChecks.{evaluate-finds, advance-finds, smooth-finds, fill-finds, read-finds, buffer-finds}
+use Rattle.demands.proofs.Refusals.{refusal-is-first, decided-exactly, decided-stays, sheet-exactly, length-check, length-first-finds, sized-is-checked, sized-sheet-is-checked, stored-stays, Numbered, first-numbered, first-or-else-numbered, exported-refusal, exported-stays, counts-refused, size-refused, front-stays}
+
+pub every-input : EveryInputTaken
+every-input = record {
+  evaluate-ends = evaluate-met.met;
+  evaluate-asks-nothing = λ κs a. tt;
+  window-ends = window-met.met;
+  window-asks-nothing = λ κs a. tt;
+  advance-ends = advance-met.met;
+  advance-asks-nothing = λ κs a. tt;
+  smooth-ends = smooth-met.met;
+  smooth-asks-nothing = λ κs a. tt;
+  fill-ends = fill-grid-met.met;
+  fill-asks-nothing = λ κs a. tt;
+  read-ends = read-sheet-met.met;
+  read-asks-nothing = λ κs a. tt;
+  text-ends = curve-text-met.met;
+  text-asks-nothing = λ κs a. tt;
+  refusal-text-ends = refusal-text-met.met;
+  refusal-text-asks-nothing = λ κs a. tt;
+  exported-evaluate-ends = exported-evaluate-met.met;
+  exported-evaluate-asks-nothing = λ κs a. tt;
+  exported-window-ends = exported-window-met.met;
+  exported-window-asks-nothing = λ κs a. tt;
+  exported-advance-ends = exported-advance-met.met;
+  exported-advance-asks-nothing = λ κs a. tt;
+  exported-smooth-ends = exported-smooth-met.met;
+  exported-smooth-asks-nothing = λ κs a. tt;
+  exported-fill-ends = exported-fill-met.met;
+  exported-fill-asks-nothing = λ κs a. tt;
+  exported-read-ends = exported-read-met.met;
+  exported-read-asks-nothing = λ κs a. tt;
+  exported-text-ends = exported-text-met.met;
+  exported-text-asks-nothing = λ κs a. tt;
+  exported-refusal-text-ends = exported-refusal-text-met.met;
+  exported-refusal-text-asks-nothing = λ κs a. tt;
+}
+
+pub evaluate-refused : (ts vs : List ℕ) (z h : ℕ) (a : Evaluation) → EvaluateCall ts vs z h a
+    → RefusedExactly (refusal (told-evaluation a)) (FirstFault (evaluate-conditions ts vs h))
+unfolding evaluate
+evaluate-refused ts vs z h a c = decided-exactly (estimate ts vs z h) (evaluate-finds ts vs h) (c .ensured)
+
+pub window-refused : (ts vs : List ℕ) (z h : ℕ) (values-at : Place) (part : RefT (List ℕ)) → WindowCall ts vs z h values-at part
+    → (n p : ℕ) → FirstFault (evaluate-conditions ts vs h) n p
+    → (part .now ≡ []) × (part .ptr .0 ≡ values-at .ptr .0) × (part .ptr .1 ≡ values-at .ptr .1)
+unfolding window window-start
+window-refused ts vs z h values-at part c n p f =
+    let e = refused-exactly (evaluate-finds ts vs h) .refused n p .1 f in
+    let start : part .ptr .1 ≡ values-at .ptr .1 + 0 = rw e at (c .ensured .1 .1) in
+    (c .ensured .0 ∙ ap (λ (o : Option Fault). accepted-or o (run-of ts vs z h) []) e, c .ensured .1 .0, omega arith)
+
+pub advance-refused : (r : RunningSums) (ts vs : List ℕ) (z h : ℕ) (a : Advance) → AdvanceCall r ts vs z h a
+    → RefusedExactly (refusal (told-advance a)) (FirstFault (advance-conditions ts vs (r .left) (r .right) h))
+unfolding advance
+advance-refused r ts vs z h a c =
+    decided-exactly (moved ts vs r z h) (advance-finds ts vs (r .left) (r .right) h) (c .ensured)
+
+pub smooth-refused : (ts vs zs hs rs : List ℕ) (a : Smoothing) (rs′ : List ℕ) → SmoothCall ts vs zs hs rs a rs′
+    → RefusedAndStays (refusal (told-smoothing a)) (FirstFault (smooth-conditions ts vs zs hs (length rs))) (rs′ ≡ rs)
+unfolding smooth smooth-rows
+smooth-refused ts vs zs hs rs a rs′ c = record {
+  exactly = decided-exactly (passes ts vs fresh (moves zs hs)) (smooth-finds ts vs zs hs (length rs)) (c .ensured .0);
+  stays =
+      decided-stays (passes ts vs fresh (moves zs hs)) (smooth-finds ts vs zs hs (length rs)) (c .ensured .0)
+      (rows ts vs zs hs (length zs)) rs rs′ (c .ensured .1);
+}
+
+pub fill-refused : (z₀ spacing preset : ℕ) (zs hs : List ℕ) (a : Filling) (zs′ hs′ : List ℕ) → FillCall z₀ spacing preset zs hs a zs′ hs′
+    → RefusedAndStays (refusal (told-filling a)) (FirstFault (fill-conditions z₀ spacing preset zs hs)) ((zs′ ≡ zs) × (hs′ ≡ hs))
+unfolding fill fill-points fill-bandwidths
+fill-refused z₀ spacing preset zs hs a zs′ hs′ c =
+    let finds = fill-finds z₀ spacing preset zs hs in
+    record {
+      exactly = decided-exactly tt finds (c .ensured .0);
+      stays = λ e q. (
+        decided-stays tt finds (c .ensured .0) (grid z₀ spacing (length zs)) zs zs′ (c .ensured .1 .0) e q,
+        decided-stays tt finds (c .ensured .0) (replicate (length hs) (getD presets preset 0)) hs hs′ (c .ensured .1 .1) e q,
+      );
+    }
+
+pub read-refused : (s ts vs zs hs : List ℕ) (a : Reading) (ts′ vs′ zs′ hs′ : List ℕ) → ReadCall s ts vs zs hs a ts′ vs′ zs′ hs′
+    → RefusedAndStays (refusal (told-reading a)) (FirstOrElse (read-conditions ts vs zs hs) (Refused full s))
+    ((ts′ ≡ ts) × (vs′ ≡ vs) × (zs′ ≡ zs) × (hs′ ≡ hs))
+unfolding read
+read-refused s ts vs zs hs a ts′ vs′ zs′ hs′ c =
+    let o = read full s ts vs zs hs in
+    let same : refusal (told-reading a) ≡ refusal o = ap refusal (c .ensured .0) ∙ counts-refused o in
+    record {
+      exactly = rw same (sheet-exactly (read-finds ts vs zs hs) s);
+      stays = λ e q.
+          let r = sym same ∙ q in (
+            c .ensured .1 .0 ∙ front-stays o _ ts e r,
+            c .ensured .1 .1 .0 ∙ front-stays o _ vs e r,
+            c .ensured .1 .1 .1 .0 ∙ front-stays o _ zs e r,
+            c .ensured .1 .1 .1 .1 ∙ front-stays o _ hs e r,
+          );
+    }
+
+pub text-refused : (s out : List ℕ) (a : Writing) (out′ : List ℕ) → TextCall s out a out′
+    → RefusedAndStays (refusal (told-writing a)) (FirstOrElse (buffer-conditions out) (Refused full s)) (out′ ≡ out)
+unfolding write write-buffer
+text-refused s out a out′ c =
+    let o = or-next (first-of (buffer-checks (length out))) (read-sheet full s) in
+    let same : refusal (told-writing a) ≡ refusal o = ap refusal (c .ensured .0) ∙ size-refused o in
+    record {
+      exactly = rw same (sheet-exactly (buffer-finds out) s);
+      stays = λ e q. c .ensured .1 ∙ front-stays o curve-text out e (sym same ∙ q);
+    }
+
+pub refusal-text-refused : (n p : ℕ) (out : List ℕ) (a : Writing) (out′ : List ℕ) → RefusalTextCall n p out a out′
+    → RefusedAndStays (refusal (told-writing a)) (FirstFault (buffer-conditions out)) (out′ ≡ out)
+unfolding write-refusal-text refusal-buffer
+refusal-text-refused n p out a out′ c =
+    let t = refusal-text (record { number = n; place = p }) in
+    record {
+      exactly = decided-exactly (length t) (buffer-finds out) (c .ensured .0);
+      stays = decided-stays (length t) (buffer-finds out) (c .ensured .0) (t ++ drop (length t) out) out out′ (c .ensured .1);
+    }
+
+-- The calls for C and Rust: a list of fixed length is one check more in front, and the answer can tell the numbers of all reports.
+
+-- the question at one mark, behind a list of n numbers
+module _ (n : ℕ) (xs ts vs : List ℕ) (z h : ℕ) where
+  evaluate-exactly : RefusedExactly (refusal (sized n xs (evaluate full ts vs z h))) (FirstFault (length-first n xs (evaluate-conditions ts vs h)))
+  unfolding evaluate
+  evaluate-exactly =
+      decided-exactly (estimate ts vs z h) (length-first-finds n xs (evaluate-finds ts vs h))
+      (sized-is-checked n xs (evaluate-checks full ts vs h) (estimate ts vs z h))
+
+  pub evaluate-told : (c : ℕ) → c ≡ answered untold (sized n xs (evaluate full ts vs z h)) → code-refusal c ≡ refusal (sized n xs (evaluate full ts vs z h))
+  evaluate-told c q =
+      exported-refusal untold (sized n xs (evaluate full ts vs z h)) c _ q
+      (first-numbered (length-first n xs (evaluate-conditions ts vs h)) refl) evaluate-exactly
+
+pub exported-evaluate-refused : (ts vs : List ℕ) (z h : ℕ) (row : List ℕ) (c : ℕ) (row′ : List ℕ) → ExportedEvaluate ts vs z h row c row′
+    → RefusedAndStays (code-refusal c) (FirstFault (length-first 5 row (evaluate-conditions ts vs h))) (row′ ≡ row)
+exported-evaluate-refused ts vs z h row c row′ k =
+    let t = sized 5 row (evaluate full ts vs z h) in
+    exported-stays t c _ (evaluate-told 5 row ts vs z h c (k .ensured .0)) (evaluate-exactly 5 row ts vs z h)
+    (row′ ≡ row) (λ e q. k .ensured .1 ∙ stored-stays fields t row e q)
+
+pub exported-window-refused : (ts vs : List ℕ) (z h : ℕ) (bs : List ℕ) (c : ℕ) (bs′ : List ℕ) → ExportedWindow ts vs z h bs c bs′
+    → RefusedAndStays (code-refusal c) (FirstFault (length-first 2 bs (evaluate-conditions ts vs h))) (bs′ ≡ bs)
+exported-window-refused ts vs z h bs c bs′ k =
+    let t = sized 2 bs (evaluate full ts vs z h) in
+    exported-stays t c _ (evaluate-told 2 bs ts vs z h c (k .ensured .0)) (evaluate-exactly 2 bs ts vs z h)
+    (bs′ ≡ bs) (λ e q. k .ensured .1 ∙ stored-stays bounds t bs e q)
+
+-- the step on a list of eight numbers
+module _ (xs ts vs : List ℕ) (z h : ℕ) where
+  advance-exactly : RefusedExactly (refusal (sized 8 xs (advance ts vs (record-of xs) z h)))
+      (FirstFault (length-first 8 xs (advance-conditions ts vs (record-of xs .left) (record-of xs .right) h)))
+  unfolding advance
+  advance-exactly =
+      let r = record-of xs in
+      decided-exactly (moved ts vs r z h) (length-first-finds 8 xs (advance-finds ts vs (r .left) (r .right) h))
+      (sized-is-checked 8 xs (advance-checks full ts vs (r .left) (r .right) h) (moved ts vs r z h))
+
+  pub advance-told : (c : ℕ) → c ≡ answered untold (sized 8 xs (advance ts vs (record-of xs) z h))
+      → code-refusal c ≡ refusal (sized 8 xs (advance ts vs (record-of xs) z h))
+  advance-told c q =
+      exported-refusal untold (sized 8 xs (advance ts vs (record-of xs) z h)) c _ q
+      (first-numbered (length-first 8 xs (advance-conditions ts vs (record-of xs .left) (record-of xs .right) h)) refl) advance-exactly
+
+pub exported-advance-refused : (xs ts vs : List ℕ) (z h c : ℕ) (xs′ : List ℕ) → ExportedAdvance xs ts vs z h c xs′
+    → RefusedAndStays (code-refusal c) (FirstFault (length-first 8 xs (advance-conditions ts vs (record-of xs .left) (record-of xs .right) h))) (xs′ ≡ xs)
+exported-advance-refused xs ts vs z h c xs′ k =
+    let t = sized 8 xs (advance ts vs (record-of xs) z h) in
+    exported-stays t c _ (advance-told xs ts vs z h c (k .ensured .0)) (advance-exactly xs ts vs z h)
+    (xs′ ≡ xs) (λ e q. k .ensured .1 ∙ stored-stays record-numbers t xs e q)
+
+-- the sweep
+module _ (ts vs zs hs rs : List ℕ) where
+  smooth-exactly : RefusedExactly (refusal (smooth full ts vs zs hs rs)) (FirstFault (smooth-conditions ts vs zs hs (length rs)))
+  unfolding smooth
+  smooth-exactly = decided-exactly (passes ts vs fresh (moves zs hs)) (smooth-finds ts vs zs hs (length rs)) refl
+
+  pub smooth-told : (c : ℕ) → c ≡ answered (λ n. n) (smooth full ts vs zs hs rs) → code-refusal c ≡ refusal (smooth full ts vs zs hs rs)
+  smooth-told c q =
+      exported-refusal (λ n. n) (smooth full ts vs zs hs rs) c _ q
+      (first-numbered (smooth-conditions ts vs zs hs (length rs)) refl) smooth-exactly
+
+pub exported-smooth-refused : (ts vs zs hs rs : List ℕ) (c : ℕ) (rs′ : List ℕ) → ExportedSmooth ts vs zs hs rs c rs′
+    → RefusedAndStays (code-refusal c) (FirstFault (smooth-conditions ts vs zs hs (length rs))) (rs′ ≡ rs)
+unfolding smooth smooth-rows
+exported-smooth-refused ts vs zs hs rs c rs′ k =
+    exported-stays (smooth full ts vs zs hs rs) c _ (smooth-told ts vs zs hs rs c (k .ensured .0)) (smooth-exactly ts vs zs hs rs) (rs′ ≡ rs)
+    (decided-stays {t = smooth full ts vs zs hs rs} (passes ts vs fresh (moves zs hs)) (smooth-finds ts vs zs hs (length rs)) refl
+    (rows ts vs zs hs (length zs)) rs rs′ (k .ensured .1))
+
+-- the filler, the reader and the writers
+module _ (z₀ spacing preset : ℕ) (zs hs : List ℕ) where
+  fill-exactly : RefusedExactly (refusal (fill full z₀ spacing preset zs hs)) (FirstFault (fill-conditions z₀ spacing preset zs hs))
+  unfolding fill
+  fill-exactly = decided-exactly tt (fill-finds z₀ spacing preset zs hs) refl
+
+  pub fill-told : (c : ℕ) → c ≡ answered untold (fill full z₀ spacing preset zs hs) → code-refusal c ≡ refusal (fill full z₀ spacing preset zs hs)
+  fill-told c q =
+      exported-refusal untold (fill full z₀ spacing preset zs hs) c _ q (first-numbered (fill-conditions z₀ spacing preset zs hs) refl) fill-exactly
+
+pub exported-fill-refused : (z₀ spacing preset : ℕ) (zs hs : List ℕ) (c : ℕ) (zs′ hs′ : List ℕ) → ExportedFill z₀ spacing preset zs hs c zs′ hs′
+    → RefusedAndStays (code-refusal c) (FirstFault (fill-conditions z₀ spacing preset zs hs)) ((zs′ ≡ zs) × (hs′ ≡ hs))
+unfolding fill fill-points fill-bandwidths
+exported-fill-refused z₀ spacing preset zs hs c zs′ hs′ k =
+    let finds = fill-finds z₀ spacing preset zs hs in
+    let t = fill full z₀ spacing preset zs hs in
+    exported-stays t c _ (fill-told z₀ spacing preset zs hs c (k .ensured .0)) (fill-exactly z₀ spacing preset zs hs) ((zs′ ≡ zs) × (hs′ ≡ hs))
+    (λ e q. (
+      decided-stays {t = t} tt finds refl (grid z₀ spacing (length zs)) zs zs′ (k .ensured .1 .0) e q,
+      decided-stays {t = t} tt finds refl (replicate (length hs) (getD presets preset 0)) hs hs′ (k .ensured .1 .1) e q,
+    ))
+
+module _ (s ts vs zs hs ns : List ℕ) where
+  read-exactly : RefusedExactly (refusal (counts (sized 2 ns (read full s ts vs zs hs))))
+      (FirstOrElse (length-first 2 ns (read-conditions ts vs zs hs)) (Refused full s))
+  unfolding read
+  read-exactly =
+      rw (
+        counts-refused (sized 2 ns (read full s ts vs zs hs)),
+        sized-sheet-is-checked 2 ns (read-checks full (length ts) (length vs) (length zs) (length hs)) (read-sheet full s),
+      )
+      (sheet-exactly (length-first-finds 2 ns (read-finds ts vs zs hs)) s)
+
+  pub read-told : (c : ℕ) → c ≡ answered untold (counts (sized 2 ns (read full s ts vs zs hs)))
+      → code-refusal c ≡ refusal (counts (sized 2 ns (read full s ts vs zs hs)))
+  read-told c q =
+      exported-refusal untold (counts (sized 2 ns (read full s ts vs zs hs))) c _ q
+      (first-or-else-numbered (length-first 2 ns (read-conditions ts vs zs hs)) refl s) read-exactly
+
+pub exported-read-refused : (s ts vs zs hs ns : List ℕ) (c : ℕ) (ts′ vs′ zs′ hs′ ns′ : List ℕ)
+    → ExportedRead s ts vs zs hs ns c ts′ vs′ zs′ hs′ ns′
+    → RefusedAndStays (code-refusal c) (FirstOrElse (length-first 2 ns (read-conditions ts vs zs hs)) (Refused full s))
+    ((ts′ ≡ ts) × (vs′ ≡ vs) × (zs′ ≡ zs) × (hs′ ≡ hs) × (ns′ ≡ ns))
+exported-read-refused s ts vs zs hs ns c ts′ vs′ zs′ hs′ ns′ k =
+    let o = sized 2 ns (read full s ts vs zs hs) in
+    exported-stays (counts o) c _ (read-told s ts vs zs hs ns c (k .ensured .0)) (read-exactly s ts vs zs hs ns)
+    ((ts′ ≡ ts) × (vs′ ≡ vs) × (zs′ ≡ zs) × (hs′ ≡ hs) × (ns′ ≡ ns))
+    (λ e q.
+    let l = sym (counts-refused o) ∙ q in (
+      k .ensured .1 .0 ∙ front-stays o _ ts e l,
+      k .ensured .1 .1 .0 ∙ front-stays o _ vs e l,
+      k .ensured .1 .1 .1 .0 ∙ front-stays o _ zs e l,
+      k .ensured .1 .1 .1 .1 .0 ∙ front-stays o _ hs e l,
+      k .ensured .1 .1 .1 .1 .1 ∙ stored-stays count-numbers (counts o) ns e q,
+    ))
+
+module _ (s out : List ℕ) where
+  text-exactly : RefusedExactly (refusal (write s out)) (FirstOrElse (buffer-conditions out) (Refused full s))
+  unfolding write
+  text-exactly =
+      rw (size-refused (or-next (first-of (buffer-checks (length out))) (read-sheet full s))) (sheet-exactly (buffer-finds out) s)
+
+  pub text-told : (c : ℕ) → c ≡ answered (λ n. n) (write s out) → code-refusal c ≡ refusal (write s out)
+  text-told c q = exported-refusal (λ n. n) (write s out) c _ q (first-or-else-numbered (buffer-conditions out) refl s) text-exactly
+
+pub exported-text-refused : (s out : List ℕ) (c : ℕ) (out′ : List ℕ) → ExportedText s out c out′
+    → RefusedAndStays (code-refusal c) (FirstOrElse (buffer-conditions out) (Refused full s)) (out′ ≡ out)
+unfolding write write-buffer
+exported-text-refused s out c out′ k =
+    let o = or-next (first-of (buffer-checks (length out))) (read-sheet full s) in
+    exported-stays (write s out) c _ (text-told s out c (k .ensured .0)) (text-exactly s out) (out′ ≡ out)
+    (λ e q. k .ensured .1 ∙ front-stays o curve-text out e (sym (size-refused o) ∙ q))
+
+module _ (n p : ℕ) (out : List ℕ) where
+  refusal-text-exactly : RefusedExactly (refusal (write-refusal-text n p out)) (FirstFault (buffer-conditions out))
+  unfolding write-refusal-text
+  refusal-text-exactly = decided-exactly (length (refusal-text (record { number = n; place = p }))) (buffer-finds out) refl
+
+  pub refusal-text-told : (c : ℕ) → c ≡ answered (λ n. n) (write-refusal-text n p out) → code-refusal c ≡ refusal (write-refusal-text n p out)
+  refusal-text-told c q =
+      exported-refusal (λ n. n) (write-refusal-text n p out) c _ q (first-numbered (buffer-conditions out) refl) refusal-text-exactly
+
+pub exported-refusal-text-refused : (n p : ℕ) (out : List ℕ) (c : ℕ) (out′ : List ℕ) → ExportedRefusalText n p out c out′
+    → RefusedAndStays (code-refusal c) (FirstFault (buffer-conditions out)) (out′ ≡ out)
+unfolding write-refusal-text refusal-buffer
+exported-refusal-text-refused n p out c out′ k =
+    let t = refusal-text (record { number = n; place = p }) in
+    exported-stays (write-refusal-text n p out) c _ (refusal-text-told n p out c (k .ensured .0)) (refusal-text-exactly n p out) (out′ ≡ out)
+    (decided-stays {t = write-refusal-text n p out} (length t) (buffer-finds out) refl (t ++ drop (length t) out) out out′ (k .ensured .1))

@@ -1,0 +1,10 @@
+pub mod CallChecks
+pub mod Demand1
+pub mod Demand2
+pub mod Demand3
+pub mod Demands
+pub mod FirstFaults
+pub mod OtherCalls
+pub mod Program
+pub mod Refusals
+pub mod Rows

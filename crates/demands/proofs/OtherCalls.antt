@@ -1,0 +1,124 @@
+-- What the filler, the reader and the writers give where they accept: by their contracts what their meanings give.
+use Prim.Native.Nat.{ℕ, _+_, _*_, _<_}
+use mathlib.Core.Path.{_≡_, refl, sym, ap, _∙_}
+use mathlib.Core.List.{List, [], _∷_, _++_}
+use mathlib.Core.Option.{Option, none, some}
+use native.Mathlib.Omega.{arith}
+use lib.ListN.{length, getD, drop, replicate, length-replicate, getD-replicate}
+use Rattle.meanings.specs.declared.Filling.the-variants.{Filled}
+use Rattle.meanings.specs.declared.Reading.the-variants.{Used}
+use Rattle.meanings.specs.declared.Writing.the-variants.{Written}
+use Rattle.meanings.specs.Limits.{full}
+use Rattle.meanings.specs.Reports.{Fault, Answer, given, refused, unless, accepted-or, first-of, fill-checks, read-checks, buffer-checks}
+use Rattle.meanings.specs.Grid.{presets, grid}
+use Rattle.meanings.specs.Claim.{refusal}
+use Rattle.meanings.specs.Sheet.{Contents, Outcome, or-next, read-sheet}
+use Rattle.meanings.specs.SheetForm.{IsSheet}
+use Rattle.meanings.specs.Output.{refusal-text, program}
+use Rattle.meanings.specs.Calls.{Counts, fill-refusal, fill, fill-points, fill-bandwidths, read, counts, filled-front, write, write-buffer, buffer-refusal, write-refusal-text, refusal-buffer}
+use Rattle.meanings.proofs.Checks.{given-accepted}
+use Rattle.meanings.proofs.Grids.{fill-accepts, grid-length, grid-at}
+use Rattle.sheet_laws.proofs.Outcomes.{read-is-printed}
+use Rattle.tankcurve_abi.specs.Answers.{answered, untold, sized, stored, count-numbers}
+use Rattle.demands.specs.Calls.{FillCall, ReadCall, RefusalTextCall, ExportedFill, ExportedRead, ExportedText, ExportedRefusalText}
+use Rattle.demands.specs.Conditions.{code-refusal}
+use Rattle.demands.specs.Demands.{FilledGrid, SheetRead, OtherCalls}
+use Rattle.demands.proofs.Refusals.{accepted-given, sized-opens, counts-refused}
+use Rattle.demands.proofs.Demand1.{fill-told, read-told, text-told, refusal-text-told}
+use Rattle.demands.proofs.Program.{text-in-front}
+
+filled-grid : (z₀ spacing preset : ℕ) (zs hs zs′ hs′ : List ℕ) → fill full z₀ spacing preset zs hs ≡ given tt
+    → zs′ ≡ fill-points full z₀ spacing preset zs hs → hs′ ≡ fill-bandwidths full z₀ spacing preset zs hs
+    → FilledGrid z₀ spacing preset (length zs) zs′ hs′
+unfolding fill fill-points fill-bandwidths
+filled-grid z₀ spacing preset zs hs zs′ hs′ q a b =
+    let f = given-accepted (fill-refusal full z₀ spacing preset zs hs) tt tt q .0 in
+    let e = fill-accepts z₀ spacing preset (length zs) (length hs) f .even in
+    let points : zs′ ≡ grid z₀ spacing (length zs) = a ∙ ap (λ (o : Option Fault). accepted-or o (grid z₀ spacing (length zs)) zs) f in
+    let bandwidths : hs′ ≡ replicate (length hs) (getD presets preset 0) =
+    b ∙ ap (λ (o : Option Fault). accepted-or o (replicate (length hs) (getD presets preset 0)) hs) f in
+    rw (points, bandwidths)
+    (record {
+      points-length = grid-length z₀ spacing (length zs);
+      bandwidths-length = length-replicate (length hs) (getD presets preset 0) ∙ sym e;
+      point = grid-at z₀ spacing (length zs);
+      bandwidth = λ k l. getD-replicate (length hs) k (getD presets preset 0) 0 (rw e at l);
+    })
+
+-- an accepted outcome is that of a sheet
+read-accepted : (s : List ℕ) (f : Option Fault) (c : Contents) → or-next f (read-sheet full s) ≡ given c → IsSheet full s c
+read-accepted s none c q = read-is-printed full s c q
+read-accepted s (some e) c q = let z : _≡_ {A = ℕ} 0 1 = cc in absurd (omega arith)
+
+module _ (s ts vs zs hs ts′ vs′ zs′ hs′ : List ℕ) (c : Contents) (o : Outcome) (accepted : read full s ts vs zs hs ≡ given c) (same : o ≡ given c)
+    (a : ts′ ≡ filled-front o (λ d. d .minutes) ts) (b : vs′ ≡ filled-front o (λ d. d .values) vs) (d : zs′ ≡ filled-front o (λ d. d .points) zs)
+    (e : hs′ ≡ filled-front o (λ d. d .bandwidths) hs) where
+  sheet-read : SheetRead s c ts vs zs hs ts′ vs′ zs′ hs′
+  unfolding read
+  sheet-read = record {
+    sheet = read-accepted s (first-of (read-checks full (length ts) (length vs) (length zs) (length hs))) c accepted;
+    minutes = a ∙ ap (λ (x : Outcome). filled-front x (λ d. d .minutes) ts) same;
+    values = b ∙ ap (λ (x : Outcome). filled-front x (λ d. d .values) vs) same;
+    points = d ∙ ap (λ (x : Outcome). filled-front x (λ d. d .points) zs) same;
+    bandwidths = e ∙ ap (λ (x : Outcome). filled-front x (λ d. d .bandwidths) hs) same;
+  }
+
+counted : (o : Outcome) (n m : ℕ) → given (record { samples = n; points = m }) ≡ counts o
+    → (c : Contents) × ((o ≡ given c) × (n ≡ length (c .minutes)) × (m ≡ length (c .points)))
+counted (given c) n m q =
+    let e : _≡_ {A = Counts} (record { samples = n; points = m }) (record { samples = length (c .minutes); points = length (c .points) }) = cc in
+    (c, (refl, ap (λ (k : Counts). k .samples) e, ap (λ (k : Counts). k .points) e))
+counted (refused e) n m q = let z : _≡_ {A = ℕ} 0 1 = cc in absurd (omega arith)
+
+refusal-in-front : (n p : ℕ) (out : List ℕ) (k : ℕ) (out′ : List ℕ) → given k ≡ write-refusal-text n p out → out′ ≡ refusal-buffer n p out
+    → (k ≡ length (refusal-text (record { number = n; place = p })))
+    × (out′ ≡ refusal-text (record { number = n; place = p }) ++ drop (length (refusal-text (record { number = n; place = p }))) out)
+unfolding write-refusal-text refusal-buffer
+refusal-in-front n p out k out′ a b =
+    let f = given-accepted (buffer-refusal out) (length (refusal-text (record { number = n; place = p }))) k (sym a) in
+    (sym (f .1), rw (f .0) at b)
+
+pub other-calls : OtherCalls
+other-calls = record {
+  fill-fills = λ z₀ spacing preset zs hs zs′ hs′ c.
+      filled-grid z₀ spacing preset zs hs zs′ hs′ (sym (c .ensured .0)) (c .ensured .1 .0) (c .ensured .1 .1);
+  read-fills = λ s ts vs zs hs n m ts′ vs′ zs′ hs′ k.
+      let g = counted (read full s ts vs zs hs) n m (k .ensured .0) in (
+        g .0,
+        (
+          g .1 .1,
+          g .1 .2,
+          sheet-read s ts vs zs hs ts′ vs′ zs′ hs′ (g .0) (read full s ts vs zs hs) (g .1 .0) (g .1 .0)
+              (k .ensured .1 .0) (k .ensured .1 .1 .0) (k .ensured .1 .1 .1 .0) (k .ensured .1 .1 .1 .1),
+        ),
+      );
+  refusal-text-writes = λ n p out k out′ c. refusal-in-front n p out k out′ (c .ensured .0) (c .ensured .1);
+  exported-fill-fills = λ z₀ spacing preset zs hs c zs′ hs′ k q.
+      let t = fill full z₀ spacing preset zs hs in
+      let g = accepted-given t (sym (fill-told z₀ spacing preset zs hs c (k .ensured .0)) ∙ q) in
+      (k .ensured .0 ∙ ap (answered untold) (g .1), filled-grid z₀ spacing preset zs hs zs′ hs′ (g .1) (k .ensured .1 .0) (k .ensured .1 .1));
+  exported-read-fills = λ s ts vs zs hs ns c ts′ vs′ zs′ hs′ ns′ k q.
+      let r = read full s ts vs zs hs in
+      let o = sized 2 ns r in
+      let f = sym (counts-refused o) ∙ sym (read-told s ts vs zs hs ns c (k .ensured .0)) ∙ q in
+      let g = accepted-given o f in
+      let open-answer = sym (sized-opens 2 ns r f) ∙ g .1 in (
+        k .ensured .0 ∙ ap (λ (x : Outcome). answered untold (counts x)) (g .1),
+        (
+          g .0,
+          (
+            k .ensured .1 .1 .1 .1 .1 ∙ ap (λ (x : Outcome). stored count-numbers (counts x) ns) (g .1),
+            sheet-read s ts vs zs hs ts′ vs′ zs′ hs′ (g .0) o open-answer (g .1)
+                (k .ensured .1 .0) (k .ensured .1 .1 .0) (k .ensured .1 .1 .1 .0) (k .ensured .1 .1 .1 .1 .0),
+          ),
+        ),
+      );
+  exported-text-writes = λ s out c out′ k q.
+      let g = accepted-given (write s out) (sym (text-told s out c (k .ensured .0)) ∙ q) in
+      let w = text-in-front s out (g .0) out′ (sym (g .1)) (k .ensured .1) in
+      (k .ensured .0 ∙ ap (answered (λ n. n)) (g .1) ∙ ap (λ (n : ℕ). 16 * n) (w .0), w .1);
+  exported-refusal-text-writes = λ n p out c out′ k q.
+      let g = accepted-given (write-refusal-text n p out) (sym (refusal-text-told n p out c (k .ensured .0)) ∙ q) in
+      let w = refusal-in-front n p out (g .0) out′ (sym (g .1)) (k .ensured .1) in
+      (k .ensured .0 ∙ ap (answered (λ n. n)) (g .1) ∙ ap (λ (n : ℕ). 16 * n) (w .0), w .1);
+}
