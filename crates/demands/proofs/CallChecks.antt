@@ -3,17 +3,19 @@ use Prim.Native.Nat.{ℕ, zero, suc, _+_, _-_, _*_, _≤_, _<_}
 use mathlib.Core.Path.{_≡_, refl, sym, _∙_}
 use mathlib.Core.Bool.{Bool, true, false, true≢false, _||_}
 use mathlib.Core.Logic.{_⊎_, inl, inr}
-use mathlib.Core.List.{List, [], _∷_}
+use mathlib.Core.List.{List}
 use native.Mathlib.Omega.{arith}
 use borrow.Author.Tests.{ltb-true, ltb-false, leb-true, leb-false, eqb-true, eqb-false}
 use lib.Dec.{ltb, leb, eqb}
 use lib.ListN.{length, getD}
 use Rattle.meanings.specs.Lists.{lowest}
-use Rattle.meanings.specs.Limits.{full, max-u16, max-bandwidth, max-output}
+use Rattle.meanings.specs.Limits.{full, max-bandwidth}
 use Rattle.meanings.specs.Grid.{presets}
-use Rattle.meanings.specs.Reports.{Check, at, report, differ, decreases, bad-bandwidth, left-edge-below, right-edge-below, edge-decreases, evaluate-checks, advance-checks, smooth-checks, fill-checks, read-checks, buffer-checks}
-use Rattle.meanings.proofs.Checks.{or-false, differ-false, differ-same}
-use Rattle.demands.specs.Conditions.{AtZero, FallsAt, OutOfRange, EdgeFallsAt, evaluate-conditions, advance-conditions, smooth-conditions, fill-conditions, read-conditions, buffer-conditions}
+use Rattle.meanings.specs.Reports.{at, report, differ, decreases, bad-bandwidth}
+use Rattle.meanings.specs.Reports.{edge-decreases, evaluate-checks, advance-checks, smooth-checks, fill-checks, read-checks, buffer-checks}
+use Rattle.meanings.proofs.Checks.{differ-false, differ-same}
+use Rattle.demands.specs.Conditions.{AtZero, FallsAt, OutOfRange, EdgeFallsAt, evaluate-conditions}
+use Rattle.demands.specs.Conditions.{advance-conditions, smooth-conditions, fill-conditions, read-conditions, buffer-conditions}
 use Rattle.demands.proofs.FirstFaults.{Finds, FindAll, at-finds, lowest-finds}
 
 -- the test is true where the condition holds, and false where it does not

@@ -1,10 +1,9 @@
 -- Demand 1. A call's contract equates its answer with the call's meaning, whose list of checks finds just the listed conditions; each lent list
 -- at exit is what it was wherever that list finds one. That the code ends on every input is the proof of each function itself.
-use Prim.Native.Nat.{ℕ, _+_, _*_, _≤_}
+use Prim.Native.Nat.{ℕ, _+_}
 use mathlib.Core.Path.{_≡_, refl, sym, ap, _∙_}
-use mathlib.Core.Logic.{_⊎_, inl, inr}
-use mathlib.Core.List.{List, [], _∷_, _++_}
-use mathlib.Core.Option.{Option, none, some}
+use mathlib.Core.List.{List, [], _++_}
+use mathlib.Core.Option.{Option}
 use native.Mathlib.Omega.{arith}
 use denote.Ref.{RefT}
 use lib.ListN.{length, getD, drop, replicate}
@@ -17,15 +16,18 @@ use Rattle.meanings.specs.declared.Reading.{Reading}
 use Rattle.meanings.specs.declared.Writing.{Writing}
 use Rattle.meanings.specs.Limits.{full}
 use Rattle.meanings.specs.Moves.{moves}
-use Rattle.meanings.specs.Reports.{Fault, Answer, given, refused, unless, accepted-or, Check, first-of, evaluate-checks, advance-checks, smooth-checks, fill-checks, read-checks, buffer-checks}
-use Rattle.meanings.specs.Estimate.{estimate, run-of, left-of, fields, rows}
+use Rattle.meanings.specs.Reports.{Fault, refused, accepted-or}
+use Rattle.meanings.specs.Reports.{first-of, evaluate-checks, advance-checks, read-checks, buffer-checks}
+use Rattle.meanings.specs.Estimate.{estimate, run-of, fields, rows}
 use Rattle.meanings.specs.Running.{fresh, moved, advance, passes}
 use Rattle.meanings.specs.Grid.{presets, grid}
 use Rattle.meanings.specs.Claim.{refusal}
-use Rattle.meanings.specs.Sheet.{Contents, Outcome, or-next, read-sheet}
+use Rattle.meanings.specs.Sheet.{or-next, read-sheet}
 use Rattle.meanings.specs.SheetForm.{Refused}
 use Rattle.meanings.specs.Output.{curve-text, refusal-text}
-use Rattle.meanings.specs.Calls.{told-evaluation, told-advance, told-smoothing, told-filling, told-reading, told-writing, evaluate, window, window-start, smooth, smooth-rows, fill, fill-points, fill-bandwidths, read, counts, filled-front, write, write-buffer, curve-size, write-refusal-text, refusal-buffer}
+use Rattle.meanings.specs.Calls.{told-evaluation, told-advance, told-smoothing, told-filling, told-reading, told-writing, evaluate, window}
+use Rattle.meanings.specs.Calls.{window-start, smooth, smooth-rows, fill, fill-points, fill-bandwidths, read, counts}
+use Rattle.meanings.specs.Calls.{write, write-buffer, write-refusal-text, refusal-buffer}
 use Rattle.tankcurve_abi.specs.Answers.{answered, untold, sized, stored, bounds, count-numbers, record-numbers, record-of}
 use Rattle.estimator.proofs.evaluate.Met as evaluate-met
 use Rattle.estimator.proofs.window.Met as window-met
@@ -43,12 +45,17 @@ use Rattle.tankcurve_abi.proofs.tankcurve_fill.Met as exported-fill-met
 use Rattle.tankcurve_abi.proofs.tankcurve_read.Met as exported-read-met
 use Rattle.tankcurve_abi.proofs.tankcurve_text.Met as exported-text-met
 use Rattle.tankcurve_abi.proofs.tankcurve_refusal_text.Met as exported-refusal-text-met
-use Rattle.demands.specs.Calls.{Place, EveryInputTaken, EvaluateCall, WindowCall, AdvanceCall, SmoothCall, FillCall, ReadCall, TextCall, RefusalTextCall, ExportedEvaluate, ExportedWindow, ExportedAdvance, ExportedSmooth, ExportedFill, ExportedRead, ExportedText, ExportedRefusalText}
-use Rattle.demands.specs.Conditions.{Conditions, RefusedExactly, NoFault, FirstFault, FirstOrElse, evaluate-conditions, advance-conditions, smooth-conditions, fill-conditions, read-conditions, buffer-conditions, length-first, code-refusal}
+use Rattle.demands.specs.Calls.{Place, EveryInputTaken, EvaluateCall, WindowCall, AdvanceCall, SmoothCall}
+use Rattle.demands.specs.Calls.{FillCall, ReadCall, TextCall, RefusalTextCall, ExportedEvaluate, ExportedWindow}
+use Rattle.demands.specs.Calls.{ExportedAdvance, ExportedSmooth, ExportedFill, ExportedRead, ExportedText, ExportedRefusalText}
+use Rattle.demands.specs.Conditions.{RefusedExactly, FirstFault, FirstOrElse, evaluate-conditions, advance-conditions}
+use Rattle.demands.specs.Conditions.{smooth-conditions, fill-conditions, read-conditions, buffer-conditions, length-first, code-refusal}
 use Rattle.demands.specs.Demands.{RefusedAndStays}
-use Rattle.demands.proofs.FirstFaults.{FindAll, refused-exactly}
+use Rattle.demands.proofs.FirstFaults.{refused-exactly}
 use Rattle.demands.proofs.CallChecks.{evaluate-finds, advance-finds, smooth-finds, fill-finds, read-finds, buffer-finds}
-use Rattle.demands.proofs.Refusals.{refusal-is-first, decided-exactly, decided-stays, sheet-exactly, length-check, length-first-finds, sized-is-checked, sized-sheet-is-checked, stored-stays, Numbered, first-numbered, first-or-else-numbered, exported-refusal, exported-stays, counts-refused, size-refused, front-stays}
+use Rattle.demands.proofs.Refusals.{decided-exactly, decided-stays, sheet-exactly, length-first-finds}
+use Rattle.demands.proofs.Refusals.{sized-is-checked, sized-sheet-is-checked, stored-stays, first-numbered, first-or-else-numbered}
+use Rattle.demands.proofs.Refusals.{exported-refusal, exported-stays, counts-refused, size-refused, front-stays}
 
 pub every-input : EveryInputTaken
 every-input = record {

@@ -1,20 +1,15 @@
 -- Demand 2 of the calls: by its contract a row is the meaning's row of accepted input, which is the published one.
 use Prim.Native.Nat.{ℕ, _+_, _-_, _*_, _<_}
-use mathlib.Core.Path.{_≡_, refl, sym, ap, _∙_}
-use mathlib.Core.Bool.{Bool, true, false}
-use mathlib.Core.List.{List, [], _∷_}
-use mathlib.Core.Option.{Option, none, some}
-use native.Mathlib.Omega.{arith}
-use denote.Ref.{RefT}
-use lib.Dec.{eqb}
-use lib.ListN.{length, getD, take, drop}
+use mathlib.Core.Path.{_≡_, sym, ap, _∙_}
+use mathlib.Core.List.{List}
+use mathlib.Core.Option.{Option, none}
+use lib.ListN.{length, getD}
 use Rattle.meanings.specs.declared.Estimate.{Estimate}
 use Rattle.meanings.specs.declared.Evaluation.the-variants.{Row}
-use Rattle.meanings.specs.declared.Smoothing.the-variants.{Passes}
-use Rattle.meanings.specs.Lists.{AtMost, pick}
+use Rattle.meanings.specs.Lists.{AtMost}
 use Rattle.meanings.specs.Limits.{full, max-u16}
 use Rattle.meanings.specs.Moves.{moves}
-use Rattle.meanings.specs.Reports.{Fault, Answer, given, refused, unless, accepted-or}
+use Rattle.meanings.specs.Reports.{Fault, Answer, given, refused, accepted-or}
 use Rattle.meanings.specs.Estimate.{estimate, fields, rows}
 use Rattle.meanings.specs.PublishedRow.{PublishedRow}
 use Rattle.meanings.specs.Running.{fresh, passes}
@@ -26,7 +21,6 @@ use Rattle.meanings.proofs.Checks.{evaluate-accepts, given-accepted}
 use Rattle.meanings.proofs.SmoothRows.{rows-length, smooth-row-is-evaluate}
 use Rattle.text.specs.Table.{row-at}
 use Rattle.tankcurve_abi.specs.Answers.{answered, untold, sized, stored, bounds}
-use Rattle.demands.specs.Calls.{Place, EvaluateCall, WindowCall, SmoothCall, ExportedEvaluate, ExportedWindow, ExportedSmooth}
 use Rattle.demands.specs.Conditions.{evaluate-conditions, code-refusal}
 use Rattle.demands.specs.Demands.{Demand2}
 use Rattle.demands.proofs.FirstFaults.{none-or-first, refused-exactly}

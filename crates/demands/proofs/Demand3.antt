@@ -1,11 +1,10 @@
 -- Demand 3 of the calls. By its contract each call leaves the record that the step's meaning gives, so a list of calls leaves what a list of
 -- steps leaves, and the claim about the list holds of the records and answers that the caller saw. The exported call is the same step on a
 -- record that is kept as eight numbers.
-use Prim.Native.Nat.{ℕ, suc, _+_, _*_, _≤_, _<_}
+use Prim.Native.Nat.{ℕ, suc, _+_, _*_, _<_}
 use mathlib.Core.Path.{_≡_, refl, sym, ap, _∙_}
-use mathlib.Core.Bool.{Bool, true, false}
 use mathlib.Core.List.{List, [], _∷_, _++_}
-use mathlib.Core.Option.{Option, none, some}
+use mathlib.Core.Option.{Option}
 use native.Mathlib.Omega.{arith}
 use borrow.Author.Tests.{ne-eqb, eq-eqb}
 use lib.Dec.{eqb}
@@ -13,25 +12,24 @@ use lib.ListN.{length, getD, take}
 use Rattle.meanings.specs.declared.RunningSums.{RunningSums}
 use Rattle.meanings.specs.declared.Advance.{Advance}
 use Rattle.meanings.specs.declared.Advance.the-variants.{Moved, Stayed}
-use Rattle.meanings.specs.declared.Smoothing.the-variants.{Passes}
 use Rattle.meanings.specs.Lists.{AtMost}
 use Rattle.meanings.specs.Limits.{full, max-u16}
 use Rattle.meanings.specs.Moves.{Move, moves}
 use Rattle.meanings.specs.Reports.{Fault, Answer, given, refused}
 use Rattle.meanings.specs.Running.{fresh, advance, settled, after-step, after, record-row}
 use Rattle.meanings.specs.EventLog.{EventLog}
-use Rattle.meanings.specs.Claim.{StepHolds, refusal, record-after, log-after-steps}
+use Rattle.meanings.specs.Claim.{StepHolds, refusal, record-after}
 use Rattle.meanings.specs.Calls.{told-advance, smooth, smooth-rows}
-use Rattle.meanings.proofs.Claim.{demand-3, log-of, log-follows, refused-with-8-6-or-9}
+use Rattle.meanings.proofs.Claim.{demand-3, log-follows, refused-with-8-6-or-9}
 use Rattle.meanings.proofs.Passes.{fresh-within, after-onward, after-append}
 use Rattle.meanings.proofs.SmoothLog.{smooth-passes}
 use Rattle.meanings.proofs.SmoothRows.{smooth-row-is-record-row}
 use Rattle.text.specs.Table.{row-at}
 use Rattle.tankcurve_abi.specs.Answers.{answered, untold, sized, stored, record-of, record-numbers}
 use Rattle.tankcurve_abi.proofs.Stores.{record-read-back}
-use Rattle.demands.specs.Calls.{AdvanceCall, SmoothCall, ExportedAdvance, ExportedSmooth}
+use Rattle.demands.specs.Calls.{ExportedAdvance}
 use Rattle.demands.specs.Conditions.{code-refusal}
-use Rattle.demands.specs.Demands.{held, Steps, ExportedSteps, zeros, OrderedSteps, LogMatches, log-passes, Demand3}
+use Rattle.demands.specs.Demands.{held, Steps, ExportedSteps, OrderedSteps, LogMatches, Demand3}
 use Rattle.demands.specs.Demands as demands
 use Rattle.demands.proofs.Refusals.{accepted-given}
 use Rattle.demands.proofs.Demand1.{advance-told, smooth-told}

@@ -1,7 +1,10 @@
 -- The three demands, from the contracts of the calls and the laws of the meanings: each field is proved in the file of its demand.
 use Rattle.meanings.proofs.Cases.{document-cases-hold}
 use Rattle.demands.specs.Demands.{Demands}
-use Rattle.demands.proofs.Demand1.{every-input, evaluate-refused, window-refused, advance-refused, smooth-refused, fill-refused, read-refused, text-refused, refusal-text-refused, exported-evaluate-refused, exported-window-refused, exported-advance-refused, exported-smooth-refused, exported-fill-refused, exported-read-refused, exported-text-refused, exported-refusal-text-refused}
+use Rattle.demands.proofs.Demand1.{every-input, evaluate-refused, window-refused, advance-refused, smooth-refused, fill-refused, read-refused}
+use Rattle.demands.proofs.Demand1.{text-refused, refusal-text-refused, exported-evaluate-refused, exported-window-refused, exported-advance-refused}
+use Rattle.demands.proofs.Demand1.{exported-smooth-refused, exported-fill-refused, exported-read-refused, exported-text-refused}
+use Rattle.demands.proofs.Demand1.{exported-refusal-text-refused}
 use Rattle.demands.proofs.Demand2.{demand-2}
 use Rattle.demands.proofs.Demand3.{demand-3-of-calls}
 use Rattle.demands.proofs.OtherCalls.{other-calls}

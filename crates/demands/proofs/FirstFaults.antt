@@ -1,9 +1,9 @@
 -- A list of checks finds the first condition that holds, at its lowest place, if each check finds its own condition at its lowest place. A
 -- check with one place finds it by its test, a search for the lowest position by its test at each position.
-use Prim.Native.Nat.{ℕ, zero, suc, _<_}
+use Prim.Native.Nat.{ℕ, _<_}
 use mathlib.Core.Path.{_≡_, refl, sym, ap, _∙_}
 use mathlib.Core.Bool.{Bool, true, false, true≢false}
-use mathlib.Core.Logic.{_↔_, _⊎_, inl, inr}
+use mathlib.Core.Logic.{inl, inr}
 use mathlib.Core.List.{List, [], _∷_}
 use mathlib.Core.Option.{Option, none, some}
 use native.Mathlib.Omega.{arith}
@@ -11,7 +11,7 @@ use Rattle.meanings.specs.Lists.{lowest}
 use Rattle.meanings.specs.Reports.{Fault, Check, at, or-later, first-of}
 use Rattle.meanings.specs.Reports as reports
 use Rattle.meanings.proofs.Search.{lowest-some, lowest-none}
-use Rattle.demands.specs.Conditions.{Conditions, no-more, report, NoFault, FirstFault, RefusedExactly, FirstOrElse, AtZero}
+use Rattle.demands.specs.Conditions.{Conditions, no-more, report, NoFault, FirstFault, RefusedExactly, AtZero}
 
 -- the check finds report n where its condition holds, lowest place first, and nothing where it holds nowhere
 pub record Finds (k : Check) (n : ℕ) (At : ℕ → Type 0) : Type 0 where

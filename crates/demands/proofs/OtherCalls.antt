@@ -1,27 +1,24 @@
 -- What the filler, the reader and the writers give where they accept: by their contracts what their meanings give.
-use Prim.Native.Nat.{ℕ, _+_, _*_, _<_}
+use Prim.Native.Nat.{ℕ, _+_, _*_}
 use mathlib.Core.Path.{_≡_, refl, sym, ap, _∙_}
-use mathlib.Core.List.{List, [], _∷_, _++_}
+use mathlib.Core.List.{List, _++_}
 use mathlib.Core.Option.{Option, none, some}
 use native.Mathlib.Omega.{arith}
 use lib.ListN.{length, getD, drop, replicate, length-replicate, getD-replicate}
 use Rattle.meanings.specs.declared.Filling.the-variants.{Filled}
-use Rattle.meanings.specs.declared.Reading.the-variants.{Used}
-use Rattle.meanings.specs.declared.Writing.the-variants.{Written}
 use Rattle.meanings.specs.Limits.{full}
-use Rattle.meanings.specs.Reports.{Fault, Answer, given, refused, unless, accepted-or, first-of, fill-checks, read-checks, buffer-checks}
+use Rattle.meanings.specs.Reports.{Fault, given, refused, accepted-or, first-of, read-checks}
 use Rattle.meanings.specs.Grid.{presets, grid}
 use Rattle.meanings.specs.Claim.{refusal}
 use Rattle.meanings.specs.Sheet.{Contents, Outcome, or-next, read-sheet}
 use Rattle.meanings.specs.SheetForm.{IsSheet}
-use Rattle.meanings.specs.Output.{refusal-text, program}
-use Rattle.meanings.specs.Calls.{Counts, fill-refusal, fill, fill-points, fill-bandwidths, read, counts, filled-front, write, write-buffer, buffer-refusal, write-refusal-text, refusal-buffer}
+use Rattle.meanings.specs.Output.{refusal-text}
+use Rattle.meanings.specs.Calls.{Counts, fill-refusal, fill, fill-points, fill-bandwidths, read, counts}
+use Rattle.meanings.specs.Calls.{filled-front, write, buffer-refusal, write-refusal-text, refusal-buffer}
 use Rattle.meanings.proofs.Checks.{given-accepted}
 use Rattle.meanings.proofs.Grids.{fill-accepts, grid-length, grid-at}
 use Rattle.sheet_laws.proofs.Outcomes.{read-is-printed}
 use Rattle.tankcurve_abi.specs.Answers.{answered, untold, sized, stored, count-numbers}
-use Rattle.demands.specs.Calls.{FillCall, ReadCall, RefusalTextCall, ExportedFill, ExportedRead, ExportedText, ExportedRefusalText}
-use Rattle.demands.specs.Conditions.{code-refusal}
 use Rattle.demands.specs.Demands.{FilledGrid, SheetRead, OtherCalls}
 use Rattle.demands.proofs.Refusals.{accepted-given, sized-opens, counts-refused}
 use Rattle.demands.proofs.Demand1.{fill-told, read-told, text-told, refusal-text-told}

@@ -1,17 +1,16 @@
 -- The program. Each list of bytes is a sheet of some lists or is refused, never both and in one way only; the reader's meaning goes with it,
 -- so what is written is the curve of those lists or that refusal. An accepted sheet's lists are accepted by the sweep and at each mark.
-use Prim.Native.Nat.{ℕ, suc, _+_, _*_, _≤_, _<_}
+use Prim.Native.Nat.{ℕ, _+_, _*_, _≤_, _<_}
 use mathlib.Core.Path.{_≡_, refl, sym, ap, _∙_}
 use mathlib.Core.Logic.{_⊎_, inl, inr}
-use mathlib.Core.List.{List, [], _∷_, _++_}
+use mathlib.Core.List.{List, _++_}
 use mathlib.Core.Option.{Option, none, some}
 use native.Mathlib.Omega.{arith}
 use lib.ListN.{length, getD, drop, replicate, length-replicate}
 use Rattle.meanings.specs.declared.Writing.{Writing}
-use Rattle.meanings.specs.declared.Writing.the-variants.{Written}
 use Rattle.meanings.specs.Limits.{full, max-output}
 use Rattle.meanings.specs.Moves.{moves}
-use Rattle.meanings.specs.Reports.{Fault, Answer, given, refused, unless, accepted-or, first-of, buffer-checks}
+use Rattle.meanings.specs.Reports.{Fault, given, refused, first-of, buffer-checks}
 use Rattle.meanings.specs.Estimate.{estimate}
 use Rattle.meanings.specs.PublishedRow.{PublishedRow}
 use Rattle.meanings.specs.Running.{fresh, passes}

@@ -3,8 +3,8 @@
 use Prim.Native.Nat.{ℕ, _+_, _*_, _/_, _%_, _≤_}
 use mathlib.Core.Path.{_≡_, refl, sym, ap, _∙_}
 use mathlib.Core.Bool.{Bool, true, false, true≢false, not, _&&_, and-eq-true-iff}
-use mathlib.Core.Logic.{_⊎_, inl, inr}
-use mathlib.Core.List.{List, [], _∷_}
+use mathlib.Core.Logic.{inl, inr}
+use mathlib.Core.List.{List, _∷_}
 use mathlib.Core.Option.{Option, none, some}
 use native.Mathlib.Omega.{arith}
 use borrow.Author.Tests.{eq-eqb, ne-eqb, eqb-true, eqb-false, leb-true}
@@ -17,11 +17,12 @@ use Rattle.meanings.specs.Reports.{Fault, Answer, given, refused, unless, accep
 use Rattle.meanings.specs.Claim.{refusal}
 use Rattle.meanings.specs.Sheet.{Injection, Contents, Outcome, or-next, read-sheet}
 use Rattle.meanings.specs.Calls.{counts, curve-size, filled-front}
-use Rattle.meanings.specs.SheetForm.{PointFault, SampleFault, Refused, too-long, no-point-header, no-empty-line, malformed-point, faulty-point, no-point, no-sample-header, malformed-sample, faulty-sample}
+use Rattle.meanings.specs.SheetForm.{PointFault, SampleFault, Refused, too-long, no-point-header, no-empty-line}
+use Rattle.meanings.specs.SheetForm.{malformed-point, faulty-point, no-point, no-sample-header, malformed-sample, faulty-sample}
 use Rattle.meanings.proofs.Claim.{refusal-unless}
 use Rattle.sheet_laws.proofs.Outcomes.{never-both, one-report, read-is-printed, refused-is-refused}
 use Rattle.tankcurve_abi.specs.Answers.{answered, sized, stored}
-use Rattle.demands.specs.Conditions.{Conditions, no-more, AtZero, NoFault, FirstFault, FirstOrElse, RefusedExactly, length-first, code-refusal}
+use Rattle.demands.specs.Conditions.{Conditions, no-more, AtZero, FirstFault, FirstOrElse, RefusedExactly, length-first, code-refusal}
 use Rattle.demands.specs.Conditions as conditions
 use Rattle.demands.specs.Demands.{RefusedAndStays}
 use Rattle.demands.proofs.FirstFaults.{Finds, FindAll, first-found, none-found, one-first, none-or-first, exactly, refused-exactly, at-finds}
@@ -41,7 +42,9 @@ module _ {A : Type 0} {t : Answer A} (a : A) {ks : List Check} {cs : Conditions}
 -- what the reader makes of a sheet, after the checks ks
 module _ {ks : List Check} {cs : Conditions} (finds : FindAll ks cs) (s : List ℕ) where
   pub sheet-exactly : RefusedExactly (refusal (or-next (first-of ks) (read-sheet full s))) (FirstOrElse cs (Refused full s))
-  sheet-exactly = exactly _ (FirstOrElse cs (Refused full s)) (found (first-of ks) refl (read-sheet full s) refl) (absent (first-of ks) refl (read-sheet full s) refl) one
+  sheet-exactly =
+      exactly _ (FirstOrElse cs (Refused full s)) (found (first-of ks) refl (read-sheet full s) refl)
+      (absent (first-of ks) refl (read-sheet full s) refl) one
     where
       found : (f : Option Fault) → first-of ks ≡ f → (o : Outcome) → read-sheet full s ≡ o → (n p : ℕ)
           → refusal (or-next f o) ≡ some (record { number = n; place = p }) → FirstOrElse cs (Refused full s) n p

@@ -5,7 +5,7 @@
 -- about a list of steps in EventLog.antt and Claim.antt, the texts in Output.antt.
 -- ts are minutes, vs values, z a mark, h a half width, zs and hs lists of these, rs rows, s the bytes of a sheet; a list at exit has a prime.
 -- `AtMost max-u16` says that a list's numbers have 16 bits, as the type of the lent list has it; it stands where a bound is needed.
-use Prim.Native.Nat.{ℕ, suc, _+_, _-_, _*_, _/_, _%_, _≤_, _<_}
+use Prim.Native.Nat.{ℕ, suc, _+_, _-_, _*_, _≤_, _<_}
 use mathlib.Core.Path.{_≡_}
 use mathlib.Core.Logic.{_⊎_}
 use mathlib.Core.List.{List, [], _∷_, _++_}
@@ -33,7 +33,7 @@ use Rattle.meanings.specs.Reports.{Fault, given}
 use Rattle.meanings.specs.Estimate.{estimate}
 use Rattle.meanings.specs.PublishedRow.{PublishedRow}
 use Rattle.meanings.specs.Running.{fresh, after, passes, record-row}
-use Rattle.meanings.specs.EventLog.{EventLog, empty-log, log-after, insertion-count, eviction-count, log-refusal}
+use Rattle.meanings.specs.EventLog.{empty-log, log-after, insertion-count, eviction-count, log-refusal}
 use Rattle.meanings.specs.Claim.{NoEdgeBack, StepHolds, refusal, between, log-after-steps}
 use Rattle.meanings.specs.Grid.{presets}
 use Rattle.meanings.specs.Sheet.{Contents}
@@ -44,8 +44,11 @@ use Rattle.meanings.specs.Document.{document-cases}
 use Rattle.meanings.specs.Calls.{told-evaluation, told-advance, told-smoothing, told-filling, told-reading, told-writing}
 use Rattle.text.specs.Table.{row-at}
 use Rattle.tankcurve_abi.specs.Answers.{record-of}
-use Rattle.demands.specs.Calls.{Place, EveryInputTaken, EvaluateCall, WindowCall, AdvanceCall, SmoothCall, FillCall, ReadCall, TextCall, RefusalTextCall, ExportedEvaluate, ExportedWindow, ExportedAdvance, ExportedSmooth, ExportedFill, ExportedRead, ExportedText, ExportedRefusalText}
-use Rattle.demands.specs.Conditions.{RefusedExactly, NoFault, FirstFault, FirstOrElse, evaluate-conditions, advance-conditions, smooth-conditions, fill-conditions, read-conditions, buffer-conditions, length-first, code-refusal}
+use Rattle.demands.specs.Calls.{Place, EveryInputTaken, EvaluateCall, WindowCall, AdvanceCall, SmoothCall}
+use Rattle.demands.specs.Calls.{FillCall, ReadCall, TextCall, RefusalTextCall, ExportedEvaluate, ExportedWindow}
+use Rattle.demands.specs.Calls.{ExportedAdvance, ExportedSmooth, ExportedFill, ExportedRead, ExportedText, ExportedRefusalText}
+use Rattle.demands.specs.Conditions.{RefusedExactly, NoFault, FirstFault, FirstOrElse, evaluate-conditions, advance-conditions}
+use Rattle.demands.specs.Conditions.{smooth-conditions, fill-conditions, read-conditions, buffer-conditions, length-first, code-refusal}
 
 -- how many readings the event log of these steps, empty at first, inserts and evicts
 abbrev pub log-passes : List ℕ → List ℕ → List Move → ℕ

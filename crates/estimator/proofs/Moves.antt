@@ -1,22 +1,26 @@
 -- A step in four parts is the meaning's step: new right, new left, what is taken in, what is let go.
-use Prim.Native.Nat.{ℕ, _-_}
+use Prim.Native.Nat.{ℕ, _+_, _-_}
 use mathlib.Core.Path.{_≡_, ap, _∙_}
 use mathlib.Core.List.{List}
+use lib.ListN.{length}
 use Rattle.meanings.specs.declared.PowerSums.{PowerSums}
 use Rattle.meanings.specs.declared.RunningSums.{RunningSums}
-use Rattle.meanings.specs.Running.{six, sum-at, plus, minus, power-sum, new-right, new-left, new-sums, moved-to, moved}
+use Rattle.meanings.specs.Running.{six, sum-at, plus, minus, power-sum, new-left, new-sums, moved-to, moved}
+use Rattle.estimator.specs.Rows.{RunJoined, FoundFrom}
+use Rattle.estimator.proofs.Searches.{right-is-new, left-is-new}
 
-pub four-parts-move : (ts vs : List ℕ) (r : RunningSums) (z h right left : ℕ) (taken sums : PowerSums)
-    → right ≡ new-right ts (r .right) z h
-    → left ≡ new-left ts (r .left) right z h
-    → taken ≡ six (λ p q. plus 64 (sum-at (r .sums) p q) (power-sum ts vs (r .right) (right - r .right) p q))
-    → sums ≡ six (λ p q. minus 64 (sum-at taken p q) (power-sum ts vs (r .left) (left - r .left) p q))
+pub four-parts-move : (ts vs : List ℕ) (r : RunningSums) (z h : ℕ) {right low left : ℕ} {taken sums : PowerSums}
+    → FoundFrom ts (r .right) (length ts) (z + h + 1) right
+    → low ≡ z - h
+    → FoundFrom ts (r .left) right low left
+    → RunJoined (plus 64) (r .sums) ts vs (r .right) right taken
+    → RunJoined (minus 64) taken ts vs (r .left) left sums
     → record { left = left; right = right; sums = sums } ≡ moved ts vs r z h
 unfolding moved
-four-parts-move ts vs r z h right left taken sums a b c d =
+four-parts-move ts vs r z h {right} {low} {left} {taken} {sums} a e b c d =
     ap (λ (s : PowerSums). record { left = left; right = right; sums = s }) both
-    ∙ ap (λ (l : ℕ). moved-to ts vs r l right) b
-    ∙ ap (λ (q : ℕ). moved-to ts vs r (new-left ts (r .left) q z h) q) a
+    ∙ ap (λ (l : ℕ). moved-to ts vs r l right) (left-is-new z h e b)
+    ∙ ap (λ (q : ℕ). moved-to ts vs r (new-left ts (r .left) q z h) q) (right-is-new z h a)
   where
     both : sums ≡ new-sums ts vs r left right
-    both = d ∙ ap (λ (t : PowerSums). six (λ p q. minus 64 (sum-at t p q) (power-sum ts vs (r .left) (left - r .left) p q))) c
+    both = d .sums ∙ ap (λ (t : PowerSums). six (λ p q. minus 64 (sum-at t p q) (power-sum ts vs (r .left) (left - r .left) p q))) (c .sums)

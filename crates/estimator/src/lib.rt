@@ -21,12 +21,20 @@ ghost use denote.Ref.{ptr};
 ghost use Rattle.meanings.specs.Limits.{full as full-limits};
 ghost use Rattle.meanings.specs.Running.{advance as advance-meaning};
 ghost use Rattle.meanings.specs.Calls.{told-evaluation, told-advance, told-smoothing, evaluate as evaluate-meaning, window as window-meaning, window-start, smooth as smooth-meaning, smooth-rows};
+ghost use Rattle.estimator.specs.Rows.{Judged};
+
+// What the question at one mark is refused for, at the full limits.
+fn judged(minutes: &[u16], values: &[u16], bandwidth: u32) -> Verdict
+    ensures { λ r. ⌜ Judged (now (minutes .entry)) (now (values .entry)) bandwidth r ⌝ }
+{
+    evaluate_fault(minutes, values, bandwidth, full())
+}
 
 // The question at one mark: the row, or the report.
 pub fn evaluate(minutes: &[u16], values: &[u16], point: u16, bandwidth: u32) -> Evaluation
     ensures { λ r. ⌜ told-evaluation r ≡ evaluate-meaning full-limits (now (minutes .entry)) (now (values .entry)) point bandwidth ⌝ }
 {
-    match evaluate_fault(minutes, values, bandwidth, full()) {
+    match judged(minutes, values, bandwidth) {
         Verdict::Faulty(refusal) => Evaluation::Unfit(refusal),
         Verdict::Fit => Evaluation::Row(point::row_at(minutes, values, point, bandwidth)),
     }
@@ -37,7 +45,7 @@ pub fn window<'a>(minutes: &[u16], values: &'a [u16], point: u16, bandwidth: u32
     ensures { λ r. ⌜ now r ≡ window-meaning full-limits (now (minutes .entry)) (now (values .entry)) point bandwidth ⌝ }
     ensures { λ r. ⌜ (r .ptr .0 ≡ values .entry .ptr .0) × (r .ptr .1 ≡ values .entry .ptr .1 + window-start full-limits (now (minutes .entry)) (now (values .entry)) point bandwidth * 2) ⌝ }
 {
-    match evaluate_fault(minutes, values, bandwidth, full()) {
+    match judged(minutes, values, bandwidth) {
         Verdict::Faulty(_) => &values[0..0],
         Verdict::Fit => {
             let span = point::span_at(minutes, point, bandwidth);

@@ -6,10 +6,10 @@ use arithmetic::lowest_minute;
 use arithmetic::zero_sums;
 use meanings::Estimate;
 ghost use mathlib.Core.Path.{_≡_};
-ghost use Prim.Native.Nat.{_-_};
 ghost use Rattle.meanings.specs.Lists.{Ordered};
-ghost use Rattle.meanings.specs.Estimate.{left-of, right-of, estimate};
+ghost use Rattle.meanings.specs.Estimate.{estimate};
 ghost use Rattle.meanings.proofs.Checks.{Accepted};
+ghost use Rattle.estimator.specs.Rows.{IsSpan};
 
 // A window's run: positions left up to but without right.
 pub(crate) struct Span {
@@ -19,7 +19,7 @@ pub(crate) struct Span {
 
 pub(crate) fn span_at(minutes: &[u16], point: u16, bandwidth: u32) -> Span
     requires { ⌜ Ordered (now minutes) ⌝ }
-    ensures { λ r. ⌜ (r .left ≡ left-of (now (minutes .entry)) point bandwidth) × (r .right ≡ right-of (now (minutes .entry)) point bandwidth) ⌝ }
+    ensures { λ r. ⌜ IsSpan (now (minutes .entry)) point bandwidth r ⌝ }
 {
     let over = point as u64 + bandwidth as u64 + 1;
     let right = first_from(minutes, 0, minutes.len(), over);

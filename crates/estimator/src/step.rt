@@ -5,9 +5,8 @@ use crate::sums::without_run;
 use arithmetic::lowest_minute;
 use meanings::RunningSums;
 ghost use mathlib.Core.Path.{_≡_};
-ghost use Prim.Native.Nat.{_≤_};
-ghost use lib.ListN.{length};
 ghost use Rattle.meanings.specs.Running.{moved as moved-meaning};
+ghost use Rattle.meanings.proofs.Checks.{StepAccepted};
 
 pub(crate) fn moved(
     running: RunningSums,
@@ -16,7 +15,7 @@ pub(crate) fn moved(
     point: u16,
     bandwidth: u32,
 ) -> RunningSums
-    requires { ⌜ (length (now minutes) ≡ length (now values)) × (running .left ≤ running .right) × (running .right ≤ length (now minutes)) ⌝ }
+    requires { ⌜ StepAccepted (now minutes) (now values) (running .left) (running .right) bandwidth ⌝ }
     ensures { λ r. ⌜ r ≡ moved-meaning (now (minutes .entry)) (now (values .entry)) running point bandwidth ⌝ }
 {
     let over = point as u64 + bandwidth as u64 + 1;

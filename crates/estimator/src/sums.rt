@@ -2,10 +2,8 @@
 use arithmetic::minus_sample;
 use arithmetic::plus_sample;
 use meanings::PowerSums;
-ghost use mathlib.Core.Path.{_≡_};
-ghost use Prim.Native.Nat.{_-_, _≤_};
-ghost use lib.ListN.{length};
-ghost use Rattle.meanings.specs.Running.{six, sum-at, plus, minus, power-sum};
+ghost use Rattle.meanings.specs.Running.{plus, minus};
+ghost use Rattle.estimator.specs.Rows.{RunWithin, RunJoined};
 
 // With the readings from `from` up to `to` taken in.
 pub(crate) fn with_run(
@@ -15,8 +13,8 @@ pub(crate) fn with_run(
     from: usize,
     to: usize,
 ) -> PowerSums
-    requires { ⌜ (from ≤ to) × (to ≤ length (now minutes)) × (to ≤ length (now values)) ⌝ }
-    ensures { λ r. ⌜ r ≡ six (λ p q. plus 64 (sum-at s p q) (power-sum (now (minutes .entry)) (now (values .entry)) from (to - from) p q)) ⌝ }
+    requires { ⌜ RunWithin (now minutes) (now values) from to ⌝ }
+    ensures { λ r. ⌜ RunJoined (plus 64) s (now (minutes .entry)) (now (values .entry)) from to r ⌝ }
 {
     let mut sums = s;
     let mut i = from;
@@ -35,8 +33,8 @@ pub(crate) fn without_run(
     from: usize,
     to: usize,
 ) -> PowerSums
-    requires { ⌜ (from ≤ to) × (to ≤ length (now minutes)) × (to ≤ length (now values)) ⌝ }
-    ensures { λ r. ⌜ r ≡ six (λ p q. minus 64 (sum-at s p q) (power-sum (now (minutes .entry)) (now (values .entry)) from (to - from) p q)) ⌝ }
+    requires { ⌜ RunWithin (now minutes) (now values) from to ⌝ }
+    ensures { λ r. ⌜ RunJoined (minus 64) s (now (minutes .entry)) (now (values .entry)) from to r ⌝ }
 {
     let mut sums = s;
     let mut i = from;

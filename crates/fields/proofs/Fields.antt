@@ -119,30 +119,25 @@ pub record Passed (t : List ℕ) (p q v : ℕ) : Type 0 where
   pub front-length : q ≡ p + length front
   pub small : v < 100000
 
-pub passed-begins : (t : List ℕ) (p : ℕ) → Passed t p p 0
-passed-begins t p = record {
-  front = [];
-  seen = refl;
-  front-digits = refl;
-  front-says = refl;
-  front-length = omega arith;
-  small = omega arith;
-}
+pub passed-begins : {t : List ℕ} {p : ℕ} → Passed t p p 0
+passed-begins =
+    record { front = []; seen = refl; front-digits = refl; front-says = refl; front-length = omega arith; small = omega arith }
 
 module _ {t : List ℕ} {p q v : ℕ} (s : Passed t p q v) where
   passed-field : field-at t p ≡ number-of p (s .front ++ first-part (drop q t))
   unfolding field-at
   passed-field = rw (s .seen, first-part-goes-on (s .front) (drop q t) (digits-free comma (s .front) (omega arith) (s .front-digits)))
 
-  pub passed-inside : (q ≡ p → ⊥) → p < length t
+  pub passed-inside : ¬ (q ≡ p) → p < length t
   passed-inside n = let h = simp (length-append, length-drop) at (ap length (s .seen)) in omega (arith, s .front-length)
 
-  passed-first : (q ≡ p → ⊥) → getD t p 0 ∷ drop (suc p) t ≡ s .front ++ drop q t
+  passed-first : ¬ (q ≡ p) → getD t p 0 ∷ drop (suc p) t ≡ s .front ++ drop q t
   passed-first n = sym (drop-cons t p 0 (passed-inside n)) ∙ s .seen
 
+-- one byte more, which is no comma, and the byte less the digit zero
 module _ {t : List ℕ} {p q v : ℕ} (s : Passed t p q v) (l : q < length t) where
-  pub passed-goes-on : (d : ℕ) → (d + zero-digit) % 2 ^ 8 ≡ getD t q 0 → d ≤ 9 → v ≤ 9999 → Passed t p (q + 1) (v * 10 + d)
-  passed-goes-on d e nine few =
+  pub passed-goes-on : {d : ℕ} → (d + zero-digit) % 2 ^ 8 ≡ getD t q 0 → d ≤ 9 → v ≤ 9999 → Passed t p (q + 1) (v * 10 + d)
+  passed-goes-on {d} e nine few =
       let w = wrapped-digit (getD t q 0) d e nine in
       record {
         front = s .front ++ getD t q 0 ∷ [];
@@ -153,28 +148,30 @@ module _ {t : List ℕ} {p q v : ℕ} (s : Passed t p q v) (l : q < length t) wh
         small = omega arith;
       }
 
-  part-goes-on : (getD t q 0 ≡ comma → ⊥) → first-part (drop q t) ≡ getD t q 0 ∷ first-part (drop (suc q) t)
+  part-goes-on : ¬ (getD t q 0 ≡ comma) → first-part (drop q t) ≡ getD t q 0 ∷ first-part (drop (suc q) t)
   part-goes-on n = rw (drop-cons t q 0 l, ne-eqb (getD t q 0) comma n)
 
-  no-digit-no-number : (getD t q 0 ≡ comma → ⊥) → digit (getD t q 0) ≡ false → field-at t p ≡ none
+  no-digit-no-number : ¬ (getD t q 0 ≡ comma) → digit (getD t q 0) ≡ false → none ≡ field-at t p
   no-digit-no-number n f =
-      passed-field s
-      ∙ rw (part-goes-on n, no-digits-no-number _ (digits-then-none (s .front) (getD t q 0) _ (s .front-digits) f))
+      sym
+      (passed-field s
+      ∙ rw (part-goes-on n, no-digits-no-number _ (digits-then-none (s .front) (getD t q 0) _ (s .front-digits) f)))
 
-  pub no-digit-here : (d : ℕ) → (d + zero-digit) % 2 ^ 8 ≡ getD t q 0 → (getD t q 0 ≡ comma → ⊥) → 9 < d → d ≤ 255 → field-at t p ≡ none
-  no-digit-here d e n l m = by (ltb (getD t q 0) zero-digit) refl
+  pub no-digit-here : (d : ℕ) → ¬ (getD t q 0 ≡ comma) → (d + zero-digit) % 2 ^ 8 ≡ getD t q 0 → 9 < d → d < 2 ^ 8 → none ≡ field-at t p
+  no-digit-here d n e l m = by (ltb (getD t q 0) zero-digit) refl
     where
-      by : (b : Bool) → ltb (getD t q 0) zero-digit ≡ b → field-at t p ≡ none
+      by : (b : Bool) → ltb (getD t q 0) zero-digit ≡ b → none ≡ field-at t p
       by true low = no-digit-no-number n (below-is-no-digit (getD t q 0) (ltb-true (getD t q 0) zero-digit low))
       by false low =
           let k = ltb-false (getD t q 0) zero-digit low in
           no-digit-no-number n (above-is-no-digit (getD t q 0) (omega arith))
 
   -- digits that say 10,000 or more are five at least, and here comes another byte
-  pub sixth-byte-no-number : (getD t q 0 ≡ comma → ⊥) → 9999 < v → field-at t p ≡ none
+  pub sixth-byte-no-number : ¬ (getD t q 0 ≡ comma) → 9999 < v → none ≡ field-at t p
   sixth-byte-no-number n many =
-      passed-field s
-      ∙ rw (part-goes-on n, over-five-no-number (s .front ++ getD t q 0 ∷ first-part (drop (suc q) t)) (simp length-append five))
+      sym
+      (passed-field s
+      ∙ rw (part-goes-on n, over-five-no-number (s .front ++ getD t q 0 ∷ first-part (drop (suc q) t)) (simp length-append five)))
     where
       five : 5 < length (s .front) + suc (length (first-part (drop (suc q) t)))
       five = by (ltb (length (s .front)) 5) refl
@@ -198,25 +195,33 @@ module _ {t : List ℕ} {p q v : ℕ} (s : Passed t p q v) (e : first-part (drop
   passed-ends : field-at t p ≡ number-of p (s .front)
   passed-ends = passed-field s ∙ rw (e, append-nil)
 
-  pub no-byte-no-number : q ≡ p → field-at t p ≡ none
-  no-byte-no-number n = passed-ends ∙ rw (no-bytes-no-number (s .front) (omega (arith, s .front-length)))
+  pub no-byte-no-number : q ≡ p → none ≡ field-at t p
+  no-byte-no-number n = sym (passed-ends ∙ rw (no-bytes-no-number (s .front) (omega (arith, s .front-length))))
 
-  pub leading-zero-no-field : 1 < q - p → getD t p 0 ≡ zero-digit → field-at t p ≡ none
-  leading-zero-no-field l z =
-      passed-ends
-      ∙ rw (leading-zero-no-number (s .front) (drop q t) (drop (suc p) t) (getD t p 0) (passed-first s (λ n. omega arith)) (omega (arith, s .front-length)) z)
+  pub leading-zero-no-field : ¬ (q ≡ p) → 1 < q - p → getD t p 0 ≡ zero-digit → none ≡ field-at t p
+  leading-zero-no-field n l z =
+      let long : 1 < length (s .front) = omega (arith, s .front-length) in
+      sym (passed-ends ∙ rw (leading-zero-no-number (s .front) (drop q t) (drop (suc p) t) (getD t p 0) (passed-first s n) long z))
 
-  pub passed-number : (q ≡ p → ⊥) → (1 < q - p → getD t p 0 ≡ zero-digit → ⊥) → field-at t p ≡ some (record { value = v; text-end = q })
+  passed-number : ¬ (q ≡ p) → (1 < q - p → ¬ (getD t p 0 ≡ zero-digit)) → some (record { value = v; text-end = q }) ≡ field-at t p
   passed-number n plain =
-      passed-ends
+      let first = passed-first s n in
+      let some-byte : 1 ≤ length (s .front) = omega (arith, s .front-length) in
+      let says : said 0 (s .front) < 100000 = omega (arith, s .front-says, s .small) in
+      let few = plain-digits-few (s .front) (drop q t) (drop (suc p) t) (getD t p 0) first (s .front-digits) says front-plain in
+      sym
+      (passed-ends
       ∙ rw (
-        plain-digits-number (s .front) (drop q t) (drop (suc p) t) (getD t p 0) (passed-first s n) (s .front-digits) (omega (arith, s .front-length)) few
-            (λ l. plain (omega (arith, s .front-length))),
+        plain-digits-number (s .front) (drop q t) (drop (suc p) t) (getD t p 0) first (s .front-digits) some-byte few front-plain,
         s .front-says,
         ← s .front-length,
-      )
+      ))
     where
-      few : length (s .front) ≤ 5
-      few =
-          plain-digits-few (s .front) (drop q t) (drop (suc p) t) (getD t p 0) (passed-first s n) (s .front-digits) (omega (arith, s .front-says, s .small))
-          (λ l. plain (omega (arith, s .front-length)))
+      front-plain : 1 < length (s .front) → ¬ (getD t p 0 ≡ zero-digit)
+      front-plain l = plain (omega (arith, s .front-length))
+
+  pub one-digit-number : ¬ (q ≡ p) → q - p ≤ 1 → some (record { value = v; text-end = q }) ≡ field-at t p
+  one-digit-number n few = passed-number n (λ l z. omega arith)
+
+  pub plain-number : ¬ (q ≡ p) → ¬ (getD t p 0 ≡ zero-digit) → some (record { value = v; text-end = q }) ≡ field-at t p
+  plain-number n plain = passed-number n (λ l. plain)

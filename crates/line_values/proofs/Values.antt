@@ -1,19 +1,25 @@
 -- A text's parts are its first part and the parts of what follows its comma. So a line's numbers, looked for one after another, are the values
 -- of the line, and the first part that is no number, one part too few or one too many shows that it has none.
-use Prim.Native.Nat.{ℕ, suc, _+_, _≤_, _<_}
+use Prim.Native.Nat.{ℕ, suc, _+_, _^_, _≤_, _<_}
 use mathlib.Core.Path.{_≡_, refl, sym, ap, _∙_}
 use mathlib.Core.Bool.{Bool, true, false}
 use mathlib.Core.List.{List, [], _∷_}
 use mathlib.Core.Option.{Option, none, some}
 use native.Mathlib.Omega.{arith}
+use borrow.Author.Tests.{le-leb, lt-leb}
+use mir.Syntax.{w64}
+use mir.Val.{Fits}
 use lib.Dec.{eqb}
 use lib.ListN.{length, drop, length-drop}
 use lib.Seq.{drop-drop}
 use Rattle.meanings.specs.Lists.{pick}
+use Rattle.meanings.specs.Limits.{max-u16}
 use Rattle.meanings.specs.Bytes.{comma}
 use Rattle.meanings.specs.Sheet.{parts, number-form, said, parsed, ranged-point, two-parts, point-line, ranged-sample, three-parts, sample-line}
 use Rattle.fields.specs.declared.Field.{Field}
 use Rattle.fields.specs.declared.Field.the-variants.{Number, NoNumber}
+use Rattle.line_values.specs.declared.SampleLine.{SampleLine}
+use Rattle.line_values.specs.LineValues.{told-sample}
 use Rattle.fields.specs.Fields.{NumberEnd, told-field, first-part, number-of, field-at}
 
 first-part-within : (u : List ℕ) → length (first-part u) ≤ length u
@@ -57,7 +63,7 @@ some-byte-in-number [] e = let z : _≡_ {A = ℕ} 0 1 = cc in absurd (omega ari
 some-byte-in-number (b ∷ a) e = omega arith
 
 -- the part at byte p is the number n, and ends at byte e
-pub record Holds (t : List ℕ) (p n e : ℕ) : Type 0 where
+record Holds (t : List ℕ) (p n e : ℕ) : Type 0 where
   pub part : List ℕ
   pub part-number : parsed part ≡ some n
   pub end-inside : e ≤ length t
@@ -65,7 +71,7 @@ pub record Holds (t : List ℕ) (p n e : ℕ) : Type 0 where
   pub comma-then : (e ≡ length t → ⊥) → parts (drop p t) ≡ part ∷ parts (drop (e + 1) t)
 
 -- the part at byte p is no number
-pub record Lacks (t : List ℕ) (p : ℕ) : Type 0 where
+record Lacks (t : List ℕ) (p : ℕ) : Type 0 where
   pub part : List ℕ
   pub others : List (List ℕ)
   pub no-number : parsed part ≡ none
@@ -101,13 +107,13 @@ number-of-none p a h = by (number-form a) refl h
     by true f h = let z : _≡_ {A = ℕ} 0 1 = cc in absurd (omega arith)
     by false f h = rw f
 
-pub number-holds : {t : List ℕ} {p n e : ℕ} {r : Field} → told-field r ≡ field-at t p → r ≡ Number n e → Holds t p n e
+number-holds : {t : List ℕ} {p n e : ℕ} {r : Field} → told-field r ≡ field-at t p → r ≡ Number n e → Holds t p n e
 unfolding field-at
 number-holds {t} {p} {n} {e} {r} h i =
     let o = number-of-some p (first-part (drop p t)) (record { value = n; text-end = e }) (ap told-field (sym i) ∙ h) in
     number-there t p n e (o .0) (o .1) (o .2)
 
-pub no-number-lacks : {t : List ℕ} {p : ℕ} {r : Field} → told-field r ≡ field-at t p → r ≡ NoNumber → Lacks t p
+no-number-lacks : {t : List ℕ} {p : ℕ} {r : Field} → told-field r ≡ field-at t p → r ≡ NoNumber → Lacks t p
 unfolding field-at
 no-number-lacks {t} {p} {r} h i = record {
   part = first-part (drop p t);
@@ -141,47 +147,98 @@ three-parts-third : (a b c : List ℕ) (ps : List (List ℕ)) (n m : ℕ) → pa
 three-parts-third a b c [] n m f g h = rw (f, g, h)
 three-parts-third a b c (d ∷ ps) n m f g h = refl
 
-pub point-first-lacks : {t : List ℕ} → Lacks t 0 → point-line t ≡ none
-point-first-lacks a = rw (a .part-and-others) (two-parts-first (a .part) (a .others) (a .no-number))
+-- the fields of a line, as number_at tells them one after another
+pub point-first-lacks : (t : List ℕ) {r : Field} → told-field r ≡ field-at t 0 → r ≡ NoNumber → none ≡ point-line t
+point-first-lacks t f i = let a = no-number-lacks f i in sym (rw (a .part-and-others) (two-parts-first (a .part) (a .others) (a .no-number)))
 
-pub sample-first-lacks : {t : List ℕ} → Lacks t 0 → sample-line t ≡ none
-sample-first-lacks a = rw (a .part-and-others) (three-parts-first (a .part) (a .others) (a .no-number))
+pub sample-first-lacks : (t : List ℕ) {r : Field} → told-field r ≡ field-at t 0 → r ≡ NoNumber → none ≡ sample-line t
+sample-first-lacks t f i = let a = no-number-lacks f i in sym (rw (a .part-and-others) (three-parts-first (a .part) (a .others) (a .no-number)))
 
-module _ {t : List ℕ} {n e : ℕ} (a : Holds t 0 n e) where
-  pub point-of-one : e ≡ length t → point-line t ≡ none
-  point-of-one l = rw (a .last-part l)
+pub comma-fits : (t : List ℕ) (p : ℕ) {r : Field} {n e : ℕ} → told-field r ≡ field-at t p → r ≡ Number n e → ¬ (e ≡ length t) → length t < 2 ^ 64
+    → Fits w64 (e + 1)
+comma-fits t p f i n l = let a = number-holds {t = t} {p = p} f i in record { fits = omega arith }
 
-  pub sample-of-one : e ≡ length t → sample-line t ≡ none
-  sample-of-one l = rw (a .last-part l)
+module _ (t : List ℕ) {r : Field} {n e : ℕ} (f : told-field r ≡ field-at t 0) (i : r ≡ Number n e) where
+  first : Holds t 0 n e
+  first = number-holds f i
 
-  module _ (i : e ≡ length t → ⊥) where
-    pub point-second-lacks : Lacks t (e + 1) → point-line t ≡ none
-    point-second-lacks b =
-        rw (a .comma-then i, b .part-and-others) (two-parts-second (a .part) (b .part) (b .others) n (a .part-number) (b .no-number))
+  pub point-of-one : e ≡ length t → none ≡ point-line t
+  point-of-one l = sym (rw (first .last-part l))
 
-    pub sample-second-lacks : Lacks t (e + 1) → sample-line t ≡ none
-    sample-second-lacks b =
-        rw (a .comma-then i, b .part-and-others) (three-parts-second (a .part) (b .part) (b .others) n (a .part-number) (b .no-number))
+  pub sample-of-one : e ≡ length t → none ≡ sample-line t
+  sample-of-one l = sym (rw (first .last-part l))
 
-    module _ {m l : ℕ} (b : Holds t (e + 1) m l) where
-      pub point-of-two : l ≡ length t → point-line t ≡ ranged-point (some n) (some m)
-      point-of-two h = rw (a .comma-then i, b .last-part h, a .part-number, b .part-number)
+  module _ {q : Field} (more : ¬ (e ≡ length t)) (g : told-field q ≡ field-at t (e + 1)) where
+    pub point-second-lacks : q ≡ NoNumber → none ≡ point-line t
+    point-second-lacks j =
+        let a = first in
+        let b = no-number-lacks g j in
+        sym (rw (a .comma-then more, b .part-and-others) (two-parts-second (a .part) (b .part) (b .others) n (a .part-number) (b .no-number)))
 
-      pub sample-of-two : l ≡ length t → sample-line t ≡ none
-      sample-of-two h = rw (a .comma-then i, b .last-part h)
+    pub sample-second-lacks : q ≡ NoNumber → none ≡ sample-line t
+    sample-second-lacks j =
+        let a = first in
+        let b = no-number-lacks g j in
+        sym (rw (a .comma-then more, b .part-and-others) (three-parts-second (a .part) (b .part) (b .others) n (a .part-number) (b .no-number)))
 
-      module _ (k : l ≡ length t → ⊥) where
-        pub point-of-more : point-line t ≡ none
-        point-of-more = rw (a .comma-then i, b .comma-then k, parts-begin (drop (l + 1) t) .1)
+    module _ {m l : ℕ} (j : q ≡ Number m l) where
+      second : Holds t (e + 1) m l
+      second = number-holds g j
 
-        pub sample-third-lacks : Lacks t (l + 1) → sample-line t ≡ none
-        sample-third-lacks d =
-            rw (a .comma-then i, b .comma-then k, d .part-and-others)
-            (three-parts-third (a .part) (b .part) (d .part) (d .others) n m (a .part-number) (b .part-number) (d .no-number))
+      ranged : l ≡ length t → point-line t ≡ ranged-point (some n) (some m)
+      ranged h = rw (first .comma-then more, second .last-part h, first .part-number, second .part-number)
 
-        module _ {v g : ℕ} (d : Holds t (l + 1) v g) where
-          pub sample-of-three : g ≡ length t → sample-line t ≡ ranged-sample (some n) (some m) (some v)
-          sample-of-three h = rw (a .comma-then i, b .comma-then k, d .last-part h, a .part-number, b .part-number, d .part-number)
+      pub point-off : l ≡ length t → max-u16 < n → none ≡ point-line t
+      point-off h k = sym (ranged h ∙ rw (lt-leb n max-u16 k))
 
-          pub sample-of-more : (g ≡ length t → ⊥) → sample-line t ≡ none
-          sample-of-more h = rw (a .comma-then i, b .comma-then k, d .comma-then h, parts-begin (drop (g + 1) t) .1)
+      pub point-of-two : l ≡ length t → n ≤ max-u16 → some (record { point = n; bandwidth = m }) ≡ point-line t
+      point-of-two h k = sym (ranged h ∙ rw (le-leb n max-u16 k))
+
+      pub point-of-more : ¬ (l ≡ length t) → none ≡ point-line t
+      point-of-more k = sym (rw (first .comma-then more, second .comma-then k, parts-begin (drop (l + 1) t) .1))
+
+      pub sample-of-two : l ≡ length t → none ≡ sample-line t
+      sample-of-two h = sym (rw (first .comma-then more, second .last-part h))
+
+      module _ {k : Field} (further : ¬ (l ≡ length t)) (h : told-field k ≡ field-at t (l + 1)) where
+        pub sample-third-lacks : k ≡ NoNumber → none ≡ sample-line t
+        sample-third-lacks o =
+            let a = first in
+            let b = second in
+            let d = no-number-lacks h o in
+            sym
+            (rw (a .comma-then more, b .comma-then further, d .part-and-others)
+            (three-parts-third (a .part) (b .part) (d .part) (d .others) n m (a .part-number) (b .part-number) (d .no-number)))
+
+        module _ {v y : ℕ} (o : k ≡ Number v y) where
+          pub sample-of-three : (x : SampleLine) → y ≡ length t → told-sample x ≡ ranged-sample (some n) (some m) (some v)
+              → told-sample x ≡ sample-line t
+          sample-of-three x z u =
+              let a = first in
+              let b = second in
+              let d = number-holds h o in
+              u ∙ sym (rw (a .comma-then more, b .comma-then further, d .last-part z, a .part-number, b .part-number, d .part-number))
+
+          pub sample-of-more : ¬ (y ≡ length t) → none ≡ sample-line t
+          sample-of-more z =
+              let d = number-holds h o in
+              sym (rw (first .comma-then more, second .comma-then further, d .comma-then z, parts-begin (drop (y + 1) t) .1))
+
+-- three numbers, as the code looks at their ranges
+module _ (t j v : ℕ) where
+  pub minute-off : max-u16 < t → none ≡ ranged-sample (some t) (some j) (some v)
+  minute-off a = sym (rw (lt-leb t max-u16 a))
+
+  module _ (a : t ≤ max-u16) where
+    pub injection-zero : j ≡ 0 → none ≡ ranged-sample (some t) (some j) (some v)
+    injection-zero b = sym (rw (le-leb t max-u16 a, b))
+
+    pub injection-off : max-u16 < j → none ≡ ranged-sample (some t) (some j) (some v)
+    injection-off c = sym (rw (le-leb t max-u16 a, le-leb 1 j (omega arith), lt-leb j max-u16 c))
+
+    module _ (b : ¬ (j ≡ 0)) (c : j ≤ max-u16) where
+      pub value-off : max-u16 < v → none ≡ ranged-sample (some t) (some j) (some v)
+      value-off d = sym (rw (le-leb t max-u16 a, le-leb 1 j (omega arith), le-leb j max-u16 c, lt-leb v max-u16 d))
+
+      pub all-in-range : v ≤ max-u16 → some (record { minute = t; injection = j; value = v }) ≡ ranged-sample (some t) (some j) (some v)
+      all-in-range d = sym (rw (le-leb t max-u16 a, le-leb 1 j (omega arith), le-leb j max-u16 c, le-leb v max-u16 d))

@@ -2,35 +2,44 @@
 -- is none. And what has been found is the first of the lines from there on.
 use Prim.Native.Nat.{ℕ, suc, _+_, _-_, _≤_, _<_}
 use mathlib.Core.Path.{_≡_, refl, sym, ap, _∙_}
-use mathlib.Core.Bool.{true, false}
+use mathlib.Core.Bool.{false}
 use mathlib.Core.List.{List, _∷_, _++_}
 use mathlib.Core.Option.{none, some}
 use native.Mathlib.Omega.{arith}
 use native.Mathlib.Numerals.{add-one}
-use lib.Dec.{eqb}
+use borrow.Author.Tests.{eq-eqb, ne-eqb}
 use lib.ListN.{length, getD, take, drop, length-append, length-drop, drop-of-length-le}
 use lib.Seq.{drop-cons, take-at, drop-drop, drop-append-add}
 use Rattle.meanings.specs.Bytes.{line-feed}
 use Rattle.meanings.specs.Sheet.{Lines, end, unended, line, with-byte, lines}
 use Rattle.text_laws.proofs.Texts.{first-line}
-use Rattle.lines.specs.Lines.{LineEnd, first-end, line-at}
+use Rattle.lines.specs.declared.Line.{Line}
+use Rattle.lines.specs.declared.Line.the-variants.{Ended, Unended}
+use Rattle.lines.specs.Lines.{LineEnd, told-line, first-end, line-at}
 
 byte-in-front : (p b : ℕ) (ls : Lines) → first-end p (with-byte false b ls) ≡ first-end (suc p) ls
 byte-in-front p b end = refl
 byte-in-front p b (unended t) = refl
 byte-in-front p b (line t ls) = ap (λ (n : ℕ). some (record { text-end = n; next = n + 1 })) (omega arith)
 
-pub no-feed-here : (s : List ℕ) (p : ℕ) → p < length s → eqb (getD s p 0) line-feed ≡ false → line-at s p ≡ line-at s (p + 1)
-unfolding line-at
-no-feed-here s p l e = rw (add-one p, drop-cons s p 0 l, e) (byte-in-front p (getD s p 0) (lines (drop (suc p) s)))
-
-pub feed-here : (s : List ℕ) (p : ℕ) → p < length s → eqb (getD s p 0) line-feed ≡ true → line-at s p ≡ some (record { text-end = p; next = p + 1 })
-unfolding line-at
-feed-here s p l e = rw (drop-cons s p 0 l, e) (ap (λ (n : ℕ). some (record { text-end = n; next = n + 1 })) (omega arith))
-
 pub no-line-at-end : (s : List ℕ) (p : ℕ) → length s ≤ p → line-at s p ≡ none
 unfolding line-at
 no-line-at-end s p l = rw (drop-of-length-le s l)
+
+-- a search that began at byte `from` has come to byte p
+module _ (s : List ℕ) (from p : ℕ) (still : line-at s from ≡ line-at s p) where
+  pub sheet-ends : length s ≤ p → none ≡ line-at s from
+  sheet-ends l = sym (still ∙ no-line-at-end s p l)
+
+  pub no-feed-here : p < length s → ¬ (getD s p 0 ≡ line-feed) → line-at s from ≡ line-at s (p + 1)
+  unfolding line-at
+  no-feed-here l n =
+      still ∙ rw (add-one p, drop-cons s p 0 l, ne-eqb (getD s p 0) line-feed n) (byte-in-front p (getD s p 0) (lines (drop (suc p) s)))
+
+  pub feed-here : p < length s → getD s p 0 ≡ line-feed → some (record { text-end = p; next = p + 1 }) ≡ line-at s from
+  unfolding line-at
+  feed-here l e =
+      sym (still ∙ rw (drop-cons s p 0 l, eq-eqb (getD s p 0) line-feed e) (ap (λ (n : ℕ). some (record { text-end = n; next = n + 1 })) (omega arith)))
 
 -- the line at byte p has its text from p up to e, and the lines from byte n on follow it
 pub record LineFound (s : List ℕ) (p e n : ℕ) : Type 0 where
@@ -40,7 +49,7 @@ pub record LineFound (s : List ℕ) (p e n : ℕ) : Type 0 where
   pub passes : p + length (take (e - p) (drop p s)) + 1 ≡ n
   pub first-of-lines : lines (drop p s) ≡ line (take (e - p) (drop p s)) (lines (drop n s))
 
-pub line-found : (s : List ℕ) (p e n : ℕ) → line-at s p ≡ some (record { text-end = e; next = n }) → LineFound s p e n
+line-found : (s : List ℕ) (p e n : ℕ) → line-at s p ≡ some (record { text-end = e; next = n }) → LineFound s p e n
 unfolding line-at
 line-found s p e n h = by (lines (drop p s)) refl h
   where
@@ -69,3 +78,20 @@ line-found s p e n h = by (lines (drop p s)) refl h
             let k : n ≡ p + (length t + 1) = omega arith in
             ap (λ (k : ℕ). drop k s) k ∙ sym (drop-drop (length t + 1) p s)
             ∙ ap (λ (l : List ℕ). drop (length t + 1) l) d ∙ drop-append-add t (line-feed ∷ r) 1
+
+-- a line as find_line tells it
+pub line-told : {s : List ℕ} {p e n : ℕ} {l : Line} → told-line l ≡ line-at s p → l ≡ Ended e n → LineFound s p e n
+line-told t f = line-found _ _ _ _ (sym t ∙ ap told-line f)
+
+module _ (s : List ℕ) (p : ℕ) {e n : ℕ} {l : Line} (told : told-line l ≡ line-at s p) (ended : l ≡ Ended e n) where
+  pub text-begins : p ≤ e
+  text-begins = line-told told ended .begins
+
+  pub text-within : e ≤ length s
+  text-within = let f = line-told {s = s} told ended in omega arith
+
+  pub line-shortens : length s - n < length s - p
+  line-shortens = let f = line-told {s = s} told ended in omega arith
+
+pub no-line-told : (s : List ℕ) (p : ℕ) {l : Line} → told-line l ≡ line-at s p → l ≡ Unended → line-at s p ≡ none
+no-line-told s p t u = sym t ∙ ap told-line u

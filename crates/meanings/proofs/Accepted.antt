@@ -1,5 +1,5 @@
 -- Demand 2 about the meanings: the row of a mark is the published row wherever the question at one mark accepts, and no other row is.
-use Prim.Native.Nat.{ℕ, _+_, _*_, _≤_, _<_}
+use Prim.Native.Nat.{ℕ, _≤_, _<_}
 use mathlib.Core.Path.{_≡_, sym, _∙_}
 use mathlib.Core.Logic.{_↔_}
 use mathlib.Core.List.{List}
@@ -14,7 +14,7 @@ use Rattle.meanings.specs.Reports.{given}
 use Rattle.meanings.specs.Estimate.{Fit, weight-of, sum-of, estimate}
 use Rattle.meanings.specs.Calls.{evaluate, evaluate-refusal}
 use Rattle.meanings.specs.Published.{Fraction, _≈_, regression-above, regression-below}
-use Rattle.meanings.specs.PublishedRow.{Nearest, scaled, PublishedRow}
+use Rattle.meanings.specs.PublishedRow.{scaled, PublishedRow}
 use Rattle.meanings.proofs.Bounds.{weight-bound, sum-bound, missing-exactly}
 use Rattle.meanings.proofs.Checks.{Accepted, evaluate-accepts, given-accepted}
 use Rattle.meanings.proofs.Published.{density-is-weight, below-is-weight, above-is-sum, regression-is-quotient, weight-by-sums, sum-by-sums, scaled-adds}

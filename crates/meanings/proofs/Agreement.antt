@@ -3,7 +3,6 @@ use Prim.Native.Nat.{ℕ, _-_}
 use mathlib.Core.Path.{_≡_, refl}
 use mathlib.Core.Option.{Option, none, some}
 use mathlib.Core.List.{List, []}
-use native.Mathlib.Omega.{arith}
 use lib.ListN.{take, drop}
 use Rattle.meanings.specs.declared.Limits.{Limits}
 use Rattle.meanings.specs.declared.Estimate.{Estimate}

@@ -3,8 +3,8 @@ use Prim.Native.Nat.{ℕ}
 use mathlib.Core.Path.{_≡_, refl}
 use mathlib.Core.Option.{none, some}
 use mathlib.Core.List.{List, [], _∷_, map}
-use Rattle.meanings.specs.declared.Report.{Report}
-use Rattle.meanings.specs.declared.Report.the-variants.{TooLong, BadHeader, MalformedLine, SampleOutOfOrder, PointOutOfOrder, TooMany, NoPoints, LengthMismatch, BandwidthOutOfRange, EdgeDecreases, InvalidRecord, UnknownPreset, GridOverflow}
+use Rattle.meanings.specs.declared.Report.the-variants.{TooLong, BadHeader, MalformedLine, SampleOutOfOrder, PointOutOfOrder, TooMany, NoPoints}
+use Rattle.meanings.specs.declared.Report.the-variants.{LengthMismatch, BandwidthOutOfRange, EdgeDecreases, InvalidRecord, UnknownPreset, GridOverflow}
 use Rattle.meanings.specs.declared.Refusal.{Refusal}
 use Rattle.meanings.specs.declared.Estimate.{Estimate}
 use Rattle.meanings.specs.declared.RunningSums.{RunningSums}

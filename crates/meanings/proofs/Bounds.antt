@@ -1,19 +1,19 @@
 -- No accepted input overflows: each of at most 1,024 readings adds at most h² ≤ 2^32 to the weight, and at most 65,535 times that to the
 -- sum. So the sum is at most 65,535 times the weight, a present value is at most 65,535, and 65,536 is free to mean missing.
 use Prim.Native.Nat.{ℕ, zero, suc, _+_, _-_, _*_, _^_, _≤_, _<_, zero-le}
-use mathlib.Core.Path.{_≡_, refl, sym, _∙_}
+use mathlib.Core.Path.{_≡_}
 use mathlib.Core.Logic.{_↔_}
 use mathlib.Core.List.{List}
-use native.Mathlib.Nat.{le-trans, mul-le-mul, mul-le-mul-left, mul-le-mul-right}
+use native.Mathlib.Nat.{le-trans, mul-le-mul, mul-le-mul-left}
 use native.Mathlib.Decide.{ℕ-discrete}
 use native.Mathlib.Omega.{arith}
-use lib.ListN.{length, getD}
+use lib.ListN.{length}
 use Rattle.meanings.specs.Lists.{total, AtMost}
 use Rattle.meanings.specs.Limits.{max-u16, max-bandwidth, full}
 use Rattle.meanings.specs.Estimate.{kernel, left-of, right-of, weight-of, sum-of, value-of, estimate, missing, Fit}
 use Rattle.meanings.proofs.Kernel.{kernel-at-most}
 use Rattle.meanings.proofs.Rounding.{rounded-at-most, value-present, value-missing}
-use Rattle.meanings.proofs.Window.{left-at-most-right, right-at-most-length}
+use Rattle.meanings.proofs.Window.{right-at-most-length}
 
 pub total-at-most : (g : ℕ → ℕ) (m a n : ℕ) → ((i : ℕ) → i < n → g (a + i) ≤ m) → total g a n ≤ n * m
 total-at-most g m a zero k = zero-le
@@ -39,7 +39,8 @@ module _ (ts vs : List ℕ) (z h : ℕ) where
   unfolding weight-of sum-of
   sum-at-most-times e m =
       total-at-most-times _ _ max-u16 _ _
-      (λ i (l : i < right-of ts z h - left-of ts z h). mul-le-mul-left (kernel z h _) (m (left-of ts z h + i) (let r = right-at-most-length ts z h in omega arith)))
+      (λ i (l : i < right-of ts z h - left-of ts z h).
+      mul-le-mul-left (kernel z h _) (m (left-of ts z h + i) (let r = right-at-most-length ts z h in omega arith)))
 
   pub sum-bound : Fit ts vs h → sum-of ts vs z h ≤ 2 ^ 58 - 2 ^ 42
   sum-bound f = let w = weight-bound (f .few) (f .bandwidth) in let s = sum-at-most-times (f .even) (f .values) in omega arith

@@ -1,14 +1,15 @@
 -- Every case of SPECIFICATION 7.6, 7.9 and 7.10 and every case of our own holds of the meanings: both sides are computed. Two of our own have
 -- as many readings as there may be, all equal, and their rows are computed by the law of equal readings instead of reading by reading.
 use Prim.Native.Nat.{ℕ, zero, suc}
-use mathlib.Core.Path.{_≡_, refl, ap}
+use mathlib.Core.Path.{refl, ap}
 use mathlib.Core.List.{List, [], _∷_}
 use native.Mathlib.Omega.{arith}
 use lib.ListN.{take, drop}
-use Rattle.meanings.specs.Cases.{Case, Result, result, AllHold, estimated}
+use Rattle.meanings.specs.Cases.{Case, AllHold, estimated}
 use Rattle.meanings.specs.Document.{document-cases}
 use Rattle.meanings.specs.OwnCases.{own-cases}
-use Rattle.meanings.specs.Calls.{evaluate, window, window-start, smooth, smooth-rows, fill, fill-points, fill-bandwidths, read, write, write-buffer, write-refusal-text, refusal-buffer}
+use Rattle.meanings.specs.Calls.{evaluate, window, window-start, smooth, smooth-rows, fill, fill-points}
+use Rattle.meanings.specs.Calls.{fill-bandwidths, read, write, write-buffer, write-refusal-text, refusal-buffer}
 use Rattle.meanings.specs.Estimate.{estimate, left-of, right-of, kernel, weight-of, sum-of, value-of, rounded}
 use Rattle.meanings.specs.Lists.{distance}
 use Rattle.meanings.specs.Output.{program, curve-text, refusal-text, decimal, decimal-with}
@@ -17,7 +18,8 @@ use Rattle.meanings.specs.Sheet.{read-sheet}
 use Rattle.meanings.proofs.EqualSamples.{equal-samples}
 
 pub document-cases-hold : AllHold document-cases
-unfolding evaluate smooth smooth-rows estimate left-of right-of kernel distance weight-of sum-of value-of rounded program curve-text refusal-text decimal decimal-with advance moved read-sheet
+unfolding evaluate smooth smooth-rows estimate left-of right-of kernel distance weight-of sum-of value-of rounded program curve-text refusal-text
+    decimal decimal-with advance moved read-sheet
 document-cases-hold = refl
 
 -- a list of cases in two parts
@@ -45,7 +47,9 @@ unfolding kernel distance value-of rounded
 the-longest = ap (λ a. estimated a ∷ []) (equal-samples 1024 3 4 3 1 (omega arith) (omega arith) (omega arith) (omega arith, omega arith))
 
 behind-the-longest : AllHold (drop 13 own-cases)
-unfolding evaluate window window-start smooth smooth-rows fill fill-points fill-bandwidths read write write-buffer write-refusal-text refusal-buffer estimate left-of right-of kernel distance weight-of sum-of value-of rounded program curve-text refusal-text decimal decimal-with advance moved record-row read-sheet
+unfolding evaluate window window-start smooth smooth-rows fill fill-points fill-bandwidths read write write-buffer write-refusal-text refusal-buffer
+    estimate left-of right-of kernel distance weight-of sum-of value-of rounded program curve-text refusal-text decimal decimal-with advance
+    moved record-row read-sheet
 behind-the-longest = refl
 
 pub own-cases-hold : AllHold own-cases

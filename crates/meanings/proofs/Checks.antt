@@ -14,10 +14,12 @@ use Rattle.meanings.specs.declared.Limits.{Limits}
 use Rattle.meanings.specs.declared.Refusal.{Refusal}
 use Rattle.meanings.specs.declared.Verdict.{Verdict}
 use Rattle.meanings.specs.declared.Verdict.the-variants.{Faulty}
-use Rattle.meanings.specs.Lists.{pick, lowest, Ordered, AtMost}
-use Rattle.meanings.specs.Limits.{full, max-bandwidth, max-u16}
-use Rattle.meanings.specs.Reports.{Fault, told, told-verdict, Answer, given, refused, unless, Check, at, or-later, first-of, differ, decreases, bad-bandwidth, edge-below, edge-decreases, uneven-samples, smooth-size-checks, evaluate-checks, advance-checks, log-checks}
-use Rattle.meanings.specs.Estimate.{Fit, estimate}
+use Rattle.meanings.specs.Lists.{lowest, Ordered}
+use Rattle.meanings.specs.Limits.{full, max-bandwidth}
+use Rattle.meanings.specs.Reports.{Fault, told, told-verdict, given, refused, unless}
+use Rattle.meanings.specs.Reports.{Check, at, or-later, first-of, differ, decreases, bad-bandwidth}
+use Rattle.meanings.specs.Reports.{edge-below, edge-decreases, uneven-samples, smooth-size-checks, evaluate-checks, advance-checks, log-checks}
+use Rattle.meanings.specs.Estimate.{Fit}
 use Rattle.meanings.specs.Calls.{evaluate, evaluate-refusal}
 use Rattle.meanings.proofs.Search.{lowest-none}
 

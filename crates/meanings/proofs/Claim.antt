@@ -18,8 +18,10 @@ use Rattle.meanings.specs.Moves.{Move, moves}
 use Rattle.meanings.specs.Reports.{Fault, unless, accepted-or, report, at, first-of, bad-bandwidth, uneven-samples, log-checks}
 use Rattle.meanings.specs.Estimate.{left-of, right-of}
 use Rattle.meanings.specs.Running.{power-sum, six, fresh, moved, advance, settled, after-step, after}
-use Rattle.meanings.specs.EventLog.{EventLog, listed, insertions, with-insertions, evictions, log-refusal, log-step, log-after, insertion-count, eviction-count}
-use Rattle.meanings.specs.Claim.{accepted-next, accepted-after, NotBelow, last-accepted, NoEdgeBackAfter, NoEdgeBack, between, window-direct, refusal, record-after, log-after-steps, StepHolds, Demand3}
+use Rattle.meanings.specs.EventLog.{EventLog, listed, insertions, with-insertions, evictions}
+use Rattle.meanings.specs.EventLog.{log-refusal, log-step, log-after, insertion-count, eviction-count}
+use Rattle.meanings.specs.Claim.{accepted-next, accepted-after, NotBelow, last-accepted, NoEdgeBackAfter, NoEdgeBack, between}
+use Rattle.meanings.specs.Claim.{window-direct, refusal, record-after, log-after-steps, StepHolds, Demand3}
 use Rattle.meanings.proofs.Checks.{none-holds, at-none, differ-false, no-decrease-ordered, advance-refused-as-logged}
 use Rattle.meanings.proofs.Passes.{Within, Onward, fresh-within, after-onward, later-onward}
 use Rattle.meanings.proofs.Positions.{length-below, between-joins, already-listed, not-yet-listed, positions-between}
@@ -265,7 +267,8 @@ module _ (ts vs : List ℕ) where
       by (decLt k (record-after ts vs (before ++ m ∷ []) .right)) (inserted-somewhere (before ++ m ∷ []) ms k)
     where
       by : Dec (k < record-after ts vs (before ++ m ∷ []) .right)
-          → (record-after ts vs (before ++ m ∷ []) .right ≤ k → k < record-after ts vs ((before ++ m ∷ []) ++ ms) .right → Inserted ts vs ((before ++ m ∷ []) ++ ms) k)
+          → (record-after ts vs (before ++ m ∷ []) .right ≤ k → k < record-after ts vs ((before ++ m ∷ []) ++ ms) .right
+          → Inserted ts vs ((before ++ m ∷ []) ++ ms) k)
           → Inserted ts vs (before ++ m ∷ ms) k
       by (yes u) f = record { before = before; step = m; rest = ms; split = refl; taken = (l, u) }
       by (no u) f = let g = rw append-assoc at f in g (omega arith) t

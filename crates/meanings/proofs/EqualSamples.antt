@@ -3,7 +3,6 @@
 use Prim.Native.Nat.{ℕ, zero, suc, _+_, _*_, _≤_, _<_}
 use mathlib.Core.Path.{_≡_, refl, ap}
 use mathlib.Core.Bool.{Bool, true, false}
-use mathlib.Core.List.{List}
 use mathlib.Core.Option.{none}
 use native.Mathlib.Nat.{le-refl, sub-zero}
 use native.Mathlib.Omega.{arith}
@@ -63,9 +62,17 @@ module _ (n t v z h : ℕ) (few : n ≤ full .samples) (positive : 0 < h) (bandw
   unfolding sum-of
   sum-is =
       rw (left-is-0, right-is-n, sub-zero n)
-      (total-equal (λ i. kernel z h (getD (replicate n t) i 0) * getD (replicate n v) i 0) (kernel z h t * v) n (λ i l. rw (getD-replicate n i t 0 l, getD-replicate n i v 0 l)))
+      (total-equal (λ i. kernel z h (getD (replicate n t) i 0) * getD (replicate n v) i 0) (kernel z h t * v) n
+      (λ i l. rw (getD-replicate n i t 0 l, getD-replicate n i v 0 l)))
 
   pub equal-samples : evaluate full (replicate n t) (replicate n v) z h
-      ≡ given (record { left = 0; right = n; weight = n * kernel z h t; sum = n * (kernel z h t * v); value = value-of (n * (kernel z h t * v)) (n * kernel z h t) })
+      ≡ given
+      (record {
+        left = 0;
+        right = n;
+        weight = n * kernel z h t;
+        sum = n * (kernel z h t * v);
+        value = value-of (n * (kernel z h t * v)) (n * kernel z h t);
+      })
   unfolding evaluate estimate
   equal-samples = rw (accepted, left-is-0, right-is-n, weight-is, sum-is)

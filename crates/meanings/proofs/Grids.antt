@@ -12,10 +12,10 @@ use borrow.Author.Tests.{ltb-false, leb-false, eqb-false, le-ltb, ne-eqb}
 use lib.Dec.{ltb}
 use lib.ListN.{length, getD, replicate, length-append, length-replicate, getD-replicate, List·getD-append}
 use lib.Seq.{getD-at}
-use Rattle.meanings.specs.declared.Limits.{Limits}
 use Rattle.meanings.specs.Lists.{lowest}
 use Rattle.meanings.specs.Limits.{full, max-u16, max-bandwidth}
-use Rattle.meanings.specs.Reports.{given, report, at, first-of, decreases, bad-bandwidth, edge-decreases, uneven-samples, size-checks, fill-checks, smooth-checks}
+use Rattle.meanings.specs.Reports.{given, report, at, first-of, decreases, bad-bandwidth}
+use Rattle.meanings.specs.Reports.{edge-decreases, uneven-samples, size-checks, fill-checks, smooth-checks}
 use Rattle.meanings.specs.Grid.{presets, grid}
 use Rattle.meanings.specs.Calls.{fill-refusal, fill, fill-points, fill-bandwidths, smooth-refusal}
 use Rattle.meanings.proofs.Checks.{none-holds, at-none, differ-false, differ-same, given-accepted}

@@ -1,8 +1,8 @@
 -- Sum and difference modulo 2^w: the difference is the one number below 2^w that gives the first number back when the second is added. So a
 -- difference below 2^w is had exactly, whatever wrapped on the way.
 use Prim.Native.Nat.{ℕ, _+_, _-_, _*_, _/_, _%_, _^_, _<_}
-use mathlib.Core.Path.{_≡_, refl, sym, _∙_, ap}
-use native.Mathlib.Nat.{mod-add-mod, mod-lt, mod-eq-of-lt, div-add-mod, add-mul-mod-self-left, le-of-lt}
+use mathlib.Core.Path.{_≡_, _∙_, ap}
+use native.Mathlib.Nat.{mod-add-mod, mod-lt, mod-eq-of-lt, div-add-mod, add-mul-mod-self-left}
 use native.Mathlib.Omega.{arith}
 use lib.Pow.{pow-pos}
 use Rattle.meanings.specs.Running.{minus, combined}

@@ -1,16 +1,16 @@
 -- Weight and sum by the six sums (SPECIFICATION 2.13), without negative numbers: each reading inside the window keeps
 -- (h² − (t − z)²) + z² + t² = h² + 2 z t, also times its value, and totals keep what their terms keep.
-use Prim.Native.Nat.{ℕ, zero, suc, _+_, _-_, _*_, _^_, _≤_, _<_, zero-le}
+use Prim.Native.Nat.{ℕ, zero, suc, _+_, _-_, _*_, _^_, _<_}
 use mathlib.Core.Path.{_≡_, ap, _∙_}
 use mathlib.Core.List.{List}
-use native.Mathlib.Nat.{add-zero, pow-zero, pow-suc, mul-one, one-mul}
+use native.Mathlib.Nat.{pow-zero, pow-suc, one-mul}
 use native.Mathlib.Omega.{arith}
 use lib.ListN.{length, getD}
 use Rattle.meanings.specs.Lists.{total, distance, Ordered}
 use Rattle.meanings.specs.Estimate.{Inside, kernel, left-of, right-of, weight-of, sum-of}
 use Rattle.meanings.specs.Running.{window-sum}
 use Rattle.meanings.proofs.Kernel.{distance-square, kernel-exact}
-use Rattle.meanings.proofs.Window.{left-at-most-right, right-at-most-length, run-is-inside}
+use Rattle.meanings.proofs.Window.{right-at-most-length, run-is-inside}
 
 -- a linear equation that each term keeps is kept by the totals
 pub totals-balance : (f g₀ g₁ g₂ : ℕ → ℕ) (A B C : ℕ) (a n : ℕ)

@@ -82,7 +82,9 @@ positions-between p a b zero l exact = let e : b - a ≡ 0 = omega arith in rw e
 positions-between p a b (suc n) l exact =
     by (p n) refl
     (positions-between p a (min b n) n (min-le-right b n)
-    (λ i m. (λ t. below-the-cut a b i n m .0 (exact i (le-of-lt (suc-le-suc m)) .0 t), λ w. exact i (le-of-lt (suc-le-suc m)) .1 (below-the-cut a b i n m .1 w))))
+    (λ i m.
+    let e = exact i (le-of-lt (suc-le-suc m)) in
+    (λ t. below-the-cut a b i n m .0 (e .0 t), λ w. e .1 (below-the-cut a b i n m .1 w))))
   where
     by : (t : Bool) → p n ≡ t → positions p n ≡ between a (min b n) → positions p n ++ pick t (n ∷ []) [] ≡ between a b
     by true e k = let c = cut-last a b n l (exact n (le-refl (suc n)) .0 e) in rw (k, c .0, c .1, c .2)

@@ -1,6 +1,6 @@
 -- The table of bandwidth presets rises and lies in 1 to 65,536: one test computed over the whole table, and a law that turns it into the
 -- rule at each position.
-use Prim.Native.Nat.{ℕ, zero, suc, _+_, _≤_, _<_}
+use Prim.Native.Nat.{ℕ, zero, suc, _≤_, _<_}
 use mathlib.Core.Path.{_≡_, refl}
 use mathlib.Core.Bool.{Bool, true, false, _&&_, false≢true}
 use mathlib.Core.List.{List, [], _∷_}

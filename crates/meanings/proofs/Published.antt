@@ -13,7 +13,8 @@ use lib.ListN.{length, getD}
 use Rattle.meanings.specs.Lists.{pick, total, distance, Ordered}
 use Rattle.meanings.specs.Estimate.{Inside, left-of, right-of, kernel, over-run, weight-of, sum-of}
 use Rattle.meanings.specs.Running.{window-sum}
-use Rattle.meanings.specs.Published.{Fraction, whole, _⊕_, _⊗_, one-minus, divided, _≈_, sum-all, epanechnikov, scaled-kernel, density, regression-above, regression-below, regression, range-sum}
+use Rattle.meanings.specs.Published.{Fraction, whole, _⊕_, _⊗_, one-minus, divided, _≈_, sum-all}
+use Rattle.meanings.specs.Published.{epanechnikov, scaled-kernel, density, regression-above, regression-below, regression, range-sum}
 use Rattle.meanings.specs.PublishedRow.{scaled}
 use Rattle.meanings.proofs.Moments.{weight-formula, sum-formula}
 use Rattle.meanings.proofs.Totals.{total-factor, total-narrow, total-where}

@@ -11,7 +11,8 @@ use lib.ListN.{length, getD}
 use Rattle.meanings.specs.Lists.{AtMost}
 use Rattle.meanings.specs.Limits.{full, max-u16}
 use Rattle.meanings.specs.Moves.{Move, moves}
-use Rattle.meanings.specs.Reports.{given, first-of, bad-bandwidth, left-edge-below, right-edge-below, edge-decreases, smooth-checks, smooth-size-checks, smooth-order-checks}
+use Rattle.meanings.specs.Reports.{given, first-of, bad-bandwidth, left-edge-below, right-edge-below}
+use Rattle.meanings.specs.Reports.{edge-decreases, smooth-checks, smooth-size-checks, smooth-order-checks}
 use Rattle.meanings.specs.Running.{fresh, passes}
 use Rattle.meanings.specs.EventLog.{empty-log, log-after, insertion-count, eviction-count}
 use Rattle.meanings.specs.Calls.{smooth-refusal, smooth}
@@ -50,7 +51,11 @@ module _ (ts vs : List ℕ) (even : length ts ≡ length vs) (few : length ts �
       → NoEdgeBack ts vs (moves zs hs)
   no-edge-back [] hs b e = tt
   no-edge-back (z ∷ zs) [] b e = tt
-  no-edge-back (z ∷ zs) (h ∷ hs) b e = (λ t. tt, rw (accepted none z h (b 0 (omega arith))) (follows z h zs hs (λ k l. b (suc k) (suc-le-suc l)) (λ k l. e (suc k) (suc-le-suc l))))
+  no-edge-back (z ∷ zs) (h ∷ hs) b e = (
+    λ t. tt,
+    rw (accepted none z h (b 0 (omega arith)))
+        (follows z h zs hs (λ k l. b (suc k) (suc-le-suc l)) (λ k l. e (suc k) (suc-le-suc l))),
+  )
 
 -- the passes of an accepted sweep count the insertions and evictions of an empty log that is told its readings, marks and half widths
 pub smooth-passes : (ts vs zs hs rs : List ℕ) (n : ℕ) → AtMost max-u16 ts → AtMost max-u16 vs → smooth full ts vs zs hs rs ≡ given n

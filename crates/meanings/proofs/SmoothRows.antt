@@ -1,6 +1,6 @@
 -- Each row of an accepted sweep is the one that the question at one mark gives, and each record on the way is the one that one step a mark
 -- gives from a fresh record.
-use Prim.Native.Nat.{ℕ, zero, suc, _+_, _*_, _^_, _≤_, _<_}
+use Prim.Native.Nat.{ℕ, zero, suc, _+_, _*_, _≤_, _<_}
 use mathlib.Core.Path.{_≡_, refl, sym, ap, _∙_}
 use mathlib.Core.Logic.{_⊎_, inl, inr}
 use mathlib.Core.Option.{none}
@@ -14,8 +14,8 @@ use Rattle.meanings.specs.declared.RunningSums.{RunningSums}
 use Rattle.meanings.specs.Lists.{AtMost, lowest, Ordered}
 use Rattle.meanings.specs.Limits.{full, max-u16}
 use Rattle.meanings.specs.Moves.{Move, moves}
-use Rattle.meanings.specs.Reports.{Answer, given, first-of, decreases, smooth-checks, smooth-size-checks, smooth-order-checks, evaluate-checks}
-use Rattle.meanings.specs.Estimate.{Fit, weight-of, sum-of, value-of, estimate, fields, rows}
+use Rattle.meanings.specs.Reports.{given, decreases, smooth-size-checks, smooth-order-checks}
+use Rattle.meanings.specs.Estimate.{Fit, weight-of, sum-of, estimate, fields, rows}
 use Rattle.meanings.specs.Running.{fresh, settled, after-step, after, passes, window-sum, combined, record-row}
 use Rattle.meanings.specs.Calls.{evaluate, evaluate-refusal, smooth, smooth-refusal, smooth-rows}
 use Rattle.meanings.proofs.Bounds.{weight-bound, sum-bound}

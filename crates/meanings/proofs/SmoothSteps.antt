@@ -1,11 +1,10 @@
 -- An accepted sweep takes one step a mark, each of which lands on its mark's window: minutes are ordered and no edge falls, so no edge of
 -- the record has passed the next window's.
 use Prim.Native.Nat.{ℕ, zero, suc, _+_, _-_, _*_, _≤_, _<_, zero-le}
-use mathlib.Core.Path.{_≡_, refl, sym, ap, _∙_}
-use mathlib.Core.Bool.{Bool, true, false}
+use mathlib.Core.Path.{_≡_, refl, ap, _∙_}
+use mathlib.Core.Bool.{true, false}
 use mathlib.Core.Option.{none}
-use mathlib.Core.List.{List, [], _∷_, _++_}
-use native.Mathlib.Nat.{not-suc-le-zero, le-of-suc-le-suc}
+use mathlib.Core.List.{List}
 use native.Mathlib.Omega.{arith}
 use borrow.Author.Tests.{ltb-true, lt-ltb, leb-true, le-leb, le-ltb, ltb-false, ne-eqb}
 use lib.Dec.{ltb, leb}
@@ -14,12 +13,13 @@ use lib.Seq.{drop-cons}
 use Rattle.meanings.specs.declared.RunningSums.{RunningSums}
 use Rattle.meanings.specs.Lists.{lowest, Ordered}
 use Rattle.meanings.specs.Limits.{full, max-bandwidth}
-use Rattle.meanings.specs.Moves.{Move, moves}
-use Rattle.meanings.specs.Reports.{Answer, given, first-of, bad-bandwidth, edge-decreases, left-edge-below, right-edge-below, smooth-checks, smooth-size-checks, smooth-order-checks, advance-checks}
+use Rattle.meanings.specs.Moves.{moves}
+use Rattle.meanings.specs.Reports.{Answer, given, first-of, bad-bandwidth, edge-decreases, left-edge-below}
+use Rattle.meanings.specs.Reports.{right-edge-below, smooth-checks, smooth-size-checks, smooth-order-checks}
 use Rattle.meanings.specs.Estimate.{left-of, right-of}
 use Rattle.meanings.specs.Running.{fresh, moved, advance, settled, after, passes}
 use Rattle.meanings.proofs.Checks.{none-holds, none-of-both, or-false, bandwidth-in-range, no-decrease-ordered, smooth-sizes-accept, differ-same}
-use Rattle.meanings.proofs.Passes.{passes-are-last-edges, after-append}
+use Rattle.meanings.proofs.Passes.{passes-are-last-edges}
 use Rattle.meanings.proofs.Search.{lowest-none}
 use Rattle.meanings.proofs.Steps.{Small, at-window, moved-lands, fresh-lands}
 use Rattle.meanings.proofs.Window.{count-grows, left-at-most-right, right-at-most-length}

@@ -2,7 +2,6 @@
 -- what the new run has more and less than the old one, and no sum of 1,024 readings reaches 2^64.
 use Prim.Native.Nat.{ℕ, zero, suc, _+_, _-_, _*_, _%_, _^_, _≤_, _<_, zero-le}
 use mathlib.Core.Path.{_≡_, refl, sym, _∙_, ap}
-use mathlib.Core.Bool.{true, false}
 use mathlib.Core.List.{List}
 use native.Mathlib.Nat.{mod-eq-of-lt, add-mod-right, le-trans, mul-le-mul, mul-le-mul-left, mul-le-mul-right, pow-le-pow-left, pow-le-pow-right}
 use native.Mathlib.Omega.{arith}
@@ -14,9 +13,10 @@ use Rattle.meanings.specs.declared.RunningSums.{RunningSums}
 use Rattle.meanings.specs.Lists.{first, total, Ordered, AtMost}
 use Rattle.meanings.specs.Limits.{full, max-u16}
 use Rattle.meanings.specs.Estimate.{left-of, right-of}
-use Rattle.meanings.specs.Running.{term, power-sum, six, sum-at, plus, minus, new-right, new-left, new-sums, moved-to, moved, window-sum, window-sums, fresh}
+use Rattle.meanings.specs.Running.{term, power-sum, six, sum-at, plus, minus, new-right}
+use Rattle.meanings.specs.Running.{new-left, new-sums, moved, window-sum, window-sums, fresh}
 use Rattle.meanings.proofs.Bounds.{total-at-most}
-use Rattle.meanings.proofs.Search.{IsFirst, first-is-first, first-unique}
+use Rattle.meanings.proofs.Search.{first-is-first, first-unique}
 use Rattle.meanings.proofs.Totals.{total-split}
 use Rattle.meanings.proofs.Window.{left-at-most-right, right-at-most-length, before-left, before-right}
 

@@ -21,7 +21,8 @@ use Rattle.meanings.specs.declared.Writing.the-variants.{Written, Unwrit
 use Rattle.meanings.specs.declared.Limits.{Limits}
 use Rattle.meanings.specs.Limits.{full}
 use Rattle.meanings.specs.Moves.{moves}
-use Rattle.meanings.specs.Reports.{Fault, Answer, given, refused, unless, accepted-or, told, first-of, evaluate-checks, smooth-checks, fill-checks, read-checks, buffer-checks}
+use Rattle.meanings.specs.Reports.{Fault, Answer, given, refused, unless, accepted-or, told}
+use Rattle.meanings.specs.Reports.{first-of, evaluate-checks, smooth-checks, fill-checks, read-checks, buffer-checks}
 use Rattle.meanings.specs.Estimate.{estimate, left-of, run-of, rows}
 use Rattle.meanings.specs.Running.{fresh, passes}
 use Rattle.meanings.specs.Grid.{presets, grid}

@@ -2,7 +2,7 @@
 use Prim.Native.Nat.{ℕ}
 use Prim.Native.String.{String}
 use mathlib.Core.Path.{_≡_}
-use mathlib.Core.List.{List, [], _∷_, map}
+use mathlib.Core.List.{List, map}
 use Rattle.meanings.specs.declared.Estimate.{Estimate}
 use Rattle.meanings.specs.declared.PowerSums.{PowerSums}
 use Rattle.meanings.specs.declared.RunningSums.{RunningSums}
@@ -14,7 +14,8 @@ use Rattle.meanings.specs.Reports.{Answer, given, refused}
 use Rattle.meanings.specs.Running.{window-sums, advance, after, fresh, record-row}
 use Rattle.meanings.specs.EventLog.{EventLog, empty-log, log-after}
 use Rattle.meanings.specs.Sheet.{Contents, read-sheet}
-use Rattle.meanings.specs.Calls.{evaluate, window, window-start, smooth, smooth-rows, fill, fill-points, fill-bandwidths, read, counts, read-minutes, read-values, read-evaluation-points, read-bandwidths, write, write-buffer, write-refusal-text, refusal-buffer, Counts}
+use Rattle.meanings.specs.Calls.{evaluate, window, window-start, smooth, smooth-rows, fill, fill-points, fill-bandwidths, read, counts, read-minutes}
+use Rattle.meanings.specs.Calls.{read-values, read-evaluation-points, read-bandwidths, write, write-buffer, write-refusal-text, refusal-buffer, Counts}
 use Rattle.meanings.specs.Output.{program}
 
 pub data Call : Type 0 where

@@ -1,7 +1,7 @@
 -- SPECIFICATION, "The running record and the book", 3.14 to 3.19: the event log. Of a step it is told readings, mark and half width; it sees no
 -- record.
 use Prim.Native.Nat.{ℕ, zero, suc, _+_}
-use mathlib.Core.Bool.{Bool, true, false, not, _&&_, _||_}
+use mathlib.Core.Bool.{Bool, false, not, _&&_, _||_}
 use mathlib.Core.List.{List, [], _∷_, _++_}
 use mathlib.Core.Option.{Option}
 use lib.Dec.{ltb, leb, eqb}

@@ -10,7 +10,9 @@ use Rattle.meanings.specs.Bytes.{ascii}
 use Rattle.meanings.specs.Moves.{Move}
 use Rattle.meanings.specs.Reports.{given}
 use Rattle.meanings.specs.EventLog.{EventLog}
-use Rattle.meanings.specs.Cases.{Case, _⇒_, row, run, sums, step, record-gives, steps, smooth-over, filler, sheet, reader, output, curve-into, refusal-into, estimated, part, powers, stepped, logged, smooth-gives, filled, outcome, read-into, written, holds, is-row, is-report, is-sums, is-record, contents}
+use Rattle.meanings.specs.Cases.{Case, _⇒_, row, run, sums, step, record-gives, steps, smooth-over, filler, sheet}
+use Rattle.meanings.specs.Cases.{reader, output, curve-into, refusal-into, estimated, part, powers, stepped, logged, smooth-gives, filled}
+use Rattle.meanings.specs.Cases.{outcome, read-into, written, holds, is-row, is-report, is-sums, is-record, contents}
 
 abbrev fives : ℕ → List ℕ
 fives n = replicate n 5
@@ -113,7 +115,8 @@ step-cases =
     ∷ steps (replicate 1025 0) (replicate 1025 0) (move 0 1 ∷ [])
     ⇒ logged (is-record 0 0 (is-sums 0 0 0 0 0 0)) (log [] [])
     -- both edges are closed, in the book too
-    ∷ steps (9 ∷ 10 ∷ 30 ∷ 31 ∷ []) (1 ∷ 1 ∷ 1 ∷ 1 ∷ []) (move 20 10 ∷ []) ⇒ logged (is-record 1 3 (is-sums 2 40 1000 2 40 1000)) (log (0 ∷ 1 ∷ 2 ∷ []) (0 ∷ []))
+    ∷ steps (9 ∷ 10 ∷ 30 ∷ 31 ∷ []) (1 ∷ 1 ∷ 1 ∷ 1 ∷ []) (move 20 10 ∷ [])
+    ⇒ logged (is-record 1 3 (is-sums 2 40 1000 2 40 1000)) (log (0 ∷ 1 ∷ 2 ∷ []) (0 ∷ []))
     -- the book goes by minutes, and adds to both lists the lowest position first, each once
     ∷ steps (1 ∷ 1 ∷ 2 ∷ 2 ∷ []) (1 ∷ 1 ∷ 1 ∷ 1 ∷ []) (move 1 1 ∷ move 2 1 ∷ move 3 1 ∷ move 4 1 ∷ [])
     ⇒ logged (is-record 4 4 (is-sums 0 0 0 0 0 0)) (log (0 ∷ 1 ∷ 2 ∷ 3 ∷ []) (0 ∷ 1 ∷ 2 ∷ 3 ∷ []))

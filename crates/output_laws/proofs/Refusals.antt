@@ -11,7 +11,9 @@ use Rattle.meanings.specs.Bytes.{line-feed}
 use Rattle.meanings.specs.Moves.{Move}
 use Rattle.meanings.specs.Reports.{Fault, refused}
 use Rattle.meanings.specs.Sheet.{Injection, read-sheet}
-use Rattle.meanings.specs.SheetForm.{print-point, print-points, print-sample, print-samples, point-head, sample-head, PointFault, SampleFault, Refused, too-long, no-point-header, no-empty-line, malformed-point, faulty-point, no-point, no-sample-header, malformed-sample, faulty-sample}
+use Rattle.meanings.specs.SheetForm.{print-point, print-points, print-sample, print-samples, point-head, sample-head}
+use Rattle.meanings.specs.SheetForm.{PointFault, SampleFault, Refused, too-long, no-point-header, no-empty-line}
+use Rattle.meanings.specs.SheetForm.{malformed-point, faulty-point, no-point, no-sample-header, malformed-sample, faulty-sample}
 use Rattle.meanings.specs.Output.{refusal-text}
 use Rattle.text_laws.proofs.Numbers.{decimal-length}
 use Rattle.sheet_laws.proofs.Outcomes.{refused-is-refused}

@@ -25,12 +25,15 @@ alike-lines : (L : Limits) (zs hs : List ℕ) (p : ℕ) (a b ts vs : List ℕ) (
 alike-lines L zs hs p a b ts vs end e = refl
 alike-lines L zs hs p a b ts vs (unended t) e = refl
 alike-lines L zs hs p a b ts vs (line t ls) e =
-    by (sample-line t) (λ m ts′ vs′. alike-lines L zs hs (p + length t + 1) (a ++ m ∷ []) (b ++ m ∷ []) ts′ vs′ ls (λ y. last-decides a m y ∙ sym (last-decides b m y)))
+    by (sample-line t) (λ m ts′ vs′. alike-lines L zs hs q (a ++ m ∷ []) (b ++ m ∷ []) ts′ vs′ ls (λ y. last-decides a m y ∙ sym (last-decides b m y)))
   where
+    q : ℕ
+    q = p + length t + 1
+
     by : (o : Option Injection)
-        → ((m : ℕ) (ts′ vs′ : List ℕ) → read-samples L zs hs (p + length t + 1) (a ++ m ∷ []) ts′ vs′ ls ≡ read-samples L zs hs (p + length t + 1) (b ++ m ∷ []) ts′ vs′ ls)
-        → with-sample L p a ts vs o (λ all′ ts′ vs′. read-samples L zs hs (p + length t + 1) all′ ts′ vs′ ls)
-        ≡ with-sample L p b ts vs o (λ all′ ts′ vs′. read-samples L zs hs (p + length t + 1) all′ ts′ vs′ ls)
+        → ((m : ℕ) (ts′ vs′ : List ℕ) → read-samples L zs hs q (a ++ m ∷ []) ts′ vs′ ls ≡ read-samples L zs hs q (b ++ m ∷ []) ts′ vs′ ls)
+        → with-sample L p a ts vs o (λ all′ ts′ vs′. read-samples L zs hs q all′ ts′ vs′ ls)
+        ≡ with-sample L p b ts vs o (λ all′ ts′ vs′. read-samples L zs hs q all′ ts′ vs′ ls)
     by none k = refl
     by (some j) k = rw (e (j .minute), k (j .minute) (add-kept (kept j) (j .minute) ts) (add-kept (kept j) (j .value) vs))
 

@@ -1,60 +1,75 @@
 -- The mark lines, line by line: what is left of the sheet's meaning after those read so far.
-use Prim.Native.Nat.{ℕ, _+_, _-_, _≤_, _<_}
+use Prim.Native.Nat.{ℕ, _+_, _-_, _≤_}
 use mathlib.Core.Path.{_≡_, refl, _∙_}
 use mathlib.Core.List.{List, []}
-use mathlib.Core.Option.{none}
 use native.Mathlib.Omega.{arith}
 use borrow.Author.Tests.{ne-eqb}
 use lib.ListN.{length, take, drop}
 use lib.Seq.{length-take-le}
+use Rattle.meanings.specs.declared.Report.the-variants.{MalformedLine, NoPoints}
+use Rattle.meanings.specs.declared.Refusal.{Refusal}
+use Rattle.meanings.specs.declared.Verdict.{Verdict}
+use Rattle.meanings.specs.declared.Verdict.the-variants.{Fit, Faulty}
 use Rattle.meanings.specs.Limits.{full}
-use Rattle.meanings.specs.Bytes.{sample-header}
-use Rattle.meanings.specs.Reports.{Fault, refused}
-use Rattle.meanings.specs.Sheet.{Outcome, lines, refused-at, header, point-line, with-point, read-points, read-samples}
-use Rattle.lines.specs.Lines.{line-at}
-use Rattle.lines.proofs.LineEnds.{LineFound}
+use Rattle.meanings.specs.Sheet.{lines, read-points}
+use Rattle.lines.specs.declared.Line.{Line}
+use Rattle.lines.specs.declared.Line.the-variants.{Ended, Unended}
+use Rattle.lines.specs.Lines.{told-line, line-at}
+use Rattle.lines.proofs.LineEnds.{line-told, no-line-told, no-line-at-end}
+use Rattle.sheet.specs.declared.points.PointsRead.the-variants.{Points, Unfit}
+use Rattle.sheet.specs.Stages.{PointTried, PointsFound}
 use Rattle.sheet.proofs.LineSteps.{points-without-line, points-at-empty-line, points-at-line}
 
--- the mark lines from byte `from` up to byte p are in zs and hs, count of them
-pub record PointsSoFar (s : List ℕ) (from : ℕ) (zs hs : List ℕ) (p count : ℕ) : Type 0 where
+-- the mark lines from byte `from` up to byte p are in zs and hs, count of them; the lists have their lengths, those of the lent ones
+pub record PointsSoFar (s : List ℕ) (from : ℕ) (zs₀ hs₀ zs hs : List ℕ) (p count : ℕ) : Type 0 where
   pub point-list : length zs ≡ 512
   pub bandwidth-list : length hs ≡ 512
+  pub points-lent : length zs ≡ length zs₀
+  pub bandwidths-lent : length hs ≡ length hs₀
   pub few : count ≤ 512
   pub left : read-points full from [] [] (lines (drop from s)) ≡ read-points full p (take count zs) (take count hs) (lines (drop p s))
 
-pub points-begin : (s : List ℕ) (from : ℕ) (zs hs : List ℕ) → length zs ≡ 512 → length hs ≡ 512 → PointsSoFar s from zs hs from 0
-points-begin s from zs hs l m = record { point-list = l; bandwidth-list = m; few = omega arith; left = refl }
+pub points-begin : {s : List ℕ} {from : ℕ} {zs hs : List ℕ} → length zs ≡ 512 → length hs ≡ 512 → PointsSoFar s from zs hs zs hs from 0
+points-begin l m =
+    record { point-list = l; bandwidth-list = m; points-lent = refl; bandwidths-lent = refl; few = omega arith; left = refl }
 
-module _ (s : List ℕ) (from : ℕ) (zs hs : List ℕ) (p count : ℕ) (so-far : PointsSoFar s from zs hs p count) where
-  pub points-without : line-at s p ≡ none → read-points full from [] [] (lines (drop from s)) ≡ refused-at p 3
-  points-without h = so-far .left ∙ points-without-line full s (take count zs) (take count hs) p h
+module _ {s : List ℕ} {from : ℕ} {zs₀ hs₀ zs hs : List ℕ} {p count : ℕ} (w : PointsSoFar s from zs₀ hs₀ zs hs p count) where
+  pub sheet-ends-in-points : length s ≤ p → PointsFound s from (Unfit (record { report = MalformedLine; place = p })) zs hs
+  sheet-ends-in-points l = record { outcome = w .left ∙ points-without-line full s _ _ p (no-line-at-end s p l); within = tt }
 
-  pub no-points : (e n : ℕ) → LineFound s p e n → e ≡ p → count ≡ 0 → read-points full from [] [] (lines (drop from s)) ≡ refused-at p 7
-  no-points e n f h z = so-far .left ∙ points-at-empty-line full s (take count zs) (take count hs) p e n f h ∙ rw z
+  pub point-line-unended : {l : Line} → told-line l ≡ line-at s p → l ≡ Unended
+      → PointsFound s from (Unfit (record { report = MalformedLine; place = p })) zs hs
+  point-line-unended t u = record { outcome = w .left ∙ points-without-line full s _ _ p (no-line-told _ _ t u); within = tt }
 
-  pub points-end : (e n : ℕ) → LineFound s p e n → e ≡ p → ¬ (count ≡ 0)
-      → read-points full from [] [] (lines (drop from s))
-      ≡ header sample-header n (lines (drop n s)) (λ q rest. read-samples full (take count zs) (take count hs) q [] [] [] rest)
-  points-end e n f h z =
+  pub no-points : {l : Line} {e n : ℕ} → told-line l ≡ line-at s p → l ≡ Ended e n → e ≡ p → count ≡ 0
+      → PointsFound s from (Unfit (record { report = NoPoints; place = p })) zs hs
+  no-points t f h z = record { outcome = w .left ∙ points-at-empty-line full s _ _ p _ _ (line-told t f) h ∙ rw z; within = tt }
+
+  pub points-end : {l : Line} {e n : ℕ} → told-line l ≡ line-at s p → l ≡ Ended e n → e ≡ p → ¬ (count ≡ 0)
+      → PointsFound s from (Points count n) zs hs
+  points-end {n = n} t f h z =
+      let o = line-told t f in
       let k = length-take-le count zs (omega arith) in
-      let m : p + 1 ≡ n = omega (arith, f .follows) in
-      so-far .left ∙ points-at-empty-line full s (take count zs) (take count hs) p e n f h ∙ rw (k, ne-eqb count 0 z, m)
-
-  pub point-line-refused : (e n : ℕ) (r : Fault) → LineFound s p e n → p < e
-      → ((next : List ℕ → List ℕ → Outcome)
-      → with-point full p (take count zs) (take count hs) (point-line (take (e - p) (drop p s))) next ≡ refused r)
-      → read-points full from [] [] (lines (drop from s)) ≡ refused r
-  point-line-refused e n r f l g = so-far .left ∙ points-at-line full s (take count zs) (take count hs) p e n f l ∙ g _
-
-  pub points-go-on : (e n : ℕ) (zs′ hs′ : List ℕ) → LineFound s p e n → p < e → length zs′ ≡ 512 → length hs′ ≡ 512 → count + 1 ≤ 512
-      → ((next : List ℕ → List ℕ → Outcome)
-      → with-point full p (take count zs) (take count hs) (point-line (take (e - p) (drop p s))) next
-      ≡ next (take (count + 1) zs′) (take (count + 1) hs′))
-      → PointsSoFar s from zs′ hs′ n (count + 1)
-  points-go-on e n zs′ hs′ f l a b c g =
+      let m : p + 1 ≡ n = omega arith in
       record {
-        point-list = a;
-        bandwidth-list = b;
-        few = c;
-        left = so-far .left ∙ points-at-line full s (take count zs) (take count hs) p e n f l ∙ g _;
+        outcome = w .left ∙ points-at-empty-line full s _ _ p _ _ o h ∙ rw (k, ne-eqb count 0 z, m);
+        within = (w .few, o .within);
       }
+
+  -- a line of values, tried
+  module _ {l : Line} {e n : ℕ} {v : Verdict} {zs′ hs′ : List ℕ} (t : told-line l ≡ line-at s p) (f : l ≡ Ended e n) (h : ¬ (e ≡ p))
+      (tried : PointTried (take (e - p) (drop p s)) p zs hs count v zs′ hs′) where
+    pub point-line-refused : {r : Refusal} → v ≡ Faulty r → PointsFound s from (Unfit r) zs′ hs′
+    point-line-refused u =
+        record { outcome = w .left ∙ points-at-line full s _ _ p e n (line-told t f) h ∙ tried .goes-on _ ∙ rw u; within = tt }
+
+    pub points-go-on : v ≡ Fit → length zs′ ≡ length zs → length hs′ ≡ length hs → PointsSoFar s from zs₀ hs₀ zs′ hs′ n (count + 1)
+    points-go-on u a b =
+        record {
+          point-list = a ∙ w .point-list;
+          bandwidth-list = b ∙ w .bandwidth-list;
+          points-lent = a ∙ w .points-lent;
+          bandwidths-lent = b ∙ w .bandwidths-lent;
+          few = rw u at (tried .room);
+          left = w .left ∙ points-at-line full s _ _ p e n (line-told t f) h ∙ tried .goes-on _ ∙ rw u;
+        }

@@ -1,63 +1,87 @@
 -- The reading lines, line by line: what is left of the sheet's meaning after those read so far.
 use Prim.Native.Nat.{ℕ, _-_, _≤_, _<_}
-use mathlib.Core.Path.{_≡_, _∙_}
+use mathlib.Core.Path.{_≡_, refl, _∙_}
 use mathlib.Core.List.{List, [], _∷_}
-use mathlib.Core.Option.{none}
 use native.Mathlib.Omega.{arith}
 use lib.ListN.{length, take, drop, drop-of-length-le}
+use Rattle.meanings.specs.declared.Report.the-variants.{BadHeader, MalformedLine}
+use Rattle.meanings.specs.declared.Refusal.{Refusal}
+use Rattle.meanings.specs.declared.Found.{Found}
+use Rattle.meanings.specs.declared.Found.the-variants.{At, Nothing}
 use Rattle.meanings.specs.Limits.{full}
-use Rattle.meanings.specs.Reports.{Fault, given, refused}
-use Rattle.meanings.specs.Sheet.{Outcome, lines, refused-at, sample-line, with-sample, read-samples}
-use Rattle.lines.specs.Lines.{line-at}
-use Rattle.lines.proofs.LineEnds.{LineFound}
+use Rattle.meanings.specs.Bytes.{sample-header}
+use Rattle.meanings.specs.Sheet.{lines, read-samples}
+use Rattle.lines.specs.declared.Line.{Line}
+use Rattle.lines.specs.declared.Line.the-variants.{Ended, Unended}
+use Rattle.lines.specs.Lines.{told-line, line-at}
+use Rattle.lines.proofs.LineEnds.{line-told, no-line-told}
+use Rattle.sheet.specs.declared.samples.SampleStored.{SampleStored}
+use Rattle.sheet.specs.declared.samples.SampleStored.the-variants.{Stored, Refused}
+use Rattle.sheet.specs.declared.samples.SamplesRead.{SamplesRead}
+use Rattle.sheet.specs.declared.samples.SamplesRead.the-variants.{Kept, Unfit}
+use Rattle.sheet.specs.Stages.{HeaderTried, SampleTried, SamplesFound, SamplesFromHeader}
 use Rattle.sheet.proofs.LineSteps.{samples-without-line, samples-at-line}
 use Rattle.sheet.proofs.LastMinutes.{first-minute, last-minute}
 
--- the reading lines from byte `from` up to byte p are read, count of them are kept in ts and vs, and the last one's minute is `last`
-pub record SamplesSoFar (s : List ℕ) (from : ℕ) (ts vs : List ℕ) (p count last : ℕ) : Type 0 where
+-- the reading lines from byte `from` up to byte p are read, count of them are kept in ts and vs, and the last one's minute is `last`; the
+-- lists have their lengths, those of the lent ones
+pub record SamplesSoFar (s : List ℕ) (from : ℕ) (ts₀ vs₀ ts vs : List ℕ) (p count last : ℕ) : Type 0 where
   pub minute-list : length ts ≡ 1024
   pub value-list : length vs ≡ 1024
+  pub minutes-lent : length ts ≡ length ts₀
+  pub values-lent : length vs ≡ length vs₀
   pub few : count ≤ 1024
   pub left : (zs hs : List ℕ) → read-samples full zs hs from [] [] [] (lines (drop from s))
       ≡ read-samples full zs hs p (last ∷ []) (take count ts) (take count vs) (lines (drop p s))
 
-pub samples-begin : (s : List ℕ) (from : ℕ) (ts vs : List ℕ) → length ts ≡ 1024 → length vs ≡ 1024 → SamplesSoFar s from ts vs from 0 0
-samples-begin s from ts vs l m =
+pub samples-begin : {s : List ℕ} {from : ℕ} {ts vs : List ℕ} → length ts ≡ 1024 → length vs ≡ 1024 → SamplesSoFar s from ts vs ts vs from 0 0
+samples-begin {s} {from} l m =
     record {
       minute-list = l;
       value-list = m;
+      minutes-lent = refl;
+      values-lent = refl;
       few = omega arith;
       left = λ zs hs. first-minute full zs hs from [] [] (lines (drop from s));
     }
 
-module _ (s : List ℕ) (from : ℕ) (ts vs : List ℕ) (p count last : ℕ) (so-far : SamplesSoFar s from ts vs p count last) where
-  pub samples-end : length s ≤ p → (zs hs : List ℕ)
-      → read-samples full zs hs from [] [] [] (lines (drop from s))
-      ≡ given (record { minutes = take count ts; values = take count vs; points = zs; bandwidths = hs })
-  samples-end l zs hs = so-far .left zs hs ∙ rw (drop-of-length-le s l)
+module _ {s : List ℕ} {from : ℕ} {ts₀ vs₀ ts vs : List ℕ} {p count last : ℕ} (w : SamplesSoFar s from ts₀ vs₀ ts vs p count last) where
+  pub samples-end : length s ≤ p → SamplesFound s from (Kept count) ts vs
+  samples-end l = record { outcome = λ zs hs. w .left zs hs ∙ rw (drop-of-length-le s l); within = w .few }
 
-  pub samples-without : p < length s → line-at s p ≡ none → (zs hs : List ℕ)
-      → read-samples full zs hs from [] [] [] (lines (drop from s)) ≡ refused-at p 3
-  samples-without l h zs hs = so-far .left zs hs ∙ samples-without-line full s zs hs p (last ∷ []) (take count ts) (take count vs) l h
+  pub sample-line-unended : {l : Line} → p < length s → told-line l ≡ line-at s p → l ≡ Unended
+      → SamplesFound s from (Unfit (record { report = MalformedLine; place = p })) ts vs
+  sample-line-unended l t u =
+      record { outcome = λ zs hs. w .left zs hs ∙ samples-without-line full s zs hs p _ _ _ l (no-line-told _ _ t u); within = tt }
 
-  pub sample-line-refused : (e n : ℕ) (r : Fault) → LineFound s p e n
-      → ((next : List ℕ → List ℕ → List ℕ → Outcome)
-      → with-sample full p (last ∷ []) (take count ts) (take count vs) (sample-line (take (e - p) (drop p s))) next ≡ refused r)
-      → (zs hs : List ℕ) → read-samples full zs hs from [] [] [] (lines (drop from s)) ≡ refused r
-  sample-line-refused e n r f g zs hs =
-      so-far .left zs hs ∙ samples-at-line full s zs hs p e n (last ∷ []) (take count ts) (take count vs) f ∙ g _
+  -- a line, tried
+  module _ {l : Line} {e n : ℕ} {r : SampleStored} {ts′ vs′ : List ℕ} (t : told-line l ≡ line-at s p) (f : l ≡ Ended e n)
+      (tried : SampleTried (take (e - p) (drop p s)) p ts vs count last r ts′ vs′) where
+    pub sample-line-refused : {x : Refusal} → r ≡ Refused x → SamplesFound s from (Unfit x) ts′ vs′
+    sample-line-refused u =
+        record {
+          outcome = λ zs hs. w .left zs hs ∙ samples-at-line full s zs hs p e n _ _ _ (line-told t f) ∙ tried .goes-on _ ∙ rw u;
+          within = tt;
+        }
 
-  pub samples-go-on : (e n : ℕ) (ts′ vs′ : List ℕ) (count′ m : ℕ) → LineFound s p e n → length ts′ ≡ 1024 → length vs′ ≡ 1024 → count′ ≤ 1024
-      → ((next : List ℕ → List ℕ → List ℕ → Outcome)
-      → with-sample full p (last ∷ []) (take count ts) (take count vs) (sample-line (take (e - p) (drop p s))) next
-      ≡ next (last ∷ m ∷ []) (take count′ ts′) (take count′ vs′))
-      → SamplesSoFar s from ts′ vs′ n count′ m
-  samples-go-on e n ts′ vs′ count′ m f a b c g =
-      record {
-        minute-list = a;
-        value-list = b;
-        few = c;
-        left = λ zs hs.
-            so-far .left zs hs ∙ samples-at-line full s zs hs p e n (last ∷ []) (take count ts) (take count vs) f ∙ g _
-            ∙ last-minute full zs hs n last m (take count′ ts′) (take count′ vs′) (lines (drop n s));
-      }
+    pub samples-go-on : {count′ m : ℕ} → r ≡ Stored count′ m → length ts′ ≡ length ts → length vs′ ≡ length vs
+        → SamplesSoFar s from ts₀ vs₀ ts′ vs′ n count′ m
+    samples-go-on {count′} {m} u a b =
+        record {
+          minute-list = a ∙ w .minute-list;
+          value-list = b ∙ w .value-list;
+          minutes-lent = a ∙ w .minutes-lent;
+          values-lent = b ∙ w .values-lent;
+          few = rw u at (tried .within);
+          left = λ zs hs.
+              w .left zs hs ∙ samples-at-line full s zs hs p e n _ _ _ (line-told t f) ∙ tried .goes-on _
+              ∙ rw u (last-minute full zs hs n last m (take count′ ts′) (take count′ vs′) (lines (drop n s)));
+        }
+
+-- the names line before them
+module _ {s : List ℕ} {from : ℕ} {h : Found} (tried : HeaderTried sample-header s from h) where
+  pub no-sample-header : {ts vs : List ℕ} → h ≡ Nothing → SamplesFromHeader s from (Unfit (record { report = BadHeader; place = from })) ts vs
+  no-sample-header e = record { outcome = λ zs hs. tried .goes-on _ ∙ rw e; within = tt }
+
+  pub samples-after-header : {p : ℕ} {r : SamplesRead} {ts vs : List ℕ} → h ≡ At p → SamplesFound s p r ts vs → SamplesFromHeader s from r ts vs
+  samples-after-header e g = record { outcome = λ zs hs. tried .goes-on _ ∙ rw e (g .outcome zs hs); within = g .within }

@@ -1,53 +1,79 @@
 -- One line's outcome: what is stored behind the first n elements makes the list's first n + 1, and the meaning goes on with just these.
 use Prim.Native.Nat.{ℕ, _+_, _≤_, _<_}
 use mathlib.Core.Path.{_≡_}
-use mathlib.Core.List.{List, [], _∷_}
-use mathlib.Core.Option.{none, some}
+use mathlib.Core.List.{List}
 use native.Mathlib.Omega.{arith}
 use native.Mathlib.Numerals.{add-one}
 use borrow.Author.Tests.{lt-ltb, le-ltb, le-leb, lt-leb}
-use lib.ListN.{length, take, set}
+use lib.ListN.{length, set}
 use lib.Seq.{length-take-le, take-suc-set}
-use Rattle.meanings.specs.Limits.{full}
-use Rattle.meanings.specs.Moves.{Move}
-use Rattle.meanings.specs.Reports.{Fault, refused, first-of}
-use Rattle.meanings.specs.Sheet.{Outcome, refused-at, point-line, point-checks, with-point, sample-line, with-sample}
+use Rattle.meanings.specs.declared.Report.the-variants.{MalformedLine, SampleOutOfOrder, TooMany}
+use Rattle.meanings.specs.declared.Refusal.{Refusal}
+use Rattle.meanings.specs.declared.Verdict.{Verdict}
+use Rattle.meanings.specs.declared.Verdict.the-variants.{Fit, Faulty}
+use Rattle.meanings.specs.Sheet.{point-line, sample-line}
+use Rattle.line_values.specs.declared.PointLine.{PointLine}
+use Rattle.line_values.specs.declared.PointLine.the-variants.{Point, NoPoint}
+use Rattle.line_values.specs.declared.SampleLine.{SampleLine}
+use Rattle.line_values.specs.declared.SampleLine.the-variants.{Sample, NoSample}
+use Rattle.line_values.specs.LineValues.{told-point, told-sample}
+use Rattle.sheet.specs.declared.samples.SampleStored.the-variants.{Stored, Refused}
+use Rattle.sheet.specs.Stages.{PointChecked, PointTried, SampleTried}
+use Rattle.sheet.proofs.Lasts.{point-room}
 
-pub point-stored : (p : ℕ) (zs hs : List ℕ) (n z h : ℕ) (t : List ℕ) (next : List ℕ → List ℕ → Outcome) → n < length zs → n < length hs
-    → point-line t ≡ some (record { point = z; bandwidth = h })
-    → first-of (point-checks full p (take n zs) (take n hs) (record { point = z; bandwidth = h })) ≡ none
-    → with-point full p (take n zs) (take n hs) (point-line t) next ≡ next (take (n + 1) (set zs n z)) (take (n + 1) (set hs n h))
-point-stored p zs hs n z h t next l m e f = rw (e, f, add-one n, take-suc-set zs n z l, take-suc-set hs n h m)
+-- a mark line
+module _ {t : List ℕ} {p : ℕ} {zs hs : List ℕ} {n : ℕ} {l : PointLine} (line : told-point l ≡ point-line t) where
+  pub point-malformed : l ≡ NoPoint → PointTried t p zs hs n (Faulty (record { report = MalformedLine; place = p })) zs hs
+  point-malformed e = record { goes-on = λ next. rw (← line, e); room = tt }
 
-pub point-refused : (p : ℕ) (zs hs : List ℕ) (m : Move) (t : List ℕ) (next : List ℕ → List ℕ → Outcome) (r : Fault) → point-line t ≡ some m
-    → first-of (point-checks full p zs hs m) ≡ some r → with-point full p zs hs (point-line t) next ≡ refused r
-point-refused p zs hs m t next r e f = rw (e, f)
+  module _ {z h : ℕ} {v : Verdict} (read : l ≡ Point z h) (checked : PointChecked p zs hs n z h v) where
+    pub point-refused : {r : Refusal} → v ≡ Faulty r → PointTried t p zs hs n (Faulty r) zs hs
+    point-refused e = record { goes-on = λ next. rw (← line, read, ← checked .found, e); room = tt }
+
+    pub point-stored : v ≡ Fit → length zs ≡ 512 → length hs ≡ 512 → n ≤ 512 → PointTried t p zs hs n Fit (set zs n z) (set hs n h)
+    point-stored e a b few =
+        let r = point-room checked e a few in
+        record {
+          goes-on = λ next.
+              rw (← line, read, ← checked .found, e, add-one n, take-suc-set zs n z (omega arith), take-suc-set hs n h (omega arith));
+          room = omega arith;
+        }
 
 -- a reading line that follows a line of minute `last`
-module _ (p : ℕ) (ts vs : List ℕ) (n last m j v : ℕ) (t : List ℕ) (next : List ℕ → List ℕ → List ℕ → Outcome)
-    (read : sample-line t ≡ some (record { minute = m; injection = j; value = v })) where
-  pub sample-falls : m < last → with-sample full p (last ∷ []) (take n ts) (take n vs) (sample-line t) next ≡ refused-at p 4
-  sample-falls l = rw (read, lt-ltb m last l)
+module _ {t : List ℕ} {p : ℕ} {ts vs : List ℕ} {n last : ℕ} {l : SampleLine} (line : told-sample l ≡ sample-line t) where
+  pub sample-malformed : l ≡ NoSample → SampleTried t p ts vs n last (Refused (record { report = MalformedLine; place = p })) ts vs
+  sample-malformed e = record { goes-on = λ next. rw (← line, e); within = tt }
 
-  pub sample-dropped : last ≤ m → j ≤ 2
-      → with-sample full p (last ∷ []) (take n ts) (take n vs) (sample-line t) next ≡ next (last ∷ m ∷ []) (take n ts) (take n vs)
-  sample-dropped l d = rw (read, le-ltb m last l, le-ltb 2 j d)
+  module _ {m j v : ℕ} (read : l ≡ Sample m j v) where
+    pub sample-falls : m < last → SampleTried t p ts vs n last (Refused (record { report = SampleOutOfOrder; place = p })) ts vs
+    sample-falls f = record { goes-on = λ next. rw (← line, read, lt-ltb m last f); within = tt }
 
-  pub sample-too-many : last ≤ m → 2 < j → n ≤ length ts → 1024 ≤ n
-      → with-sample full p (last ∷ []) (take n ts) (take n vs) (sample-line t) next ≡ refused-at p 6
-  sample-too-many l k i r = rw (read, le-ltb m last l, lt-ltb 2 j k, length-take-le n ts i, le-leb 1024 n r)
+    pub sample-dropped : last ≤ m → j ≤ 2 → n ≤ 1024 → SampleTried t p ts vs n last (Stored n m) ts vs
+    sample-dropped f d few = record { goes-on = λ next. rw (← line, read, le-ltb m last f, le-ltb 2 j d); within = few }
 
-  pub sample-kept : last ≤ m → 2 < j → n < length ts → n < length vs → n < 1024
-      → with-sample full p (last ∷ []) (take n ts) (take n vs) (sample-line t) next
-      ≡ next (last ∷ m ∷ []) (take (n + 1) (set ts n m)) (take (n + 1) (set vs n v))
-  sample-kept l k a b r =
-      rw (
-        read,
-        le-ltb m last l,
-        lt-ltb 2 j k,
-        length-take-le n ts (omega arith),
-        lt-leb 1024 n r,
-        add-one n,
-        take-suc-set ts n m a,
-        take-suc-set vs n v b,
-      )
+    pub samples-full : last ≤ m → 2 < j → 1024 ≤ n → length ts ≡ 1024 → n ≤ 1024
+        → SampleTried t p ts vs n last (Refused (record { report = TooMany; place = p })) ts vs
+    samples-full f k r a few =
+        record {
+          goes-on = λ next. rw (← line, read, le-ltb m last f, lt-ltb 2 j k, length-take-le n ts (omega arith), le-leb 1024 n r);
+          within = tt;
+        }
+
+    pub sample-kept : last ≤ m → 2 < j → n < 1024 → length ts ≡ 1024 → length vs ≡ 1024
+        → SampleTried t p ts vs n last (Stored (n + 1) m) (set ts n m) (set vs n v)
+    sample-kept f k r a b =
+        record {
+          goes-on = λ next.
+              rw (
+                ← line,
+                read,
+                le-ltb m last f,
+                lt-ltb 2 j k,
+                length-take-le n ts (omega arith),
+                lt-leb 1024 n r,
+                add-one n,
+                take-suc-set ts n m (omega arith),
+                take-suc-set vs n v (omega arith),
+              );
+          within = omega arith;
+        }

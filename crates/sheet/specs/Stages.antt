@@ -1,9 +1,10 @@
 -- What each stage of the reader has found out, as what is left of the sheet's meaning: a stage's contract says that the meaning before it is
--- the meaning of what it gives.
+-- the meaning of what it gives. Each contract is one record; what goes on after a stage stands in it for every way to go on.
 use Prim.Native.Nat.{ℕ, _+_, _≤_}
 use mathlib.Core.Path.{_≡_}
-use mathlib.Core.List.{List, [], _∷_}
-use lib.ListN.{take, drop}
+use mathlib.Core.Bool.{Bool}
+use mathlib.Core.List.{List, [], _∷_, _++_}
+use lib.ListN.{length, take, drop}
 use Rattle.meanings.specs.declared.Verdict.{Verdict}
 use Rattle.meanings.specs.declared.Verdict.the-variants.{Fit, Faulty}
 use Rattle.meanings.specs.declared.Found.{Found}
@@ -12,8 +13,10 @@ use Rattle.meanings.specs.declared.Reading.{Reading}
 use Rattle.meanings.specs.declared.Reading.the-variants.{Used, Unread}
 use Rattle.meanings.specs.Limits.{full}
 use Rattle.meanings.specs.Bytes.{sample-header}
-use Rattle.meanings.specs.Reports.{given, refused, told}
-use Rattle.meanings.specs.Sheet.{Lines, lines, Outcome, refused-at, header, read-samples}
+use Rattle.meanings.specs.Reports.{given, refused, told, told-verdict, first-of, decreases, edge-decreases}
+use Rattle.meanings.specs.Sheet.{Lines, lines, Outcome, refused-at, or-next, header, point-line, point-checks, with-point, read-points, sample-line}
+use Rattle.meanings.specs.Sheet.{with-sample, read-samples, read-sheet}
+use Rattle.meanings.specs.Calls.{told-reading, counts, read-minutes, read-values, read-evaluation-points, read-bandwidths}
 use Rattle.sheet.specs.declared.points.PointsRead.{PointsRead}
 use Rattle.sheet.specs.declared.points.PointsRead.the-variants.{Points, Unfit as UnfitPoints}
 use Rattle.sheet.specs.declared.samples.SampleStored.{SampleStored}
@@ -26,10 +29,30 @@ abbrev pub after-header : Found → List ℕ → ℕ → (ℕ → Lines → Outc
 after-header (At q) s p next = next q (lines (drop q s))
 after-header Nothing s p next = refused-at p 2
 
+pub record HeaderTried (names s : List ℕ) (p : ℕ) (r : Found) : Type 0 where
+  pub goes-on : (next : ℕ → Lines → Outcome) → header names p (lines (drop p s)) next ≡ after-header r s p next
+
+-- a mark against the last of the first n: the mark, and an edge of it
+unfoldable pub below-last : List ℕ → ℕ → ℕ → Bool
+below-last zs n z = decreases (take n zs ++ z ∷ []) (length (take n zs))
+
+unfoldable pub edge-below-last : List ℕ → List ℕ → ℕ → ℕ → ℕ → Bool
+edge-below-last zs hs n z h = edge-decreases (take n zs ++ z ∷ []) (take n hs ++ h ∷ []) (length (take n zs))
+
+-- what a mark line at byte p earns after the first n marks
+pub record PointChecked (p : ℕ) (zs hs : List ℕ) (n z h : ℕ) (v : Verdict) : Type 0 where
+  pub found : told-verdict v ≡ first-of (point-checks full p (take n zs) (take n hs) (record { point = z; bandwidth = h }))
+
 -- a mark line that is stored leaves the count within its limit
 abbrev pub room-after : Verdict → ℕ → Type 0
 room-after Fit count = count + 1 ≤ 512
 room-after (Faulty r) count = Unit {0}
+
+-- a mark line with text t at byte p, after the first n marks of zs and hs, which are zs′ and hs′ afterwards
+pub record PointTried (t : List ℕ) (p : ℕ) (zs hs : List ℕ) (n : ℕ) (v : Verdict) (zs′ hs′ : List ℕ) : Type 0 where
+  pub goes-on : (next : List ℕ → List ℕ → Outcome) → with-point full p (take n zs) (take n hs) (point-line t) next
+      ≡ or-next (told-verdict v) (next (take (n + 1) zs′) (take (n + 1) hs′))
+  pub room : room-after v n
 
 -- after the mark lines and the empty line: the second names line follows
 abbrev pub points-read : PointsRead → List ℕ → List ℕ → List ℕ → Outcome
@@ -41,6 +64,10 @@ abbrev pub points-within : PointsRead → ℕ → Type 0
 points-within (Points n q) size = (n ≤ 512) × (q ≤ size)
 points-within (UnfitPoints r) size = Unit {0}
 
+pub record PointsFound (s : List ℕ) (from : ℕ) (r : PointsRead) (zs hs : List ℕ) : Type 0 where
+  pub outcome : read-points full from [] [] (lines (drop from s)) ≡ points-read r s zs hs
+  pub within : points-within r (length s)
+
 -- after a reading line; last is the minute of the line before it
 abbrev pub sample-stored : SampleStored → ℕ → List ℕ → List ℕ → (List ℕ → List ℕ → List ℕ → Outcome) → Outcome
 sample-stored (Stored n minute) last ts vs next = next (last ∷ minute ∷ []) (take n ts) (take n vs)
@@ -49,6 +76,12 @@ sample-stored (Refused r) last ts vs next = refused (told r)
 abbrev pub stored-within : SampleStored → Type 0
 stored-within (Stored n minute) = n ≤ 1024
 stored-within (Refused r) = Unit {0}
+
+-- a reading line with text t at byte p, after the first n readings of ts and vs, which are ts′ and vs′ afterwards
+pub record SampleTried (t : List ℕ) (p : ℕ) (ts vs : List ℕ) (n last : ℕ) (r : SampleStored) (ts′ vs′ : List ℕ) : Type 0 where
+  pub goes-on : (next : List ℕ → List ℕ → List ℕ → Outcome) → with-sample full p (last ∷ []) (take n ts) (take n vs) (sample-line t) next
+      ≡ sample-stored r last ts′ vs′ next
+  pub within : stored-within r
 
 -- after the reading lines
 abbrev pub samples-read : SamplesRead → List ℕ → List ℕ → List ℕ → List ℕ → Outcome
@@ -59,12 +92,34 @@ abbrev pub samples-within : SamplesRead → Type 0
 samples-within (Kept n) = n ≤ 1024
 samples-within (UnfitSamples r) = Unit {0}
 
+pub record SamplesFound (s : List ℕ) (from : ℕ) (r : SamplesRead) (ts vs : List ℕ) : Type 0 where
+  pub outcome : (zs hs : List ℕ) → read-samples full zs hs from [] [] [] (lines (drop from s)) ≡ samples-read r zs hs ts vs
+  pub within : samples-within r
+
+-- the same, from their names line on
+pub record SamplesFromHeader (s : List ℕ) (from : ℕ) (r : SamplesRead) (ts vs : List ℕ) : Type 0 where
+  pub outcome : (zs hs : List ℕ) → header sample-header from (lines (drop from s)) (λ p rest. read-samples full zs hs p [] [] [] rest)
+      ≡ samples-read r zs hs ts vs
+  pub within : samples-within r
+
 -- after the whole sheet, read into lists of full length
-abbrev pub scanned : Reading → List ℕ → List ℕ → List ℕ → List ℕ → Outcome
-scanned (Used n m) ts vs zs hs =
+abbrev pub sheet-read : Reading → List ℕ → List ℕ → List ℕ → List ℕ → Outcome
+sheet-read (Used n m) ts vs zs hs =
     given (record { minutes = take n ts; values = take n vs; points = take m zs; bandwidths = take m hs })
-scanned (Unread r) ts vs zs hs = refused (told r)
+sheet-read (Unread r) ts vs zs hs = refused (told r)
 
 abbrev pub used-within : Reading → Type 0
 used-within (Used n m) = (n ≤ 1024) × (m ≤ 512)
 used-within (Unread r) = Unit {0}
+
+pub record Scanned (s : List ℕ) (r : Reading) (ts vs zs hs : List ℕ) : Type 0 where
+  pub outcome : read-sheet full s ≡ sheet-read r ts vs zs hs
+  pub within : used-within r
+
+-- the sheet read into lists of the right lengths, which hold what the meaning says afterwards
+pub record ReadInto (s ts vs zs hs : List ℕ) (r : Reading) (ts′ vs′ zs′ hs′ : List ℕ) : Type 0 where
+  pub answer : told-reading r ≡ counts (read-sheet full s)
+  pub minutes : ts′ ≡ read-minutes (read-sheet full s) ts
+  pub values : vs′ ≡ read-values (read-sheet full s) vs
+  pub points : zs′ ≡ read-evaluation-points (read-sheet full s) zs
+  pub bandwidths : hs′ ≡ read-bandwidths (read-sheet full s) hs

@@ -11,18 +11,17 @@ use meanings::Reading;
 use meanings::Refusal;
 use meanings::Report;
 ghost use mathlib.Core.Path.{_≡_};
-ghost use Prim.Native.Nat.{ℕ, _+_, _≤_};
-ghost use mathlib.Core.List.{List, _++_};
+ghost use Prim.Native.Nat.{_≤_};
+ghost use mathlib.Core.List.{_++_};
 ghost use lib.ListN.{length, take, drop};
 ghost use Rattle.meanings.specs.Limits.{full};
-ghost use Rattle.meanings.specs.Sheet.{Lines, Outcome, lines, header, read-sheet};
 ghost use Rattle.meanings.specs.Calls.{told-reading, counts, read, read-minutes, read-values, read-evaluation-points, read-bandwidths};
-ghost use Rattle.sheet.specs.Stages.{after-header, scanned, used-within};
+ghost use Rattle.sheet.specs.Stages.{HeaderTried, Scanned, ReadInto};
 
 // Passes the names line at byte `from`, if it is that.
 pub(crate) fn skip_header(sheet: &[u8], from: usize, names: &[u8]) -> Found
     requires { ⌜ from ≤ length (now sheet) ⌝ }
-    ensures { λ r. ⌜ ((next : ℕ → Lines → Outcome) → header (now (names .entry)) from (lines (drop from (now (sheet .entry)))) next ≡ after-header r (now (sheet .entry)) from next) ⌝ }
+    ensures { λ r. ⌜ HeaderTried (now (names .entry)) (now (sheet .entry)) from r ⌝ }
 {
     let Line::Ended { end, next } = lines::find_line(sheet, from) else {
         return Found::Nothing;
@@ -42,8 +41,7 @@ pub(crate) fn scan(
     bandwidths: &mut [u32],
 ) -> Reading
     requires { ⌜ (length (now minutes) ≡ 1024) × (length (now values) ≡ 1024) × (length (now points) ≡ 512) × (length (now bandwidths) ≡ 512) ⌝ }
-    ensures { λ r. ⌜ read-sheet full (now (sheet .entry)) ≡ scanned r (now (minutes .exit)) (now (values .exit)) (now (points .exit)) (now (bandwidths .exit)) ⌝ }
-    ensures { λ r. ⌜ used-within r ⌝ }
+    ensures { λ r. ⌜ Scanned (now (sheet .entry)) r (now (minutes .exit)) (now (values .exit)) (now (points .exit)) (now (bandwidths .exit)) ⌝ }
 {
     if 32768 < sheet.len() {
         return Reading::Unread(Refusal {
@@ -97,26 +95,17 @@ pub(crate) fn put_front_u32(xs: &[u32], n: usize, out: &mut [u32])
     }
 }
 
-// The reader. The sheet is read into lists of its own, so that a refusal leaves the lent ones as they were.
-pub fn read_sheet(
+// Reads the sheet into lists of its own, so that a refusal leaves the lent ones as they were.
+pub(crate) fn read_into(
     sheet: &[u8],
     minutes: &mut [u16],
     values: &mut [u16],
     points: &mut [u16],
     bandwidths: &mut [u32],
 ) -> Reading
-    ensures { λ r. ⌜ told-reading r ≡ counts (read full (now (sheet .entry)) (now (minutes .entry)) (now (values .entry)) (now (points .entry)) (now (bandwidths .entry))) ⌝ }
-    ensures { λ _. ⌜ now (minutes .exit) ≡ read-minutes (read full (now (sheet .entry)) (now (minutes .entry)) (now (values .entry)) (now (points .entry)) (now (bandwidths .entry))) (now (minutes .entry)) ⌝ }
-    ensures { λ _. ⌜ now (values .exit) ≡ read-values (read full (now (sheet .entry)) (now (minutes .entry)) (now (values .entry)) (now (points .entry)) (now (bandwidths .entry))) (now (values .entry)) ⌝ }
-    ensures { λ _. ⌜ now (points .exit) ≡ read-evaluation-points (read full (now (sheet .entry)) (now (minutes .entry)) (now (values .entry)) (now (points .entry)) (now (bandwidths .entry))) (now (points .entry)) ⌝ }
-    ensures { λ _. ⌜ now (bandwidths .exit) ≡ read-bandwidths (read full (now (sheet .entry)) (now (minutes .entry)) (now (values .entry)) (now (points .entry)) (now (bandwidths .entry))) (now (bandwidths .entry)) ⌝ }
+    requires { ⌜ (length (now minutes) ≡ 1024) × (length (now values) ≡ 1024) × (length (now points) ≡ 512) × (length (now bandwidths) ≡ 512) ⌝ }
+    ensures { λ r. ⌜ ReadInto (now (sheet .entry)) (now (minutes .entry)) (now (values .entry)) (now (points .entry)) (now (bandwidths .entry)) r (now (minutes .exit)) (now (values .exit)) (now (points .exit)) (now (bandwidths .exit)) ⌝ }
 {
-    if uneven_lists(minutes.len(), values.len(), points.len(), bandwidths.len()) {
-        return Reading::Unread(Refusal {
-            report: Report::LengthMismatch,
-            place: 0,
-        });
-    }
     let mut ts = [0u16; 1024];
     let mut vs = [0u16; 1024];
     let mut zs = [0u16; 512];
@@ -137,4 +126,27 @@ pub fn read_sheet(
             }
         }
     }
+}
+
+// The reader, for lent lists of any lengths.
+pub fn read_sheet(
+    sheet: &[u8],
+    minutes: &mut [u16],
+    values: &mut [u16],
+    points: &mut [u16],
+    bandwidths: &mut [u32],
+) -> Reading
+    ensures { λ r. ⌜ told-reading r ≡ counts (read full (now (sheet .entry)) (now (minutes .entry)) (now (values .entry)) (now (points .entry)) (now (bandwidths .entry))) ⌝ }
+    ensures { λ _. ⌜ now (minutes .exit) ≡ read-minutes (read full (now (sheet .entry)) (now (minutes .entry)) (now (values .entry)) (now (points .entry)) (now (bandwidths .entry))) (now (minutes .entry)) ⌝ }
+    ensures { λ _. ⌜ now (values .exit) ≡ read-values (read full (now (sheet .entry)) (now (minutes .entry)) (now (values .entry)) (now (points .entry)) (now (bandwidths .entry))) (now (values .entry)) ⌝ }
+    ensures { λ _. ⌜ now (points .exit) ≡ read-evaluation-points (read full (now (sheet .entry)) (now (minutes .entry)) (now (values .entry)) (now (points .entry)) (now (bandwidths .entry))) (now (points .entry)) ⌝ }
+    ensures { λ _. ⌜ now (bandwidths .exit) ≡ read-bandwidths (read full (now (sheet .entry)) (now (minutes .entry)) (now (values .entry)) (now (points .entry)) (now (bandwidths .entry))) (now (bandwidths .entry)) ⌝ }
+{
+    if uneven_lists(minutes.len(), values.len(), points.len(), bandwidths.len()) {
+        return Reading::Unread(Refusal {
+            report: Report::LengthMismatch,
+            place: 0,
+        });
+    }
+    read_into(sheet, minutes, values, points, bandwidths)
 }

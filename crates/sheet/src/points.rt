@@ -7,13 +7,9 @@ use meanings::Refusal;
 use meanings::Report;
 use meanings::Verdict;
 ghost use mathlib.Core.Path.{_≡_};
-ghost use Prim.Native.Nat.{ℕ, _+_, _≤_};
-ghost use mathlib.Core.List.{List, [], _∷_, _++_};
-ghost use lib.ListN.{length, take, drop};
-ghost use Rattle.meanings.specs.Limits.{full};
-ghost use Rattle.meanings.specs.Reports.{told-verdict, first-of, decreases, edge-decreases};
-ghost use Rattle.meanings.specs.Sheet.{Outcome, lines, or-next, point-line, point-checks, with-point, read-points};
-ghost use Rattle.sheet.specs.Stages.{points-read, points-within, room-after};
+ghost use Prim.Native.Nat.{_≤_};
+ghost use lib.ListN.{length};
+ghost use Rattle.sheet.specs.Stages.{below-last, edge-below-last, PointChecked, PointTried, PointsFound};
 
 // What the mark lines give: how many there are and where the line after the empty line begins, or the report.
 pub(crate) enum PointsRead {
@@ -24,7 +20,7 @@ pub(crate) enum PointsRead {
 // Whether a mark is below the last of the first `count`.
 pub(crate) fn below_last(points: &[u16], count: usize, point: u16) -> bool
     requires { ⌜ count ≤ length (now points) ⌝ }
-    ensures { λ r. ⌜ r ≡ decreases (take count (now (points .entry)) ++ point ∷ []) (length (take count (now (points .entry)))) ⌝ }
+    ensures { λ r. ⌜ r ≡ below-last (now (points .entry)) count point ⌝ }
 {
     if count == 0 {
         return false;
@@ -41,7 +37,7 @@ pub(crate) fn edge_below_last(
     bandwidth: u32,
 ) -> bool
     requires { ⌜ (count ≤ length (now points)) × (count ≤ length (now bandwidths)) ⌝ }
-    ensures { λ r. ⌜ r ≡ edge-decreases (take count (now (points .entry)) ++ point ∷ []) (take count (now (bandwidths .entry)) ++ bandwidth ∷ []) (length (take count (now (points .entry)))) ⌝ }
+    ensures { λ r. ⌜ r ≡ edge-below-last (now (points .entry)) (now (bandwidths .entry)) count point bandwidth ⌝ }
 {
     if count == 0 {
         return false;
@@ -59,7 +55,7 @@ pub(crate) fn point_fault(
     place: usize,
 ) -> Verdict
     requires { ⌜ (count ≤ length (now points)) × (count ≤ length (now bandwidths)) ⌝ }
-    ensures { λ r. ⌜ told-verdict r ≡ first-of (point-checks full place (take count (now (points .entry))) (take count (now (bandwidths .entry))) (record { point = point; bandwidth = bandwidth })) ⌝ }
+    ensures { λ r. ⌜ PointChecked place (now (points .entry)) (now (bandwidths .entry)) count point bandwidth r ⌝ }
 {
     if below_last(points, count, point) {
         return Verdict::Faulty(Refusal {
@@ -97,8 +93,7 @@ pub(crate) fn store_point(
     count: usize,
 ) -> Verdict
     requires { ⌜ (length (now points) ≡ 512) × (length (now bandwidths) ≡ 512) × (count ≤ 512) ⌝ }
-    ensures { λ r. ⌜ ((next : List ℕ → List ℕ → Outcome) → with-point full place (take count (now (points .entry))) (take count (now (bandwidths .entry))) (point-line (now (text .entry))) next ≡ or-next (told-verdict r) (next (take (count + 1) (now (points .exit))) (take (count + 1) (now (bandwidths .exit))))) ⌝ }
-    ensures { λ r. ⌜ room-after r count ⌝ }
+    ensures { λ r. ⌜ PointTried (now (text .entry)) place (now (points .entry)) (now (bandwidths .entry)) count r (now (points .exit)) (now (bandwidths .exit)) ⌝ }
 {
     let PointLine::Point { point, bandwidth } = line_values::point_line(text) else {
         return Verdict::Faulty(Refusal {
@@ -124,8 +119,7 @@ pub(crate) fn read_points(
     bandwidths: &mut [u32],
 ) -> PointsRead
     requires { ⌜ (length (now points) ≡ 512) × (length (now bandwidths) ≡ 512) ⌝ }
-    ensures { λ r. ⌜ read-points full from [] [] (lines (drop from (now (sheet .entry)))) ≡ points-read r (now (sheet .entry)) (now (points .exit)) (now (bandwidths .exit)) ⌝ }
-    ensures { λ r. ⌜ points-within r (length (now (sheet .entry))) ⌝ }
+    ensures { λ r. ⌜ PointsFound (now (sheet .entry)) from r (now (points .exit)) (now (bandwidths .exit)) ⌝ }
 {
     let mut at = from;
     let mut count = 0;

@@ -6,13 +6,9 @@ use meanings::Found;
 use meanings::Refusal;
 use meanings::Report;
 ghost use mathlib.Core.Path.{_≡_};
-ghost use Prim.Native.Nat.{ℕ, _+_, _≤_};
-ghost use mathlib.Core.List.{List, [], _∷_};
-ghost use lib.ListN.{length, take, drop};
-ghost use Rattle.meanings.specs.Limits.{full};
-ghost use Rattle.meanings.specs.Bytes.{sample-header};
-ghost use Rattle.meanings.specs.Sheet.{Outcome, Lines, lines, sample-line, with-sample, header, read-samples};
-ghost use Rattle.sheet.specs.Stages.{sample-stored, stored-within, samples-read, samples-within};
+ghost use Prim.Native.Nat.{_≤_};
+ghost use lib.ListN.{length};
+ghost use Rattle.sheet.specs.Stages.{SampleTried, SamplesFound, SamplesFromHeader};
 
 // What a reading line gives: how many readings are kept with it, and its minute, or the report.
 pub(crate) enum SampleStored {
@@ -37,8 +33,7 @@ pub(crate) fn store_sample(
     last: u16,
 ) -> SampleStored
     requires { ⌜ (length (now minutes) ≡ 1024) × (length (now values) ≡ 1024) × (count ≤ 1024) ⌝ }
-    ensures { λ r. ⌜ ((next : List ℕ → List ℕ → List ℕ → Outcome) → with-sample full place (last ∷ []) (take count (now (minutes .entry))) (take count (now (values .entry))) (sample-line (now (text .entry))) next ≡ sample-stored r last (now (minutes .exit)) (now (values .exit)) next) ⌝ }
-    ensures { λ r. ⌜ stored-within r ⌝ }
+    ensures { λ r. ⌜ SampleTried (now (text .entry)) place (now (minutes .entry)) (now (values .entry)) count last r (now (minutes .exit)) (now (values .exit)) ⌝ }
 {
     let SampleLine::Sample {
         minute,
@@ -82,8 +77,7 @@ pub(crate) fn read_samples(
     values: &mut [u16],
 ) -> SamplesRead
     requires { ⌜ (length (now minutes) ≡ 1024) × (length (now values) ≡ 1024) ⌝ }
-    ensures { λ r. ⌜ ((zs hs : List ℕ) → read-samples full zs hs from [] [] [] (lines (drop from (now (sheet .entry)))) ≡ samples-read r zs hs (now (minutes .exit)) (now (values .exit))) ⌝ }
-    ensures { λ r. ⌜ samples-within r ⌝ }
+    ensures { λ r. ⌜ SamplesFound (now (sheet .entry)) from r (now (minutes .exit)) (now (values .exit)) ⌝ }
 {
     let mut at = from;
     let mut count = 0;
@@ -115,8 +109,7 @@ pub(crate) fn read_from_header(
     values: &mut [u16],
 ) -> SamplesRead
     requires { ⌜ (length (now minutes) ≡ 1024) × (length (now values) ≡ 1024) × (from ≤ length (now sheet)) ⌝ }
-    ensures { λ r. ⌜ ((zs hs : List ℕ) → header sample-header from (lines (drop from (now (sheet .entry)))) (λ p rest. read-samples full zs hs p [] [] [] rest) ≡ samples-read r zs hs (now (minutes .exit)) (now (values .exit))) ⌝ }
-    ensures { λ r. ⌜ samples-within r ⌝ }
+    ensures { λ r. ⌜ SamplesFromHeader (now (sheet .entry)) from r (now (minutes .exit)) (now (values .exit)) ⌝ }
 {
     match skip_header(sheet, from, b"minute,inj,vdk") {
         Found::At(first) => read_samples(sheet, first, minutes, values),

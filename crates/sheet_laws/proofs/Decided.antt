@@ -16,7 +16,9 @@ use Rattle.meanings.specs.Bytes.{line-feed, point-header, sample-header}
 use Rattle.meanings.specs.Moves.{Move}
 use Rattle.meanings.specs.Reports.{Fault, first-of}
 use Rattle.meanings.specs.Sheet.{Lines, end, unended, line, lines, point-line, Injection, sample-line, Contents, point-checks, sample-checks}
-use Rattle.meanings.specs.SheetForm.{print-point, print-points, print-sample, print-samples, print-sheet, point-head, sample-head, kept-of, FitPoints, FitSamples, IsSheet, Begins, Refused, too-long, no-point-header, no-empty-line, malformed-point, faulty-point, no-point, no-sample-header, malformed-sample, faulty-sample}
+use Rattle.meanings.specs.SheetForm.{print-point, print-points, print-sample, print-samples, print-sheet, point-head, sample-head, kept-of}
+use Rattle.meanings.specs.SheetForm.{FitPoints, FitSamples, IsSheet, Begins, Refused, too-long, no-point-header, no-empty-line}
+use Rattle.meanings.specs.SheetForm.{malformed-point, faulty-point, no-point, no-sample-header, malformed-sample, faulty-sample}
 use Rattle.meanings.specs.Output.{text-line}
 use Rattle.text_laws.proofs.Texts.{no-lines, first-line}
 use Rattle.sheet_laws.proofs.ValueLines.{no-point-begins, no-sample-begins}

@@ -11,11 +11,14 @@ use Rattle.meanings.specs.declared.Limits.{Limits}
 use Rattle.meanings.specs.Limits.{max-sheet}
 use Rattle.meanings.specs.Bytes.{line-feed, sample-header}
 use Rattle.meanings.specs.Moves.{Move}
-use Rattle.meanings.specs.Sheet.{Lines, line, lines, point-line, Injection, sample-line, Outcome, point-checks, sample-checks, header, read-samples, read-points, read-sheet}
-use Rattle.meanings.specs.SheetForm.{print-point, print-points, print-sample, print-samples, point-head, sample-head, kept-of, PointForm, SampleForm, Follows, Neighbours, Each, BandwidthRange, FitPoints, MinuteOrder, FitSamples}
+use Rattle.meanings.specs.Sheet.{Lines, line, lines, point-line, Injection, sample-line, Outcome}
+use Rattle.meanings.specs.Sheet.{point-checks, sample-checks, header, read-samples, read-points, read-sheet}
+use Rattle.meanings.specs.SheetForm.{print-point, print-points, print-sample, print-samples, point-head, sample-head, kept-of, PointForm}
+use Rattle.meanings.specs.SheetForm.{SampleForm, Follows, Neighbours, Each, BandwidthRange, FitPoints, MinuteOrder, FitSamples}
 use Rattle.meanings.specs.Reports.{first-of}
 use Rattle.meanings.specs.Output.{text-line}
-use Rattle.sheet_laws.proofs.ValueLines.{point-text, sample-text, point-printed, sample-printed, point-line-of-text, sample-line-of-text, lines-of-point, lines-of-sample}
+use Rattle.sheet_laws.proofs.ValueLines.{point-text, sample-text, point-printed, sample-printed}
+use Rattle.sheet_laws.proofs.ValueLines.{point-line-of-text, sample-line-of-text, lines-of-point, lines-of-sample}
 use Rattle.sheet_laws.proofs.LineOrder.{kept-more, minutes-of, values-of, points-of, bandwidths-of, sample-checks-none, point-checks-none}
 
 -- the byte after the mark lines ms, and the byte after the reading lines js too
@@ -37,7 +40,13 @@ one-sample : (L : Limits) (zs hs : List ℕ) (p : ℕ) (js : List Injection) (t 
     → first-of (sample-checks L p (minutes-of js) (length (minutes-of (kept-of js))) j) ≡ none
     → after-samples L zs hs p js (line t ls) ≡ after-samples L zs hs (p + length t + 1) (js ++ j ∷ []) ls
 one-sample L zs hs p js t j ls e f =
-    rw (e, f, map-append (λ (j : Injection). j .minute) js (j ∷ []), kept-more (λ (j : Injection). j .minute) js j, kept-more (λ (j : Injection). j .value) js j)
+    rw (
+      e,
+      f,
+      map-append (λ (j : Injection). j .minute) js (j ∷ []),
+      kept-more (λ (j : Injection). j .minute) js j,
+      kept-more (λ (j : Injection). j .value) js j,
+    )
 
 one-point : (L : Limits) (p : ℕ) (ms : List Move) (t : List ℕ) (m : Move) (ls : Lines) → point-line t ≡ some m
     → first-of (point-checks L p (points-of ms) (bandwidths-of ms) m) ≡ none

@@ -18,7 +18,8 @@ use Rattle.meanings.specs.Sheet.{point-checks}
 use Rattle.meanings.specs.SheetForm.{Follows, Neighbours, BandwidthRange, PointFault}
 use Rattle.meanings.proofs.Checks.{bandwidth-in-range}
 use Rattle.sheet_laws.proofs.Lasts.{last-fails, neighbours-more, last-holds, last-found, last-is-tested, neighbours-weaker}
-use Rattle.sheet_laws.proofs.LineOrder.{point-falls, edge-falls, decreases-last, edge-decreases-last, points-of, bandwidths-of, marks-follow, no-edge-falls}
+use Rattle.sheet_laws.proofs.LineOrder.{point-falls, edge-falls, decreases-last, edge-decreases-last}
+use Rattle.sheet_laws.proofs.LineOrder.{points-of, bandwidths-of, marks-follow, no-edge-falls}
 
 -- the second reading's word for marks that do not fall
 abbrev pub PointOrder : Move → Move → Type 0

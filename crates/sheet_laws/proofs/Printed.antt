@@ -11,7 +11,9 @@ use Rattle.meanings.specs.Limits.{max-sheet}
 use Rattle.meanings.specs.Bytes.{line-feed, point-header, sample-header}
 use Rattle.meanings.specs.Reports.{given, refused}
 use Rattle.meanings.specs.Sheet.{Contents, refused-at, read-points, read-sheet}
-use Rattle.meanings.specs.SheetForm.{print-point, print-points, print-sample, print-samples, print-sheet, point-head, sample-head, FitPoints, IsSheet, Refused, too-long, no-point-header, no-empty-line, malformed-point, faulty-point, no-point, no-sample-header, malformed-sample, faulty-sample}
+use Rattle.meanings.specs.SheetForm.{print-point, print-points, print-sample, print-samples, print-sheet, point-head, sample-head}
+use Rattle.meanings.specs.SheetForm.{FitPoints, IsSheet, Refused, too-long, no-point-header, no-empty-line, malformed-point}
+use Rattle.meanings.specs.SheetForm.{faulty-point, no-point, no-sample-header, malformed-sample, faulty-sample}
 use Rattle.sheet_laws.proofs.Headers.{no-header-refused}
 use Rattle.sheet_laws.proofs.Passed.{sheet-at-points, sheet-at-header, sheet-at-samples}
 use Rattle.sheet_laws.proofs.PointFaults.{check-of-point-fault}

@@ -11,7 +11,8 @@ use Rattle.meanings.specs.Limits.{full}
 use Rattle.meanings.specs.Bytes.{ascii, sample-header}
 use Rattle.meanings.specs.Moves.{Move}
 use Rattle.meanings.specs.Sheet.{Injection, read-sheet}
-use Rattle.meanings.specs.SheetForm.{IsSheet, Refused, too-long, no-point-header, no-empty-line, malformed-point, faulty-point, no-point, no-sample-header, malformed-sample, faulty-sample, PointFault, SampleFault, edge, Neighbours, Follows, Begins, point-head}
+use Rattle.meanings.specs.SheetForm.{IsSheet, Refused, too-long, no-point-header, no-empty-line, malformed-point, faulty-point, no-point, no-sample-header}
+use Rattle.meanings.specs.SheetForm.{malformed-sample, faulty-sample, PointFault, SampleFault, edge, Neighbours, Follows, Begins, point-head}
 use Rattle.meanings.specs.Output.{decimal, decimal-with, text-line}
 use Rattle.meanings.specs.Cases.{contents}
 use Rattle.sheet_laws.proofs.ValueLines.{no-point-begins, no-sample-begins}

@@ -11,7 +11,8 @@ use Rattle.meanings.specs.Bytes.{ascii}
 use Rattle.meanings.specs.Reports.{Answer, Fault, given, refused}
 use Rattle.meanings.specs.Sheet.{Outcome, read-sheet}
 use Rattle.meanings.specs.Output.{decimal, decimal-with}
-use Rattle.meanings.specs.SheetForm.{Each, Neighbours, PointForm, BandwidthRange, Follows, FitPoints, edge, Refused, faulty-point, point-head, print-point, print-points}
+use Rattle.meanings.specs.SheetForm.{Each, Neighbours, PointForm, BandwidthRange, Follows, FitPoints}
+use Rattle.meanings.specs.SheetForm.{edge, Refused, faulty-point, point-head, print-point, print-points}
 use Rattle.meanings.specs.Calls.{Counts, counts, read, read-minutes}
 use Rattle.sheet_laws.proofs.Printed.{refused-only}
 
@@ -32,14 +33,18 @@ no-drop-by-gap e = let n : _≡_ {A = ℕ} 2 1 = ap keeps e in omega arith
 
 -- a list written before a later line is refused
 pub no-list-written-before-a-refusal :
-    ¬ (read-minutes (read full (ascii "mark,half\n1,1\n\nminute,inj,vdk\n5,3,1\n4,3,1\n") (replicate 1024 7) (replicate 1024 7) (replicate 512 7) (replicate 512 7)) (replicate 1024 7)
+    ¬ (read-minutes
+    (read full (ascii "mark,half\n1,1\n\nminute,inj,vdk\n5,3,1\n4,3,1\n") (replicate 1024 7) (replicate 1024 7) (replicate 512 7) (replicate 512 7))
+    (replicate 1024 7)
     ≡ 5 ∷ replicate 1023 7)
 unfolding read read-sheet
 no-list-written-before-a-refusal e = let n : _≡_ {A = ℕ} 7 5 = ap (λ (r : List ℕ). getD r 0 0) e in omega arith
 
 -- an unused tail cleared
 pub no-tail-cleared :
-    ¬ (read-minutes (read full (ascii "mark,half\n1,1\n\nminute,inj,vdk\n5,3,1\n") (replicate 1024 7) (replicate 1024 7) (replicate 512 7) (replicate 512 7)) (replicate 1024 7)
+    ¬ (read-minutes
+    (read full (ascii "mark,half\n1,1\n\nminute,inj,vdk\n5,3,1\n") (replicate 1024 7) (replicate 1024 7) (replicate 512 7) (replicate 512 7))
+    (replicate 1024 7)
     ≡ 5 ∷ replicate 1023 0)
 unfolding read read-sheet
 no-tail-cleared e = let n : _≡_ {A = ℕ} 7 0 = ap (λ (r : List ℕ). getD r 1 0) e in omega arith
@@ -106,7 +111,8 @@ six-not-before-ten p e =
     let r : Refused full one-too-many-and-back 10 (length (point-head ++ print-points (replicate 512 same-mark))) =
     faulty-point (omega arith) (replicate 512 same-mark) same-marks-fit last-mark
     (record { point-range = omega arith; bandwidth-digits = omega arith }) ([], sym (append-nil one-too-many-and-back))
-    (edge (neighbours-then (λ (a b : Move). a .point ≤ b .point) same-mark last-mark (omega arith) (omega arith) 512) (record { low = omega arith; high = omega arith })
+    (edge (neighbours-then (λ (a b : Move). a .point ≤ b .point) same-mark last-mark (omega arith) (omega arith) 512)
+    (record { low = omega arith; high = omega arith })
     (λ f. let g = last-neighbours Follows same-mark last-mark 511 f in omega arith)) in
     let f = sym (refused-only full one-too-many-and-back 10 _ r) ∙ e in
     let n : _≡_ {A = ℕ} 10 6 = number-of f in

@@ -12,7 +12,8 @@ ghost use Prim.Native.Nat.{_*_};
 ghost use mathlib.Core.Bool.{_||_};
 ghost use lib.ListN.{length, getD};
 ghost use Rattle.meanings.specs.Lists.{lowest};
-ghost use Rattle.meanings.specs.Reports.{told-verdict, told-found, first-of, bad-bandwidth, differ, uneven-samples, edge-decreases, smooth-size-checks, smooth-order-checks, smooth-checks};
+ghost use Rattle.meanings.specs.Reports.{told-verdict, told-found, first-of, bad-bandwidth, differ, uneven-samples, smooth-size-checks, smooth-checks};
+ghost use Rattle.smooth_checks.specs.Verdicts.{SizesJudged, OrderJudged, FirstEdgeBack};
 
 // The lowest position whose half width is out of range.
 pub fn first_out_of_range(bandwidths: &[u32]) -> Found
@@ -31,7 +32,7 @@ pub fn first_out_of_range(bandwidths: &[u32]) -> Found
 // The lowest position at which an edge lies below the one before.
 pub(crate) fn first_edge_decrease(points: &[u16], bandwidths: &[u32]) -> Found
     requires { ⌜ length (now points) ≡ length (now bandwidths) ⌝ }
-    ensures { λ r. ⌜ told-found r ≡ lowest (edge-decreases (now (points .entry)) (now (bandwidths .entry))) (length (now (points .entry))) ⌝ }
+    ensures { λ r. ⌜ FirstEdgeBack (now (points .entry)) (now (bandwidths .entry)) r ⌝ }
 {
     let mut i = 1;
     while i < points.len() {
@@ -79,6 +80,20 @@ pub fn smooth_size_fault(
 ) -> Verdict
     ensures { λ r. ⌜ told-verdict r ≡ first-of (smooth-size-checks limits (now (minutes .entry)) (now (values .entry)) (now (points .entry)) (now (bandwidths .entry)) rows) ⌝ }
 {
+    sizes_judged(minutes, values, points, bandwidths, rows, limits)
+}
+
+// The same, as the record that the sweep reads.
+pub(crate) fn sizes_judged(
+    minutes: &[u16],
+    values: &[u16],
+    points: &[u16],
+    bandwidths: &[u32],
+    rows: usize,
+    limits: Limits,
+) -> Verdict
+    ensures { λ r. ⌜ SizesJudged limits (now (minutes .entry)) (now (values .entry)) (now (points .entry)) (now (bandwidths .entry)) rows r ⌝ }
+{
     if uneven(minutes, values, points, bandwidths, rows) {
         return Verdict::Faulty(Refusal {
             report: Report::LengthMismatch,
@@ -109,7 +124,7 @@ pub fn smooth_size_fault(
 // What the order of a sweep's lists and the range of its half widths earn: 4, 5, 9, 10.
 pub(crate) fn smooth_order_fault(minutes: &[u16], points: &[u16], bandwidths: &[u32]) -> Verdict
     requires { ⌜ length (now points) ≡ length (now bandwidths) ⌝ }
-    ensures { λ r. ⌜ told-verdict r ≡ first-of (smooth-order-checks (now (minutes .entry)) (now (points .entry)) (now (bandwidths .entry))) ⌝ }
+    ensures { λ r. ⌜ OrderJudged (now (minutes .entry)) (now (points .entry)) (now (bandwidths .entry)) r ⌝ }
 {
     match first_decrease(minutes) {
         Found::At(i) => Verdict::Faulty(Refusal {
@@ -149,7 +164,7 @@ pub fn smooth_fault(
 ) -> Verdict
     ensures { λ r. ⌜ told-verdict r ≡ first-of (smooth-checks limits (now (minutes .entry)) (now (values .entry)) (now (points .entry)) (now (bandwidths .entry)) rows) ⌝ }
 {
-    match smooth_size_fault(minutes, values, points, bandwidths, rows, limits) {
+    match sizes_judged(minutes, values, points, bandwidths, rows, limits) {
         Verdict::Faulty(refusal) => Verdict::Faulty(refusal),
         Verdict::Fit => smooth_order_fault(minutes, points, bandwidths),
     }

@@ -1,6 +1,6 @@
 -- In a buffer of the right length: the curve of an accepted sheet is what the program writes, and so is the text of a refused sheet's report.
 use Prim.Native.Nat.{ℕ}
-use mathlib.Core.Path.{_≡_, refl, sym, ap, _∙_}
+use mathlib.Core.Path.{_≡_, sym, ap, _∙_}
 use mathlib.Core.List.{List, _++_}
 use native.Mathlib.Omega.{arith}
 use lib.ListN.{length, take, drop}
@@ -9,7 +9,7 @@ use Rattle.meanings.specs.declared.Refusal.{Refusal}
 use Rattle.meanings.specs.declared.Writing.{Writing}
 use Rattle.meanings.specs.declared.Writing.the-variants.{Written, Unwritten}
 use Rattle.meanings.specs.Limits.{full, max-output}
-use Rattle.meanings.specs.Reports.{Fault, given, refused, told, number}
+use Rattle.meanings.specs.Reports.{given, refused, told, number}
 use Rattle.meanings.specs.Sheet.{Outcome, read-sheet}
 use Rattle.meanings.specs.Output.{refusal-text, outcome-text, program}
 use Rattle.meanings.specs.Calls.{told-writing, curve-size, filled-front, write, write-buffer, write-refusal-text, refusal-buffer}

@@ -1,4 +1,3 @@
+pub mod Answered
 pub mod Places
-pub mod Sizes
 pub mod Stores
-pub mod Texts

@@ -1,7 +1,7 @@
 -- Every refusal's place is at most 32,768: positions lie in lists of at most 1,024, and a sheet's place in it, at its end or at the limit. Its
 -- number is at most 13, so 16 times the place plus the number tells both.
 use Prim.Native.Nat.{ℕ, _+_, _-_, _*_, _/_, _%_, _^_, _≤_, _<_, zero-le}
-use mathlib.Core.Path.{_≡_, refl, ap}
+use mathlib.Core.Path.{_≡_, refl, sym, ap, _∙_}
 use mathlib.Core.Bool.{Bool, true, false, _||_}
 use mathlib.Core.List.{List, [], _∷_}
 use mathlib.Core.Option.{Option, none, some}
@@ -10,19 +10,27 @@ use borrow.Author.Tests.{ltb-true, ltb-false}
 use lib.Dec.{ltb, leb, eqb}
 use lib.ListN.{length, getD}
 use Rattle.meanings.specs.declared.Report.{Report}
-use Rattle.meanings.specs.declared.Report.the-variants.{TooLong, BadHeader, MalformedLine, SampleOutOfOrder, PointOutOfOrder, TooMany, NoPoints, LengthMismatch, BandwidthOutOfRange, EdgeDecreases, InvalidRecord, UnknownPreset, GridOverflow}
+use Rattle.meanings.specs.declared.Report.the-variants.{TooLong, BadHeader, MalformedLine, SampleOutOfOrder, PointOutOfOrder, TooMany, NoPoints}
+use Rattle.meanings.specs.declared.Report.the-variants.{LengthMismatch, BandwidthOutOfRange, EdgeDecreases, InvalidRecord, UnknownPreset, GridOverflow}
 use Rattle.meanings.specs.declared.Refusal.{Refusal}
 use Rattle.meanings.specs.declared.RunningSums.{RunningSums}
 use Rattle.meanings.specs.Limits.{full, max-u16, max-sheet, max-output}
 use Rattle.meanings.specs.Lists.{pick, first, lowest}
-use Rattle.meanings.specs.Reports.{Fault, Answer, given, refused, unless, told, number, Check, at, or-later, first-of, differ, decreases, bad-bandwidth, edge-decreases, uneven-samples, bandwidth-checks, evaluate-checks, advance-checks, smooth-checks, fill-checks, read-checks, buffer-checks}
+use Rattle.meanings.specs.Reports.{Fault, Answer, given, refused, unless, told, number, Check, at, or-later, first-of, differ, decreases}
+use Rattle.meanings.specs.Reports.{bad-bandwidth, edge-decreases, uneven-samples, bandwidth-checks, evaluate-checks, advance-checks}
+use Rattle.meanings.specs.Reports.{smooth-checks, fill-checks, read-checks, buffer-checks}
 use Rattle.meanings.specs.Moves.{moves}
 use Rattle.meanings.specs.Estimate.{estimate}
 use Rattle.meanings.specs.Running.{fresh, moved, advance, passes}
 use Rattle.meanings.specs.Grid.{presets}
 use Rattle.meanings.specs.Sheet.{Outcome, or-next, read-sheet}
 use Rattle.meanings.specs.Output.{curve-text, refusal-text}
-use Rattle.meanings.specs.Calls.{evaluate, smooth, smooth-refusal, fill, counts, read, buffer-refusal, curve-size, write, write-refusal-text}
+use Rattle.meanings.specs.declared.Smoothing.{Smoothing}
+use Rattle.meanings.specs.declared.Smoothing.the-variants.{Passes}
+use Rattle.meanings.specs.declared.Writing.{Writing}
+use Rattle.meanings.specs.declared.Writing.the-variants.{Written}
+use Rattle.meanings.specs.Calls.{told-smoothing, told-writing, evaluate, smooth, smooth-refusal, fill, counts, read, buffer-refusal, curve-size}
+use Rattle.meanings.specs.Calls.{write, write-refusal-text}
 use Rattle.meanings.proofs.Checks.{at-none, or-false, differ-false, given-accepted}
 use Rattle.meanings.proofs.Passes.{passes-at-most-twice}
 use Rattle.meanings.proofs.SmoothSteps.{smooth-accepts}
@@ -164,7 +172,10 @@ fill-place z₀ spacing preset zs hs =
       at-start (differ n (length hs)),
       λ even. (
         at-start (eqb n 0),
-        λ any. (at-start (ltb 512 n), λ few. (at-start (leb (length presets) preset), λ known. (at-start (ltb max-u16 (z₀ + (n - 1) * spacing)), λ within. tt))),
+        λ any. (
+          at-start (ltb 512 n),
+          λ few. (at-start (leb (length presets) preset), λ known. (at-start (ltb max-u16 (z₀ + (n - 1) * spacing)), λ within. tt)),
+        ),
       ),
     )
 
@@ -235,3 +246,14 @@ unfolding write-refusal-text
 refusal-size-small n p out k l m q =
     let a = given-accepted (buffer-refusal out) (length (refusal-text (record { number = n; place = p }))) k q in
     omega (arith, a .1, any-refusal-fits n p l m)
+
+-- so what the call below tells is small
+pub passes-few : (ts vs zs hs rs : List ℕ) (r : Smoothing) (n : ℕ) → told-smoothing r ≡ smooth full ts vs zs hs rs → r ≡ Passes n → n ≤ 2048
+passes-few ts vs zs hs rs r n answer met = passes-small ts vs zs hs rs n (sym answer ∙ ap told-smoothing met)
+
+pub text-size : (s out : List ℕ) (r : Writing) (n : ℕ) → told-writing r ≡ write s out → r ≡ Written n → n ≤ max-output
+text-size s out r n answer met = size-small s out n (sym answer ∙ ap told-writing met)
+
+pub refusal-size : (n p : ℕ) (out : List ℕ) (r : Writing) (k : ℕ) → told-writing r ≡ write-refusal-text n p out → r ≡ Written k
+    → n < 2 ^ 64 → p < 2 ^ 64 → k ≤ 56
+refusal-size n p out r k answer met l m = refusal-size-small n p out k l m (sym answer ∙ ap told-writing met)

@@ -1,63 +1,75 @@
 -- The parts of the curve's text and of a refusal's, stored one behind the other from byte 0 on.
 use Prim.Native.Nat.{ℕ, _+_, _≤_}
-use mathlib.Core.Path.{_≡_, refl}
-use mathlib.Core.List.{List, [], _∷_, _++_, append-assoc}
+use mathlib.Core.Path.{_≡_}
+use mathlib.Core.List.{List, [], _∷_, _++_, append-assoc, append-nil}
 use native.Mathlib.Omega.{arith}
-use lib.ListN.{length, length-append}
+use lib.ListN.{length}
 use Rattle.meanings.specs.Bytes.{line-feed, curve-header, totals-header, refusal-header}
 use Rattle.meanings.specs.Output.{decimal, text-line, refusal-text}
-use Rattle.text.specs.Written.{written}
+use Rattle.text.specs.Written.{joined, Stored}
 use Rattle.text.specs.Table.{table-lines, table-text}
-use Rattle.text.proofs.Writing.{Stored, room-behind, stored-behind}
+use Rattle.text.proofs.Writing.{Left, left-at-first, part-fits, left-behind, all-stored}
 
-regroup : (a b c d : List ℕ) (x : ℕ) → a ++ b ++ x ∷ c ++ d ≡ a ++ (b ++ ((x ∷ c) ++ d))
-regroup a b c d x = simp append-assoc
+regroup : (a b c d : List ℕ) (x : ℕ) → a ++ b ++ x ∷ c ++ d ≡ joined (a ∷ b ∷ (x ∷ c) ∷ d ∷ [])
+regroup a b c d x = simp (append-assoc, append-nil)
 
-pub table-parts : (zs hs rs : List ℕ) (kept passes : ℕ)
-    → table-text zs hs rs kept passes
-    ≡ text-line curve-header []
-    ++ (table-lines zs hs rs (length zs) ++ ((line-feed ∷ text-line totals-header []) ++ text-line (decimal kept) (decimal passes ∷ [])))
+-- the line of two totals
+abbrev totals : ℕ → ℕ → List ℕ
+totals kept passes = text-line (decimal kept) (decimal passes ∷ [])
+
+-- the parts of the curve's text
+abbrev parts : List ℕ → List ℕ → List ℕ → ℕ → ℕ → List (List ℕ)
+parts zs hs rs kept passes =
+    text-line curve-header [] ∷ table-lines zs hs rs (length zs) ∷ (line-feed ∷ text-line totals-header []) ∷ totals kept passes ∷ []
+
+table-parts : (zs hs rs : List ℕ) (kept passes : ℕ) → table-text zs hs rs kept passes ≡ joined (parts zs hs rs kept passes)
 unfolding table-text
 table-parts zs hs rs kept passes =
-    regroup (text-line curve-header []) (table-lines zs hs rs (length zs)) (text-line totals-header []) (text-line (decimal kept) (decimal passes ∷ [])) line-feed
+    regroup (text-line curve-header []) (table-lines zs hs rs (length zs)) (text-line totals-header []) (totals kept passes) line-feed
 
--- two texts from byte 0 on
-module _ (out a b now : List ℕ) (q : ℕ) (fits : length (a ++ b) ≤ length out) (first : Stored out 0 a now q) where
-  pub second-fits : q + length b ≤ length now
-  second-fits = room-behind out 0 now q a b (omega arith) first
+-- stored one behind the other
+module _ (zs hs rs : List ℕ) (kept passes : ℕ) (out : List ℕ) (fits : length (table-text zs hs rs kept passes) ≤ length out) where
+  begun : Left out 0 (table-text zs hs rs kept passes) out 0 (parts zs hs rs kept passes)
+  begun = left-at-first (table-parts zs hs rs kept passes) (omega arith)
 
-  pub both-stored : (next : List ℕ) (r : ℕ) → Stored now q b next r → Stored out 0 (a ++ b) next r
-  both-stored next r s = stored-behind out 0 now q next r a b (omega arith) first s
+  pub names-fit : 36 ≤ length out
+  names-fit = part-fits begun
 
--- a text that is stored from byte 0 on ends at its length
-pub stored-ends : (out t now : List ℕ) (r : ℕ) → Stored out 0 t now r → r ≡ length t
-stored-ends out t now r s = let e = s .1 in omega arith
+  module _ (out₁ : List ℕ) (q₁ : ℕ) (names : Stored out 0 (text-line curve-header []) out₁ q₁) where
+    pub lines-fit : q₁ + length (table-lines zs hs rs (length zs)) ≤ length out₁
+    lines-fit = part-fits (left-behind begun names)
 
-pub front-fits : (a b : List ℕ) (n : ℕ) → length (a ++ b) ≤ n → length a ≤ n
-front-fits a b n l = let e = length-append a b in omega arith
+    module _ (out₂ : List ℕ) (q₂ : ℕ) (lines : Stored out₁ q₁ (table-lines zs hs rs (length zs)) out₂ q₂) where
+      pub totals-names-fit : q₂ + 13 ≤ length out₂
+      totals-names-fit = part-fits (left-behind (left-behind begun names) lines)
+
+      module _ (out₃ : List ℕ) (q₃ : ℕ) (totals-names : Stored out₂ q₂ (line-feed ∷ text-line totals-header []) out₃ q₃) where
+        before-totals : Left out 0 (table-text zs hs rs kept passes) out₃ q₃ (totals kept passes ∷ [])
+        before-totals = left-behind (left-behind (left-behind begun names) lines) totals-names
+
+        pub totals-fit : q₃ + length (totals kept passes) ≤ length out₃
+        totals-fit = part-fits before-totals
+
+        pub table-stored : (out₄ : List ℕ) (r : ℕ) → Stored out₃ q₃ (totals kept passes) out₄ r
+            → Stored out 0 (table-text zs hs rs kept passes) out₄ r
+        table-stored out₄ r last = all-stored (left-behind before-totals last)
 
 -- the names line of a refusal, and right behind it the line of its two numbers
+refusal-parts : (n p : ℕ) → refusal-text (record { number = n; place = p }) ≡ joined (text-line refusal-header [] ∷ totals n p ∷ [])
+unfolding refusal-text
+refusal-parts n p = simp append-nil
+
 module _ (n p : ℕ) (out : List ℕ) (fits : length (refusal-text (record { number = n; place = p })) ≤ length out) where
-  both-fit : length (text-line refusal-header [] ++ text-line (decimal n) (decimal p ∷ [])) ≤ length out
-  unfolding refusal-text
-  both-fit = fits
+  refusal-begun : Left out 0 (refusal-text (record { number = n; place = p })) out 0 (text-line refusal-header [] ∷ totals n p ∷ [])
+  refusal-begun = left-at-first (refusal-parts n p) (omega arith)
 
   pub refusal-names-fit : 14 ≤ length out
-  refusal-names-fit = omega (arith, both-fit, length-append (text-line refusal-header []) (text-line (decimal n) (decimal p ∷ [])))
+  refusal-names-fit = part-fits refusal-begun
 
-  module _ (now : List ℕ) (q : ℕ) where
-    pub refusal-pair-fits : Stored out 0 (text-line refusal-header []) now q → q + length (text-line (decimal n) (decimal p ∷ [])) ≤ length now
-    refusal-pair-fits first = second-fits out (text-line refusal-header []) (text-line (decimal n) (decimal p ∷ [])) now q both-fit first
+  module _ (now : List ℕ) (q : ℕ) (names : Stored out 0 (text-line refusal-header []) now q) where
+    pub refusal-pair-fits : q + length (totals n p) ≤ length now
+    refusal-pair-fits = part-fits (left-behind refusal-begun names)
 
-    module _ (next : List ℕ) (second : next ≡ written now q (text-line (decimal n) (decimal p ∷ []))) (r : ℕ)
-        (end : r ≡ q + length (text-line (decimal n) (decimal p ∷ []))) (first : Stored out 0 (text-line refusal-header []) now q) where
-      both : Stored out 0 (text-line refusal-header [] ++ text-line (decimal n) (decimal p ∷ [])) next r
-      both = both-stored out (text-line refusal-header []) (text-line (decimal n) (decimal p ∷ [])) now q both-fit first next r (second, end)
-
-      pub refusal-stored : next ≡ written out 0 (refusal-text (record { number = n; place = p }))
-      unfolding refusal-text
-      refusal-stored = both .0
-
-      pub refusal-ends : r ≡ length (refusal-text (record { number = n; place = p }))
-      unfolding refusal-text
-      refusal-ends = stored-ends out _ next r both
+    pub refusal-stored : (next : List ℕ) (r : ℕ) → Stored now q (totals n p) next r
+        → Stored out 0 (refusal-text (record { number = n; place = p })) next r
+    refusal-stored next r pair = all-stored (left-behind (left-behind refusal-begun names) pair)

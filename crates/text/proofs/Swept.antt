@@ -1,36 +1,63 @@
 -- The lists of an accepted sheet are swept, never refused; the rows and the passes that the sweep gives make the curve's text, and it fits.
-use Prim.Native.Nat.{ℕ, _*_, _≤_}
-use mathlib.Core.Path.{_≡_, _∙_}
+use Prim.Native.Nat.{ℕ, _*_, _^_, _≤_, _<_}
+use mathlib.Core.Path.{_≡_, sym, ap, _∙_}
 use mathlib.Core.List.{List}
 use native.Mathlib.Omega.{arith}
-use lib.ListN.{length}
+use lib.ListN.{length, take}
+use lib.Seq.{length-take-le}
+use Rattle.meanings.specs.declared.Refusal.{Refusal}
+use Rattle.meanings.specs.declared.Smoothing.{Smoothing}
+use Rattle.meanings.specs.declared.Smoothing.the-variants.{Passes, Unswept}
 use Rattle.meanings.specs.Limits.{full, max-output}
 use Rattle.meanings.specs.Moves.{moves}
-use Rattle.meanings.specs.Reports.{Answer, Fault, given, refused}
+use Rattle.meanings.specs.Reports.{given}
 use Rattle.meanings.specs.Running.{fresh, passes}
-use Rattle.meanings.specs.Calls.{smooth, smooth-rows}
+use Rattle.meanings.specs.Calls.{told-smoothing, smooth, smooth-rows}
 use Rattle.output_laws.proofs.AcceptedSheet.{AcceptedContents, accepted-contents}
 use Rattle.output_laws.proofs.OutputFits.{curve-text-fits}
 use Rattle.output_laws.proofs.Swept.{accepted-sheet-has-passes, accepted-sheet-has-rows}
+use Rattle.text.specs.Written.{Stored}
 use Rattle.text.specs.Table.{table-text, contents-of, curve-of, Accepted}
 use Rattle.text.proofs.Tables.{table-text-is-curve}
 
 module _ (ts vs zs hs : List ℕ) (a : Accepted ts vs zs hs) where
-  pub accepted-lists : AcceptedContents (contents-of ts vs zs hs)
+  accepted-lists : AcceptedContents (contents-of ts vs zs hs)
   accepted-lists = accepted-contents (a .sheet) (contents-of ts vs zs hs) (a .accepted)
 
-  pub curve-fits : length (curve-of ts vs zs hs) ≤ max-output
-  curve-fits = curve-text-fits (contents-of ts vs zs hs) accepted-lists
+  pub even-points : length hs ≡ length zs
+  even-points = sym (accepted-lists .even-points)
 
-  module _ (rs : List ℕ) (five : length rs ≡ 5 * length zs) where
-    swept : smooth full ts vs zs hs rs ≡ given (passes ts vs fresh (moves zs hs))
-    swept = accepted-sheet-has-passes (a .sheet) (contents-of ts vs zs hs) (a .accepted) rs five
+  -- 2,560 numbers are room for five a mark
+  pub five-a-mark : 5 * length zs ≤ 2560
+  five-a-mark = omega (arith, accepted-lists .few-points)
 
-    pub never-unswept : (f : Fault) → ¬ (_≡_ {A = Answer ℕ} (refused f) (smooth full ts vs zs hs rs))
-    never-unswept f e = let g = e ∙ swept in let z : _≡_ {A = ℕ} 0 1 = cc in omega arith
+  pub five-in-range : 5 * length zs < 2 ^ 64
+  five-in-range = omega (arith, accepted-lists .few-points)
 
-    pub swept-text : (rs′ : List ℕ) (n : ℕ) → given n ≡ smooth full ts vs zs hs rs → rs′ ≡ smooth-rows full ts vs zs hs rs
-        → table-text zs hs rs′ (length ts) n ≡ curve-of ts vs zs hs
-    swept-text rs′ n e g =
-        let p : n ≡ passes ts vs fresh (moves zs hs) = let h = e ∙ swept in cc in
-        rw (p, g, accepted-sheet-has-rows (a .sheet) (contents-of ts vs zs hs) (a .accepted) rs five) (table-text-is-curve ts vs zs hs)
+  module _ (rs : List ℕ) (all : length rs ≡ 2560) where
+    pub front-of-rows : length (take (5 * length zs) rs) ≡ 5 * length zs
+    front-of-rows = length-take-le (5 * length zs) rs (omega (arith, five-a-mark))
+
+    pub front-count : 5 * length zs ≡ length (take (5 * length zs) rs)
+    front-count = sym front-of-rows
+
+  -- what the sweep answers
+  module _ (rs : List ℕ) (five : length rs ≡ 5 * length zs) (r : Smoothing) (answer : told-smoothing r ≡ smooth full ts vs zs hs rs) where
+    swept : told-smoothing r ≡ given (passes ts vs fresh (moves zs hs))
+    swept = answer ∙ accepted-sheet-has-passes (a .sheet) (contents-of ts vs zs hs) (a .accepted) rs five
+
+    module _ (n : ℕ) (done : r ≡ Passes n) (rs′ : List ℕ) (rows : rs′ ≡ smooth-rows full ts vs zs hs rs) where
+      text-is-curve : table-text zs hs rs′ (length ts) n ≡ curve-of ts vs zs hs
+      text-is-curve =
+          let p : n ≡ passes ts vs fresh (moves zs hs) = let h = sym (ap told-smoothing done) ∙ swept in cc in
+          rw (p, rows, accepted-sheet-has-rows (a .sheet) (contents-of ts vs zs hs) (a .accepted) rs five) (table-text-is-curve ts vs zs hs)
+
+      pub text-fits : (out : List ℕ) → length out ≡ max-output → length (table-text zs hs rs′ (length ts) n) ≤ length out
+      text-fits out l =
+          rw text-is-curve (omega (arith, curve-text-fits (contents-of ts vs zs hs) accepted-lists))
+
+      pub curve-stored : (out now : List ℕ) (k : ℕ) → Stored out 0 (table-text zs hs rs′ (length ts) n) now k → Stored out 0 (curve-of ts vs zs hs) now k
+      curve-stored out now k s = rw text-is-curve at s
+
+    pub never-unswept : (f : Refusal) → r ≡ Unswept f → (out now : List ℕ) (k : ℕ) → Stored out 0 (curve-of ts vs zs hs) now k
+    never-unswept f e out now k = let g = sym (ap told-smoothing e) ∙ swept in let z : _≡_ {A = ℕ} 0 1 = cc in absurd (omega arith)

@@ -2,6 +2,7 @@
 use Prim.Native.Nat.{ℕ, zero, suc, _+_, _-_, _*_, _≤_, _<_}
 use mathlib.Core.Path.{_≡_, refl, sym, ap, _∙_}
 use mathlib.Core.List.{List, _++_}
+use native.Mathlib.Numerals.{add-one}
 use native.Mathlib.Omega.{arith}
 use lib.ListN.{length, getD, drop, length-append}
 use lib.Seq.{getD-take, getD-drop}
@@ -11,7 +12,9 @@ use Rattle.meanings.specs.Estimate.{estimate, fields, rows}
 use Rattle.meanings.specs.Running.{fresh, passes}
 use Rattle.meanings.specs.Output.{curve-line, curve-lines, curve-text}
 use Rattle.meanings.proofs.SmoothRows.{row-at-point}
+use Rattle.text.specs.Written.{Stored}
 use Rattle.text.specs.Table.{row-at, table-lines, table-text, contents-of, curve-of}
+use Rattle.text.proofs.Writing.{written-empty, written-length, room-behind, stored-behind}
 
 module _ (ts vs zs hs : List ℕ) (n k : ℕ) (inside : k < n) where
   number-at : (i : ℕ) → i < 5 → getD (rows ts vs zs hs n) (5 * k + i) 0 ≡ getD (fields (estimate ts vs (getD zs k 0) (getD hs k 0))) i 0
@@ -40,7 +43,7 @@ unfolding table-text curve-text
 table-text-is-curve ts vs zs hs = rw (table-is-curve ts vs zs hs (length zs) (length zs) (omega arith))
 
 -- the first lines are no longer than all of them
-pub lines-grow : (zs hs rs : List ℕ) (k d : ℕ) → length (table-lines zs hs rs k) ≤ length (table-lines zs hs rs (k + d))
+lines-grow : (zs hs rs : List ℕ) (k d : ℕ) → length (table-lines zs hs rs k) ≤ length (table-lines zs hs rs (k + d))
 lines-grow zs hs rs k zero = let e : k + zero ≡ k = omega arith in rw e (omega arith)
 lines-grow zs hs rs k (suc d) =
     let e : k + suc d ≡ suc (k + d) = omega arith in
@@ -48,9 +51,52 @@ lines-grow zs hs rs k (suc d) =
     let a = length-append (table-lines zs hs rs (k + d)) (curve-line (getD zs (k + d) 0) (getD hs (k + d) 0) (row-at rs (k + d))) in
     rw e (omega arith)
 
--- the room for all lines is enough for one more
-pub line-fits : (zs hs rs : List ℕ) (k n : ℕ) → k < n
-    → length (table-lines zs hs rs k ++ curve-line (getD zs k 0) (getD hs k 0) (row-at rs k)) ≤ length (table-lines zs hs rs n)
-line-fits zs hs rs k n l =
-    let e : suc k + (n - suc k) ≡ n = omega arith in
-    rw e at (lines-grow zs hs rs (suc k) (n - suc k))
+-- the lines of the first k marks are stored, and all fit
+pub record LinesTo (out : List ℕ) (p : ℕ) (zs hs rs now : List ℕ) (q k : ℕ) : Type 0 where
+  pub even : length hs ≡ length zs
+  pub five : length rs ≡ 5 * length zs
+  pub fits : p + length (table-lines zs hs rs (length zs)) ≤ length out
+  pub far : k ≤ length zs
+  pub so-far : Stored out p (table-lines zs hs rs k) now q
+
+pub lines-begin : {out : List ℕ} {p : ℕ} {zs hs rs : List ℕ} → length hs ≡ length zs → length rs ≡ 5 * length zs
+    → p + length (table-lines zs hs rs (length zs)) ≤ length out → LinesTo out p zs hs rs out p 0
+lines-begin {out} {p} even five fits =
+    record {
+      even = even;
+      five = five;
+      fits = fits;
+      far = omega arith;
+      so-far = record { text = sym (written-empty out p); end = omega arith };
+    }
+
+module _ {out : List ℕ} {p : ℕ} {zs hs rs now : List ℕ} {q k : ℕ} (w : LinesTo out p zs hs rs now q k) where
+  -- one more
+  module _ (more : k < length zs) where
+    one-more-fits : p + length (table-lines zs hs rs k ++ curve-line (getD zs k 0) (getD hs k 0) (row-at rs k)) ≤ length out
+    one-more-fits =
+        let e : suc k + (length zs - suc k) ≡ length zs = omega arith in
+        let l = rw e at (lines-grow zs hs rs (suc k) (length zs - suc k)) in
+        omega (arith, l, w .fits)
+
+    module _ (e : Estimate) (row : e ≡ row-at rs k) where
+      pub line-fits : q + length (curve-line (getD zs k 0) (getD hs k 0) e) ≤ length now
+      line-fits = rw row (room-behind out p now q (table-lines zs hs rs k) _ one-more-fits (w .so-far))
+
+      pub lines-go-on : (next : List ℕ) (r : ℕ) → Stored now q (curve-line (getD zs k 0) (getD hs k 0) e) next r → LinesTo out p zs hs rs next r (k + 1)
+      lines-go-on next r s =
+          record {
+            even = w .even;
+            five = w .five;
+            fits = w .fits;
+            far = omega arith;
+            so-far = rw (add-one k) (stored-behind out p now q next r (table-lines zs hs rs k) _ one-more-fits (w .so-far) (rw row at s));
+          }
+
+  -- no more
+  module _ (none : length zs ≤ k) where
+    pub lines-stored : Stored out p (table-lines zs hs rs (length zs)) now q
+    lines-stored = let e : k ≡ length zs = omega (arith, w .far) in rw (← e) (w .so-far)
+
+    pub lines-keep-length : length now ≡ length out
+    lines-keep-length = ap length (lines-stored .text) ∙ written-length out p (table-lines zs hs rs (length zs)) (w .fits)

@@ -12,16 +12,17 @@ use Rattle.meanings.specs.declared.Refusal.{Refusal}
 use Rattle.meanings.specs.declared.Reading.{Reading}
 use Rattle.meanings.specs.declared.Reading.the-variants.{Used, Unread}
 use Rattle.meanings.specs.Limits.{full, max-output}
-use Rattle.meanings.specs.Reports.{Fault, told, given, refused}
+use Rattle.meanings.specs.Reports.{told, given, refused}
 use Rattle.meanings.specs.Sheet.{Contents, Outcome, read-sheet}
-use Rattle.meanings.specs.Output.{curve-text, refusal-text}
-use Rattle.meanings.specs.Calls.{Counts, counts, told-reading, read, read-minutes, read-values, read-evaluation-points, read-bandwidths, write, write-buffer, write-refusal-text, refusal-buffer}
+use Rattle.meanings.specs.Output.{refusal-text}
+use Rattle.meanings.specs.Calls.{Counts, counts, told-reading, read, read-minutes, read-values, read-evaluation-points, read-bandwidths}
+use Rattle.meanings.specs.Calls.{write, write-buffer, write-refusal-text, refusal-buffer}
 use Rattle.meanings.proofs.Checks.{differ-true, differ-same}
 use Rattle.output_laws.proofs.AcceptedSheet.{accepted-contents}
 use Rattle.output_laws.proofs.Refusals.{any-refusal-fits}
 use Rattle.checks.specs.ReaderLists.{uneven-lists}
 use Rattle.sheet.proofs.Scans.{even-read}
-use Rattle.text.specs.Written.{written}
+use Rattle.text.specs.Written.{written, Stored}
 use Rattle.text.specs.Table.{contents-of, curve-of, Accepted}
 
 -- a buffer of another length is refused and stays
@@ -47,13 +48,14 @@ module _ (n p : ℕ) (out : List ℕ) (right : length out ≡ max-output) where
   pub refusal-fits : n < 2 ^ 64 → p < 2 ^ 64 → length (refusal-text (record { number = n; place = p })) ≤ length out
   refusal-fits a b = omega (arith, any-refusal-fits n p a b)
 
-  pub refusal-size : (r : ℕ) → r ≡ length (refusal-text (record { number = n; place = p })) → given r ≡ write-refusal-text n p out
-  unfolding write-refusal-text
-  refusal-size r e = rw (differ-same (length out) max-output right, e)
+  module _ (now : List ℕ) (r : ℕ) (s : Stored out 0 (refusal-text (record { number = n; place = p })) now r) where
+    pub refusal-size : given r ≡ write-refusal-text n p out
+    unfolding write-refusal-text
+    refusal-size = rw (differ-same (length out) max-output right, s .end, zero-add)
 
-  pub refusal-written : (now : List ℕ) → now ≡ written out 0 (refusal-text (record { number = n; place = p })) → now ≡ refusal-buffer n p out
-  unfolding refusal-buffer written
-  refusal-written now w = rw (differ-same (length out) max-output right) (w ∙ rw zero-add)
+    pub refusal-written : now ≡ refusal-buffer n p out
+    unfolding refusal-buffer written
+    refusal-written = rw (differ-same (length out) max-output right) (s .text ∙ rw zero-add)
 
 -- the contents of an accepted sheet with so many readings and marks
 record UsedContents (s : List ℕ) (n m : ℕ) : Type 0 where
@@ -172,12 +174,12 @@ module _ (s ts vs zs hs : List ℕ) (r : Reading) (answer : told-reading r ≡ c
       parts-accepted = record { sheet = s; accepted = parts-read }
 
 -- what is written of them
-module _ (s ts vs zs hs out now : List ℕ) (curve : now ≡ written out 0 (curve-of ts vs zs hs))
+module _ (s ts vs zs hs out now : List ℕ) (size : ℕ) (curve : Stored out 0 (curve-of ts vs zs hs) now size)
     (accepted : read-sheet full s ≡ given (contents-of ts vs zs hs)) (right : length out ≡ max-output) where
   pub curve-written : now ≡ write-buffer s out
   unfolding write-buffer written
-  curve-written = rw (differ-same (length out) max-output right, accepted) (curve ∙ rw zero-add)
+  curve-written = rw (differ-same (length out) max-output right, accepted) (curve .text ∙ rw zero-add)
 
-  pub curve-size : (size : ℕ) → size ≡ length (curve-of ts vs zs hs) → given size ≡ write s out
+  pub curve-size : given size ≡ write s out
   unfolding write
-  curve-size size e = rw (differ-same (length out) max-output right, accepted, e)
+  curve-size = rw (differ-same (length out) max-output right, accepted, curve .end, zero-add)

@@ -1,13 +1,13 @@
 -- Texts that are stored one behind the other: what stands in the list is the texts joined.
 use Prim.Native.Nat.{ℕ, _+_, _≤_, _<_}
-use mathlib.Core.Path.{_≡_, sym, ap, _∙_}
+use mathlib.Core.Path.{_≡_, refl, sym, ap, _∙_}
 use mathlib.Core.List.{List, [], _∷_, _++_, append-assoc}
 use native.Mathlib.Nat.{add-assoc}
 use native.Mathlib.Numerals.{add-one}
 use native.Mathlib.Omega.{arith}
 use lib.ListN.{length, getD, take, drop, set, length-append, length-drop}
-use lib.Seq.{length-take-le, take-suc, take-at, drop-append-add, drop-drop, set-split, paste-zero}
-use Rattle.text.specs.Written.{written}
+use lib.Seq.{length-take-le, take-length, take-suc, take-at, drop-append-add, drop-drop, set-split, paste-zero}
+use Rattle.text.specs.Written.{joined, written, Stored}
 
 pub written-empty : (out : List ℕ) (p : ℕ) → written out p [] ≡ out
 unfolding written
@@ -43,35 +43,80 @@ pub written-byte : (out : List ℕ) (p b : ℕ) → p < length out → set out p
 unfolding written
 written-byte out p b h = set-split out p b h ∙ rw (append-assoc (take p out) (b ∷ []), add-one p)
 
--- a text t that is stored from p on, and ends at q
-abbrev pub Stored : List ℕ → ℕ → List ℕ → List ℕ → ℕ → Type 0
-Stored out p t now q = (now ≡ written out p t) × (q ≡ p + length t)
-
 -- what is left of the room is enough for what is left of the text
 pub room-behind : (out : List ℕ) (p : ℕ) (now : List ℕ) (q : ℕ) (t u : List ℕ) → p + length (t ++ u) ≤ length out → Stored out p t now q
     → q + length u ≤ length now
 room-behind out p now q t u h s =
     let l = length-append t u in
-    let n = ap length (s .0) ∙ written-length out p t (omega arith) in
+    let n = ap length (s .text) ∙ written-length out p t (omega arith) in
     omega arith
 
 pub stored-behind : (out : List ℕ) (p : ℕ) (now : List ℕ) (q : ℕ) (next : List ℕ) (r : ℕ) (t u : List ℕ) → p + length (t ++ u) ≤ length out
     → Stored out p t now q → Stored now q u next r → Stored out p (t ++ u) next r
 stored-behind out p now q next r t u h s m =
     let l = length-append t u in
-    (m .0 ∙ rw (s .0, s .1) (written-behind out p t u (omega arith)), omega arith)
+    record { text = m .text ∙ rw (s .text, s .end) (written-behind out p t u (omega arith)); end = omega (arith, s .end, m .end) }
 
--- a text and what is stored behind it, given that it fits
-pub stored-then : (out : List ℕ) (p : ℕ) (now : List ℕ) (q : ℕ) (next : List ℕ) (r : ℕ) (t u : List ℕ) → p + length (t ++ u) ≤ length out
-    → Stored out p t now q → (q + length u ≤ length now → Stored now q u next r) → Stored out p (t ++ u) next r
-stored-then out p now q next r t u h s m = stored-behind out p now q next r t u h s (m (room-behind out p now q t u h s))
+-- what is left of a text t from p on, when the list is as it is now and q is the next byte: the rest fits, and with it the text is whole
+pub record Left (out : List ℕ) (p : ℕ) (t now : List ℕ) (q : ℕ) (rest : List (List ℕ)) : Type 0 where
+  pub room : q + length (joined rest) ≤ length now
+  pub whole : (next : List ℕ) (r : ℕ) → Stored now q (joined rest) next r → Stored out p t next r
 
--- one byte more of a text
-pub text-goes-on : (out : List ℕ) (p : ℕ) (t : List ℕ) (i : ℕ) → p + length t ≤ length out → i < length t
-    → set (written out p (take i t)) (p + i) (getD t i 0) ≡ written out p (take (i + 1) t)
-text-goes-on out p t i h l =
-    let n = length-take-le i t (omega arith) in
-    let m = written-length out p (take i t) (omega arith) in
-    written-byte (written out p (take i t)) (p + i) (getD t i 0) (omega arith)
-    ∙ rw n at (written-behind out p (take i t) (getD t i 0 ∷ []) (omega arith))
-    ∙ rw (add-one i, take-suc t i 0 l)
+pub left-at-first : {out : List ℕ} {p : ℕ} {t : List ℕ} {rest : List (List ℕ)} → t ≡ joined rest → p + length t ≤ length out
+    → Left out p t out p rest
+left-at-first {rest = rest} e fits = record { room = rw e at fits; whole = λ next r s. rw e s }
+
+-- the next part fits, and when it is stored, the others are left
+module _ {out : List ℕ} {p : ℕ} {t now : List ℕ} {q : ℕ} {a : List ℕ} {rest : List (List ℕ)} (l : Left out p t now q (a ∷ rest)) where
+  pub part-fits : q + length a ≤ length now
+  part-fits = omega (arith, l .room, length-append a (joined rest))
+
+  pub left-behind : {next : List ℕ} {r : ℕ} → Stored now q a next r → Left out p t next r rest
+  left-behind {next} {r} s =
+      record {
+        room = room-behind now q next r a (joined rest) (l .room) s;
+        whole = λ next′ r′ s′. l .whole next′ r′ (stored-behind now q next r next′ r′ a (joined rest) (l .room) s s′);
+      }
+
+-- nothing is left
+pub all-stored : {out : List ℕ} {p : ℕ} {t now : List ℕ} {q : ℕ} → Left out p t now q [] → Stored out p t now q
+all-stored {now = now} {q = q} l = l .whole now q (record { text = sym (written-empty now q); end = omega arith })
+
+-- one byte is stored
+pub byte-stored : (out : List ℕ) (p b : ℕ) → p + 1 ≤ length out → Stored out p (b ∷ []) (set out p b) (p + 1)
+byte-stored out p b fits = record { text = written-byte out p b (omega arith); end = refl }
+
+-- the first i bytes of a text that fits are stored
+pub record TextTo (out : List ℕ) (p : ℕ) (t now : List ℕ) (i : ℕ) : Type 0 where
+  pub fits : p + length t ≤ length out
+  pub far : i ≤ length t
+  pub so-far : now ≡ written out p (take i t)
+
+pub text-begins : {out : List ℕ} {p : ℕ} {t : List ℕ} → p + length t ≤ length out → TextTo out p t out 0
+text-begins {out} {p} fits = record { fits = fits; far = omega arith; so-far = sym (written-empty out p) }
+
+module _ {out : List ℕ} {p : ℕ} {t now : List ℕ} {i : ℕ} (w : TextTo out p t now i) where
+  pub text-keeps-length : length now ≡ length out
+  text-keeps-length =
+      let n = length-take-le i t (w .far) in
+      ap length (w .so-far) ∙ written-length out p (take i t) (omega (arith, w .fits, w .far))
+
+  pub byte-inside : i < length t → p + i < length now
+  byte-inside l = omega (arith, w .fits, text-keeps-length)
+
+  pub text-goes-on : i < length t → TextTo out p t (set now (p + i) (getD t i 0)) (i + 1)
+  text-goes-on l =
+      let n = length-take-le i t (w .far) in
+      let m = written-length out p (take i t) (omega (arith, w .fits)) in
+      let one = written-byte (written out p (take i t)) (p + i) (getD t i 0) (omega (arith, w .fits)) in
+      let more = rw n at (written-behind out p (take i t) (getD t i 0 ∷ []) (omega (arith, w .fits))) in
+      record {
+        fits = w .fits;
+        far = omega arith;
+        so-far = rw (w .so-far) (one ∙ more ∙ rw (add-one i, take-suc t i 0 l));
+      }
+
+  pub text-stored : length t ≤ i → Stored out p t now (p + i)
+  text-stored end =
+      let e : i ≡ length t = omega (arith, w .far) in
+      record { text = w .so-far ∙ rw (e, take-length); end = rw e }

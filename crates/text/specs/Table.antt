@@ -5,11 +5,12 @@ use mathlib.Core.Path.{_≡_}
 use mathlib.Core.List.{List, [], _∷_, _++_}
 use lib.ListN.{length, getD}
 use Rattle.meanings.specs.declared.Estimate.{Estimate}
-use Rattle.meanings.specs.Bytes.{line-feed, curve-header, totals-header}
+use Rattle.meanings.specs.Bytes.{line-feed, comma, curve-header, totals-header}
 use Rattle.meanings.specs.Limits.{full}
 use Rattle.meanings.specs.Reports.{given}
 use Rattle.meanings.specs.Sheet.{Contents, read-sheet}
-use Rattle.meanings.specs.Output.{decimal, text-line, curve-line, curve-text}
+use Rattle.meanings.specs.Output.{decimal, text-line, value-text, curve-line, curve-text}
+use Rattle.text.specs.Written.{joined}
 
 -- the row of mark k
 abbrev pub row-at : List ℕ → ℕ → Estimate
@@ -21,6 +22,13 @@ row-at rs k =
       sum = getD rs (5 * k + 3) 0;
       value = getD rs (5 * k + 4) 0;
     }
+
+-- a mark's line up to the run's edges, and what follows them
+unfoldable pub edges-text : ℕ → ℕ → ℕ → ℕ → List ℕ
+edges-text z h left right = joined (decimal z ∷ (comma ∷ decimal h) ∷ (comma ∷ decimal left) ∷ (comma ∷ decimal right) ∷ [])
+
+unfoldable pub sums-text : ℕ → ℕ → ℕ → List ℕ
+sums-text weight sum value = joined ((comma ∷ decimal weight) ∷ (comma ∷ decimal sum) ∷ (comma ∷ []) ∷ value-text value ∷ [])
 
 -- the lines of the first n marks
 abbrev pub table-lines : List ℕ → List ℕ → List ℕ → ℕ → List ℕ

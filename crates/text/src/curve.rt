@@ -7,7 +7,7 @@ ghost use mathlib.Core.Path.{_≡_};
 ghost use Prim.Native.Nat.{_+_, _*_, _≤_};
 ghost use lib.ListN.{length};
 ghost use Rattle.meanings.specs.Output.{refusal-text};
-ghost use Rattle.text.specs.Written.{written};
+ghost use Rattle.text.specs.Written.{Stored};
 ghost use Rattle.text.specs.Table.{row-at, table-lines, table-text};
 
 // The row of mark k.
@@ -34,8 +34,7 @@ pub(crate) fn put_curve_lines(
     rows: &[u64],
 ) -> usize
     requires { ⌜ (length (now bandwidths) ≡ length (now points)) × (length (now rows) ≡ 5 * length (now points)) × (at + length (table-lines (now points) (now bandwidths) (now rows) (length (now points))) ≤ length (now out)) ⌝ }
-    ensures { λ _. ⌜ now (out .exit) ≡ written (now (out .entry)) at (table-lines (now (points .entry)) (now (bandwidths .entry)) (now (rows .entry)) (length (now (points .entry)))) ⌝ }
-    ensures { λ r. ⌜ r ≡ at + length (table-lines (now (points .entry)) (now (bandwidths .entry)) (now (rows .entry)) (length (now (points .entry)))) ⌝ }
+    ensures { λ r. ⌜ Stored (now (out .entry)) at (table-lines (now (points .entry)) (now (bandwidths .entry)) (now (rows .entry)) (length (now (points .entry)))) (now (out .exit)) r ⌝ }
 {
     let mut to = at;
     let mut k = 0;
@@ -56,8 +55,7 @@ pub(crate) fn put_curve(
     passes: u64,
 ) -> usize
     requires { ⌜ (length (now bandwidths) ≡ length (now points)) × (length (now rows) ≡ 5 * length (now points)) × (length (table-text (now points) (now bandwidths) (now rows) kept passes) ≤ length (now out)) ⌝ }
-    ensures { λ _. ⌜ now (out .exit) ≡ written (now (out .entry)) 0 (table-text (now (points .entry)) (now (bandwidths .entry)) (now (rows .entry)) kept passes) ⌝ }
-    ensures { λ r. ⌜ r ≡ length (table-text (now (points .entry)) (now (bandwidths .entry)) (now (rows .entry)) kept passes) ⌝ }
+    ensures { λ r. ⌜ Stored (now (out .entry)) 0 (table-text (now (points .entry)) (now (bandwidths .entry)) (now (rows .entry)) kept passes) (now (out .exit)) r ⌝ }
 {
     let lines = put_text(out, 0, b"mark,half,left,right,weight,sum,vdk\n");
     let lines_end = put_curve_lines(out, lines, points, bandwidths, rows);
@@ -68,8 +66,7 @@ pub(crate) fn put_curve(
 // A refusal: number and place.
 pub(crate) fn put_refusal(out: &mut [u8], number: u64, place: u64) -> usize
     requires { ⌜ length (refusal-text (record { number = number; place = place })) ≤ length (now out) ⌝ }
-    ensures { λ _. ⌜ now (out .exit) ≡ written (now (out .entry)) 0 (refusal-text (record { number = number; place = place })) ⌝ }
-    ensures { λ r. ⌜ r ≡ length (refusal-text (record { number = number; place = place })) ⌝ }
+    ensures { λ r. ⌜ Stored (now (out .entry)) 0 (refusal-text (record { number = number; place = place })) (now (out .exit)) r ⌝ }
 {
     let line = put_text(out, 0, b"refused,place\n");
     put_pair_line(out, line, number, place)

@@ -15,7 +15,7 @@ ghost use mathlib.Core.Path.{_≡_};
 ghost use Prim.Native.Nat.{_*_};
 ghost use lib.ListN.{length};
 ghost use Rattle.meanings.specs.Calls.{told-writing, write, write-buffer, write-refusal-text, refusal-buffer};
-ghost use Rattle.text.specs.Written.{written};
+ghost use Rattle.text.specs.Written.{Stored};
 ghost use Rattle.text.specs.Table.{Accepted, curve-of};
 
 // Sweeps the lists of an accepted sheet and writes its curve, with a lent list for the rows.
@@ -29,8 +29,7 @@ pub(crate) fn put_swept(
 ) -> usize
     requires { ⌜ (length (now out) ≡ 31291) × (length (now rows) ≡ 5 * length (now points)) ⌝ }
     requires { ⌜ Accepted (now minutes) (now values) (now points) (now bandwidths) ⌝ }
-    ensures { λ _. ⌜ now (out .exit) ≡ written (now (out .entry)) 0 (curve-of (now (minutes .entry)) (now (values .entry)) (now (points .entry)) (now (bandwidths .entry))) ⌝ }
-    ensures { λ r. ⌜ r ≡ length (curve-of (now (minutes .entry)) (now (values .entry)) (now (points .entry)) (now (bandwidths .entry))) ⌝ }
+    ensures { λ r. ⌜ Stored (now (out .entry)) 0 (curve-of (now (minutes .entry)) (now (values .entry)) (now (points .entry)) (now (bandwidths .entry))) (now (out .exit)) r ⌝ }
 {
     match smooth(minutes, values, points, bandwidths, rows) {
         Smoothing::Unswept(_) => 0,
@@ -50,8 +49,7 @@ pub(crate) fn put_accepted(
 ) -> usize
     requires { ⌜ length (now out) ≡ 31291 ⌝ }
     requires { ⌜ Accepted (now minutes) (now values) (now points) (now bandwidths) ⌝ }
-    ensures { λ _. ⌜ now (out .exit) ≡ written (now (out .entry)) 0 (curve-of (now (minutes .entry)) (now (values .entry)) (now (points .entry)) (now (bandwidths .entry))) ⌝ }
-    ensures { λ r. ⌜ r ≡ length (curve-of (now (minutes .entry)) (now (values .entry)) (now (points .entry)) (now (bandwidths .entry))) ⌝ }
+    ensures { λ r. ⌜ Stored (now (out .entry)) 0 (curve-of (now (minutes .entry)) (now (values .entry)) (now (points .entry)) (now (bandwidths .entry))) (now (out .exit)) r ⌝ }
 {
     let mut rows = [0u64; 2560];
     let size = 5 * points.len();

@@ -1,12 +1,12 @@
 // The writer's parts. Each stores one text from byte `at` on and answers where the text ends, so the next one begins there.
 use meanings::Estimate;
-ghost use mathlib.Core.Path.{_≡_};
 ghost use Prim.Native.Nat.{_+_, _≤_};
 ghost use mathlib.Core.List.{[], _∷_};
 ghost use lib.ListN.{length};
 ghost use Rattle.meanings.specs.Bytes.{comma};
 ghost use Rattle.meanings.specs.Output.{decimal, text-line, value-text, curve-line};
-ghost use Rattle.text.specs.Written.{written};
+ghost use Rattle.text.specs.Written.{Stored};
+ghost use Rattle.text.specs.Table.{edges-text, sums-text};
 
 const LINE_FEED: u8 = 10;
 
@@ -18,8 +18,7 @@ const ZERO: u64 = 48;
 
 pub(crate) fn put_text(out: &mut [u8], at: usize, text: &[u8]) -> usize
     requires { ⌜ at + length (now text) ≤ length (now out) ⌝ }
-    ensures { λ _. ⌜ now (out .exit) ≡ written (now (out .entry)) at (now (text .entry)) ⌝ }
-    ensures { λ r. ⌜ r ≡ at + length (now (text .entry)) ⌝ }
+    ensures { λ r. ⌜ Stored (now (out .entry)) at (now (text .entry)) (now (out .exit)) r ⌝ }
 {
     let mut i = 0;
     while i < text.len() {
@@ -31,8 +30,7 @@ pub(crate) fn put_text(out: &mut [u8], at: usize, text: &[u8]) -> usize
 
 pub(crate) fn put_byte(out: &mut [u8], at: usize, b: u8) -> usize
     requires { ⌜ at + length (b ∷ []) ≤ length (now out) ⌝ }
-    ensures { λ _. ⌜ now (out .exit) ≡ written (now (out .entry)) at (b ∷ []) ⌝ }
-    ensures { λ r. ⌜ r ≡ at + length (b ∷ []) ⌝ }
+    ensures { λ r. ⌜ Stored (now (out .entry)) at (b ∷ []) (now (out .exit)) r ⌝ }
 {
     out[at] = b;
     at + 1
@@ -41,8 +39,7 @@ pub(crate) fn put_byte(out: &mut [u8], at: usize, b: u8) -> usize
 // A number in decimal: all digits but the last, then the last.
 pub(crate) fn put_decimal(out: &mut [u8], at: usize, n: u64) -> usize
     requires { ⌜ at + length (decimal n) ≤ length (now out) ⌝ }
-    ensures { λ _. ⌜ now (out .exit) ≡ written (now (out .entry)) at (decimal n) ⌝ }
-    ensures { λ r. ⌜ r ≡ at + length (decimal n) ⌝ }
+    ensures { λ r. ⌜ Stored (now (out .entry)) at (decimal n) (now (out .exit)) r ⌝ }
 {
     if n < 10 {
         return put_byte(out, at, (ZERO + n) as u8);
@@ -54,8 +51,7 @@ pub(crate) fn put_decimal(out: &mut [u8], at: usize, n: u64) -> usize
 // A value, `-` where it is missing.
 pub(crate) fn put_value(out: &mut [u8], at: usize, v: u64) -> usize
     requires { ⌜ at + length (value-text v) ≤ length (now out) ⌝ }
-    ensures { λ _. ⌜ now (out .exit) ≡ written (now (out .entry)) at (value-text v) ⌝ }
-    ensures { λ r. ⌜ r ≡ at + length (value-text v) ⌝ }
+    ensures { λ r. ⌜ Stored (now (out .entry)) at (value-text v) (now (out .exit)) r ⌝ }
 {
     if v == 65536 {
         return put_byte(out, at, DASH);
@@ -66,11 +62,39 @@ pub(crate) fn put_value(out: &mut [u8], at: usize, v: u64) -> usize
 // A comma and the number behind it.
 pub(crate) fn put_after_comma(out: &mut [u8], at: usize, n: u64) -> usize
     requires { ⌜ at + length (comma ∷ decimal n) ≤ length (now out) ⌝ }
-    ensures { λ _. ⌜ now (out .exit) ≡ written (now (out .entry)) at (comma ∷ decimal n) ⌝ }
-    ensures { λ r. ⌜ r ≡ at + length (comma ∷ decimal n) ⌝ }
+    ensures { λ r. ⌜ Stored (now (out .entry)) at (comma ∷ decimal n) (now (out .exit)) r ⌝ }
 {
     let begin = put_byte(out, at, COMMA);
     put_decimal(out, begin, n)
+}
+
+// The front of a mark's line: mark, half width and the run's edges.
+pub(crate) fn put_edges(
+    out: &mut [u8],
+    at: usize,
+    point: u64,
+    bandwidth: u64,
+    left: u64,
+    right: u64,
+) -> usize
+    requires { ⌜ at + length (edges-text point bandwidth left right) ≤ length (now out) ⌝ }
+    ensures { λ r. ⌜ Stored (now (out .entry)) at (edges-text point bandwidth left right) (now (out .exit)) r ⌝ }
+{
+    let point_end = put_decimal(out, at, point);
+    let bandwidth_end = put_after_comma(out, point_end, bandwidth);
+    let left_end = put_after_comma(out, bandwidth_end, left);
+    put_after_comma(out, left_end, right)
+}
+
+// What follows: weight, sum and value.
+pub(crate) fn put_sums(out: &mut [u8], at: usize, weight: u64, sum: u64, value: u64) -> usize
+    requires { ⌜ at + length (sums-text weight sum value) ≤ length (now out) ⌝ }
+    ensures { λ r. ⌜ Stored (now (out .entry)) at (sums-text weight sum value) (now (out .exit)) r ⌝ }
+{
+    let weight_end = put_after_comma(out, at, weight);
+    let sum_end = put_after_comma(out, weight_end, sum);
+    let value_begin = put_byte(out, sum_end, COMMA);
+    put_value(out, value_begin, value)
 }
 
 // A mark's line: mark, half width and the row.
@@ -82,25 +106,17 @@ pub(crate) fn put_curve_line(
     row: Estimate,
 ) -> usize
     requires { ⌜ at + length (curve-line point bandwidth row) ≤ length (now out) ⌝ }
-    ensures { λ _. ⌜ now (out .exit) ≡ written (now (out .entry)) at (curve-line point bandwidth row) ⌝ }
-    ensures { λ r. ⌜ r ≡ at + length (curve-line point bandwidth row) ⌝ }
+    ensures { λ r. ⌜ Stored (now (out .entry)) at (curve-line point bandwidth row) (now (out .exit)) r ⌝ }
 {
-    let point_end = put_decimal(out, at, point as u64);
-    let bandwidth_end = put_after_comma(out, point_end, bandwidth as u64);
-    let left_end = put_after_comma(out, bandwidth_end, row.left);
-    let right_end = put_after_comma(out, left_end, row.right);
-    let weight_end = put_after_comma(out, right_end, row.weight);
-    let sum_end = put_after_comma(out, weight_end, row.sum);
-    let value_begin = put_byte(out, sum_end, COMMA);
-    let value_end = put_value(out, value_begin, row.value);
-    put_byte(out, value_end, LINE_FEED)
+    let edges_end = put_edges(out, at, point as u64, bandwidth as u64, row.left, row.right);
+    let sums_end = put_sums(out, edges_end, row.weight, row.sum, row.value);
+    put_byte(out, sums_end, LINE_FEED)
 }
 
 // A line of two numbers.
 pub(crate) fn put_pair_line(out: &mut [u8], at: usize, a: u64, b: u64) -> usize
     requires { ⌜ at + length (text-line (decimal a) (decimal b ∷ [])) ≤ length (now out) ⌝ }
-    ensures { λ _. ⌜ now (out .exit) ≡ written (now (out .entry)) at (text-line (decimal a) (decimal b ∷ [])) ⌝ }
-    ensures { λ r. ⌜ r ≡ at + length (text-line (decimal a) (decimal b ∷ [])) ⌝ }
+    ensures { λ r. ⌜ Stored (now (out .entry)) at (text-line (decimal a) (decimal b ∷ [])) (now (out .exit)) r ⌝ }
 {
     let first_end = put_decimal(out, at, a);
     let second_end = put_after_comma(out, first_end, b);

@@ -1,10 +1,8 @@
 -- The three numbers are looked for one after another. Where one is missing, or the text ends too early or goes on after the third, the line is
 -- no reading line; else they are its values, and their ranges decide.
-use Prim.Native.Nat.{_+_}
-use mathlib.Core.Path.{sym, _∙_}
-use native.Mathlib.Omega.{arith}
+use Rattle.line_values.proofs.Values.{comma-fits, sample-first-lacks, sample-of-one, sample-second-lacks, sample-of-two, sample-third-lacks}
+use Rattle.line_values.proofs.Values.{sample-of-more, sample-of-three}
 use borrow.Author.Needs.{needs}
-use Rattle.line_values.proofs.Values.{Holds, number-holds, no-number-lacks, sample-first-lacks, sample-of-one, sample-second-lacks, sample-of-two, sample-third-lacks, sample-of-three, sample-of-more}
 use Rattle.line_values.proofs.sample_line.Statement.{statement}
 use Rattle.line_values.proofs.sample_line.Tie as tie
 
@@ -17,18 +15,14 @@ enum-known-t c = search needs
 enum-told : tie.Need-enum-told
 enum-told c = search needs
 
--- the first number
-first : (c : tie.After-t) → Holds (c .before .before .before .before .args .text .now) 0 (c .t .given .0 .0) (c .t .given .0 .1 .0)
-first c = number-holds (c .before .before .number-at .ensures) (c .t .given .1)
-
 returns : tie.Need-returns
-returns c = sym (sample-first-lacks (no-number-lacks (c .before .before .number-at .ensures) (c .enum-told .given .1)))
+returns c = search sample-first-lacks
 
 returns-2 : tie.Need-returns-2
-returns-2 c = sym (sample-of-one (first (c .before .before)) (c .if1 .taken))
+returns-2 c = search sample-of-one
 
 add-number-at : tie.Need-add-number-at
-add-number-at c = let inside = first (c .before .before) .end-inside in omega arith
+add-number-at c = search comma-fits
 
 number-at-requires-2 : tie.Need-number-at-requires-2
 number-at-requires-2 c κs = search needs
@@ -39,23 +33,14 @@ enum-known-j c = search needs
 enum-told-2 : tie.Need-enum-told-2
 enum-told-2 c = search needs
 
--- the second number
-second : (c : tie.After-j) → Holds (c .before .before .before .before .before .before .before .before .before .args .text .now) (c .before .before .before .before .before .t .given .0 .1 .0 + 1) (c .j .given .0 .0) (c .j .given .0 .1 .0)
-second c = number-holds (c .before .before .number-at2 .ensures) (c .j .given .1)
-
 returns-3 : tie.Need-returns-3
-returns-3 c =
-    sym
-    (sample-second-lacks (first (c .before .before .before .before .before)) (c .before .before .before .if1 .left)
-    (no-number-lacks (c .before .before .number-at2 .ensures) (c .enum-told2 .given .1)))
+returns-3 c = search sample-second-lacks
 
 returns-4 : tie.Need-returns-4
-returns-4 c =
-    let j = c .before .before in
-    sym (sample-of-two (first (j .before .before .before .before .before)) (j .before .before .before .if1 .left) (second j) (c .if2 .taken))
+returns-4 c = search sample-of-two
 
 add-number-at-2 : tie.Need-add-number-at-2
-add-number-at-2 c = let inside = second (c .before .before) .end-inside in omega arith
+add-number-at-2 c = search comma-fits
 
 number-at-requires-3 : tie.Need-number-at-requires-3
 number-at-requires-3 c κs = search needs
@@ -66,36 +51,17 @@ enum-known-v c = search needs
 enum-told-3 : tie.Need-enum-told-3
 enum-told-3 c = search needs
 
--- the third number
-third : (c : tie.After-v) → Holds (c .before .before .before .before .before .before .before .before .before .before .before .before .before .before .args .text .now) (c .before .before .before .before .before .j .given .0 .1 .0 + 1) (c .v .given .0 .0) (c .v .given .0 .1 .0)
-third c = number-holds (c .before .before .number-at3 .ensures) (c .v .given .1)
-
 returns-5 : tie.Need-returns-5
-returns-5 c =
-    let j = c .before .before .before .before .before in
-    sym
-    (sample-third-lacks (first (j .before .before .before .before .before)) (j .before .before .before .if1 .left) (second j) (c .before .before .before .if2 .left)
-    (no-number-lacks (c .before .before .number-at3 .ensures) (c .enum-told3 .given .1)))
+returns-5 c = search sample-third-lacks
 
 returns-6 : tie.Need-returns-6
-returns-6 c =
-    let v = c .before .before in
-    let j = v .before .before .before .before .before in
-    sym
-    (sample-of-more (first (j .before .before .before .before .before)) (j .before .before .before .if1 .left) (second j) (v .before .before .before .if2 .left) (third v)
-    (c .if3 .taken))
+returns-6 c = search sample-of-more
 
 ranged-sample-requires : tie.Need-ranged-sample-requires
 ranged-sample-requires c κs = search needs
 
 returns-7 : tie.Need-returns-7
-returns-7 c =
-    let v = c .before .before .before in
-    let j = v .before .before .before .before .before in
-    c .ranged-sample .ensures
-    ∙ sym
-    (sample-of-three (first (j .before .before .before .before .before)) (j .before .before .before .if1 .left) (second j) (v .before .before .before .if2 .left) (third v)
-    (c .before .if3 .left))
+returns-7 c = search sample-of-three
 
 pub sample-line-spec : {M : Type 1} → statement M
 sample-line-spec =

@@ -1,11 +1,9 @@
 -- The one test decides.
+-- It is the definition's, and holds exactly where report 9 does.
 use mathlib.Core.Path.{sym, _∙_}
 use borrow.Author.Needs.{needs}
 use Rattle.point_checks.proofs.bandwidth_fault.Statement.{statement}
 use Rattle.point_checks.proofs.bandwidth_fault.Tie as tie
-
-out-of-range-requires : tie.Need-out-of-range-requires
-out-of-range-requires c κs = search needs
 
 returns : tie.Need-returns
 returns c = rw (sym (c .before .out-of-range .ensures) ∙ c .if1 .taken)
@@ -14,4 +12,4 @@ returns-2 : tie.Need-returns-2
 returns-2 c = rw (sym (c .before .out-of-range .ensures) ∙ c .if1 .left)
 
 pub bandwidth-fault-spec : {M : Type 1} → statement M
-bandwidth-fault-spec = tie.close (tie.spec out-of-range-requires returns returns-2)
+bandwidth-fault-spec = tie.close (tie.spec (λ c κs. search needs) returns returns-2)

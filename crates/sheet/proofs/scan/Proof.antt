@@ -1,12 +1,12 @@
 -- The sheet's parts in order: each stage's contract says what is left of the meaning after it.
-use mathlib.Core.Path.{_∙_}
-use Rattle.sheet.proofs.Scans.{too-long, no-point-header, after-point-header}
+-- A stage that refuses gives the sheet's refusal, and after the last stage nothing is left.
+use Rattle.sheet.proofs.Scans.{too-long, points-end-within, no-point-header, points-refused, samples-refused, sheet-used}
 use borrow.Author.Needs.{needs}
 use Rattle.sheet.proofs.scan.Statement.{statement}
 use Rattle.sheet.proofs.scan.Tie as tie
 
 returns : tie.Need-returns
-returns c = (too-long (c .before .before .before .before .before .before .args .sheet .now) (c .if1 .taken), tt)
+returns c = search too-long
 
 slice-aggregate-skip-header : tie.Need-slice-aggregate-skip-header
 slice-aggregate-skip-header c = search needs
@@ -21,7 +21,7 @@ enum-told : tie.Need-enum-told
 enum-told c = search needs
 
 returns-2 : tie.Need-returns-2
-returns-2 c = (no-point-header (c .before .before .before .before .before .before .before .before .before .before .args .sheet .now) (c .before .before .before .before .if1 .left) _ (c .before .before .skip-header .ensures) (c .enum-told .given .1), tt)
+returns-2 c = search no-point-header
 
 read-points-requires : tie.Need-read-points-requires
 read-points-requires c κs = search needs
@@ -33,7 +33,7 @@ enum-known-count : tie.Need-enum-known-count
 enum-known-count c = search needs
 
 read-from-header-requires : tie.Need-read-from-header-requires
-read-from-header-requires c κs = (c .before .before .before .before .before .before .before .before .before .before .before .before .before .before .before .before .before .before .before .before .before .before .before .pre .0, c .before .before .before .before .before .before .before .before .before .before .before .before .before .before .before .before .before .before .before .before .before .before .before .pre .1, (rw (c .before .before .before .count .given .1) at (c .before .before .before .before .before .before .before .before .before .read-points .ensures .1)) .1)
+read-from-header-requires c κs = search points-end-within
 
 enum-known-refusal-2 : tie.Need-enum-known-refusal-2
 enum-known-refusal-2 c = search needs
@@ -48,12 +48,7 @@ same-length-2 : tie.Need-same-length-2
 same-length-2 c = search needs
 
 returns-3 : tie.Need-returns-3
-returns-3 c = (
-  after-point-header (c .before .before .before .before .before .before .before .before .before .before .before .before .before .before .before .before .before .before .before .before .before .args .sheet .now) (c .before .before .before .before .before .before .before .before .before .before .before .before .before .before .before .if1 .left) _ (c .before .before .before .before .before .before .before .before .before .before .before .before .before .skip-header .ensures) _ (c .before .before .before .before .before .before .before .before .before .before .before .first .given .1)
-      ∙ c .before .before .before .before .before .before .before .read-points .ensures .0
-      ∙ rw (c .before .refusal .given .1),
-  tt,
-)
+returns-3 c = search points-refused
 
 same-length-3 : tie.Need-same-length-3
 same-length-3 c = search needs
@@ -68,12 +63,7 @@ same-length-6 : tie.Need-same-length-6
 same-length-6 c = search needs
 
 returns-4 : tie.Need-returns-4
-returns-4 c = (
-  after-point-header (c .before .before .before .before .before .before .before .before .before .before .before .before .before .before .before .before .before .before .before .before .before .before .before .before .before .before .before .before .before .before .before .args .sheet .now) (c .before .before .before .before .before .before .before .before .before .before .before .before .before .before .before .before .before .before .before .before .before .before .before .before .before .if1 .left) _ (c .before .before .before .before .before .before .before .before .before .before .before .before .before .before .before .before .before .before .before .before .before .before .before .skip-header .ensures) _ (c .before .before .before .before .before .before .before .before .before .before .before .before .before .before .before .before .before .before .before .before .before .first .given .1)
-      ∙ c .before .before .before .before .before .before .before .before .before .before .before .before .before .before .before .before .before .read-points .ensures .0
-      ∙ rw (c .before .before .before .before .before .before .before .before .before .before .before .count .given .1) (c .before .before .before .before .before .before .before .read-from-header .ensures .0 _ _ ∙ rw (c .before .refusal2 .given .1)),
-  tt,
-)
+returns-4 c = search samples-refused
 
 same-length-7 : tie.Need-same-length-7
 same-length-7 c = search needs
@@ -88,12 +78,7 @@ same-length-10 : tie.Need-same-length-10
 same-length-10 c = search needs
 
 returns-5 : tie.Need-returns-5
-returns-5 c = (
-  after-point-header (c .before .before .before .before .before .before .before .before .before .before .before .before .before .before .before .before .before .before .before .before .before .before .before .before .before .before .before .before .before .before .before .args .sheet .now) (c .before .before .before .before .before .before .before .before .before .before .before .before .before .before .before .before .before .before .before .before .before .before .before .before .before .if1 .left) _ (c .before .before .before .before .before .before .before .before .before .before .before .before .before .before .before .before .before .before .before .before .before .before .before .skip-header .ensures) _ (c .before .before .before .before .before .before .before .before .before .before .before .before .before .before .before .before .before .before .before .before .before .first .given .1)
-      ∙ c .before .before .before .before .before .before .before .before .before .before .before .before .before .before .before .before .before .read-points .ensures .0
-      ∙ rw (c .before .before .before .before .before .before .before .before .before .before .before .count .given .1) (c .before .before .before .before .before .before .before .read-from-header .ensures .0 _ _ ∙ rw (c .before .kept .given .1)),
-  (rw (c .before .kept .given .1) at (c .before .before .before .before .before .before .before .read-from-header .ensures .1), (rw (c .before .before .before .before .before .before .before .before .before .before .before .count .given .1) at (c .before .before .before .before .before .before .before .before .before .before .before .before .before .before .before .before .before .read-points .ensures .1)) .0),
-)
+returns-5 c = search sheet-used
 
 pub scan-spec : {M : Type 1} → statement M
 scan-spec =

@@ -1,10 +1,7 @@
--- The line found is compared with the names; where there is no line, or another text, the meaning refuses.
-use Prim.Native.Nat.{_-_}
-use mathlib.Core.Path.{sym, ap, _∙_}
-use native.Mathlib.Omega.{arith}
-use Rattle.lines.specs.Lines.{told-line}
-use Rattle.lines.proofs.LineEnds.{LineFound, line-found}
-use Rattle.sheet.proofs.LineSteps.{header-without-line, header-at-line}
+-- The line found is compared with the names: where they agree the meaning goes on at the next line.
+-- Where there is no line, or another text, the meaning refuses, and so does the answer.
+use Rattle.lines.proofs.LineEnds.{text-begins, text-within}
+use Rattle.sheet.proofs.LineSteps.{header-missing, header-passed, header-differs}
 use borrow.Author.Needs.{needs}
 use Rattle.sheet.proofs.skip_header.Statement.{statement}
 use Rattle.sheet.proofs.skip_header.Tie as tie
@@ -19,38 +16,25 @@ enum-told : tie.Need-enum-told
 enum-told c = search needs
 
 returns : tie.Need-returns
-returns c =
-    let a = c .before .before .before .before .before .args in
-    λ next. header-without-line (a .names .now) (a .sheet .now) (a .from) next (sym (c .before .before .find-line .ensures) ∙ ap told-line (c .enum-told .given .1))
-
--- the line that has been found
-found : (c : tie.After-end)
-    → LineFound (c .before .before .before .before .before .args .sheet .now) (c .before .before .before .before .before .args .from) (c .end .given .0 .0) (c .end .given .0 .1 .0)
-found c =
-    let a = c .before .before .before .before .before .args in
-    line-found (a .sheet .now) (a .from) (c .end .given .0 .0) (c .end .given .0 .1 .0) (sym (c .before .before .find-line .ensures) ∙ ap told-line (c .end .given .1))
+returns c = search header-missing
 
 sub-same-text : tie.Need-sub-same-text
-sub-same-text c = found (c .before) .begins
+sub-same-text c = search text-begins
 
 part-same-text-start : tie.Need-part-same-text-start
-part-same-text-start c = let f = found (c .before) in omega (arith, f .begins, f .follows, f .within)
+part-same-text-start c = search text-begins
 
 part-same-text-end : tie.Need-part-same-text-end
-part-same-text-end c = let f = found (c .before) in omega (arith, f .begins, f .follows, f .within)
+part-same-text-end c = search text-within
 
 same-text-requires : tie.Need-same-text-requires
 same-text-requires c κs = search needs
 
 returns-2 : tie.Need-returns-2
-returns-2 c =
-    let a = c .before .before .before .before .before .before .before .before .before .args in
-    λ next. header-at-line (a .names .now) (a .sheet .now) (a .from) _ _ next (found (c .before .before .before .before)) ∙ rw (← c .before .same-text .ensures, c .if1 .taken)
+returns-2 c = search header-passed
 
 returns-3 : tie.Need-returns-3
-returns-3 c =
-    let a = c .before .before .before .before .before .before .before .before .before .args in
-    λ next. header-at-line (a .names .now) (a .sheet .now) (a .from) _ _ next (found (c .before .before .before .before)) ∙ rw (← c .before .same-text .ensures, c .if1 .left)
+returns-3 c = search header-differs
 
 pub skip-header-spec : {M : Type 1} → statement M
 skip-header-spec =

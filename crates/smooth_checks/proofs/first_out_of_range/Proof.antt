@@ -1,51 +1,29 @@
--- The lowest half width out of range: at each turn none below i is, so the first that is found is the lowest, and at the end there is none.
+-- The lowest half width out of range: at each turn none below i is.
+-- So the first that is found is the lowest, and at the end there is none.
 use Prim.Native.Nat.{_-_}
-use mathlib.Core.Path.{sym, _∙_}
-use native.Mathlib.Omega.{arith}
 use borrow.Author.Needs.{needs}
-use lib.ListN.{length, getD}
-use Rattle.meanings.specs.Reports.{bad-bandwidth}
-use Rattle.meanings.proofs.Search.{NoneBelow, one-more-below, lowest-at, none-lowest}
+use lib.ListN.{length}
+use Rattle.smooth_checks.proofs.Refusals.{NoneBadBelow, none-bad-yet, bad-found, none-bad-goes-on, none-bad}
 use Rattle.smooth_checks.proofs.first_out_of_range.Statement.{statement}
 use Rattle.smooth_checks.proofs.first_out_of_range.Tie as tie
 
 abbrev Inv-loop : tie.InvT-loop
-Inv-loop bandwidths i₀ i = NoneBelow (λ k. bad-bandwidth (getD bandwidths k 0)) i
+Inv-loop bandwidths i₀ i = NoneBadBelow bandwidths i
 
 abbrev μ-loop : tie.MeasureT-loop
 μ-loop bandwidths i₀ i = length bandwidths - i
 
 loop-holds : tie.Need-loop-holds Inv-loop μ-loop
-loop-holds c = λ j l. absurd (omega arith)
-
-mul-out-of-range : tie.Need-mul-out-of-range Inv-loop μ-loop
-mul-out-of-range c = search needs
-
-shared-slice-read-out-of-range : tie.Need-shared-slice-read-out-of-range Inv-loop μ-loop
-shared-slice-read-out-of-range c = search needs
-
-out-of-range-requires : tie.Need-out-of-range-requires Inv-loop μ-loop
-out-of-range-requires c κs = search needs
-
-returns : tie.Need-returns Inv-loop μ-loop
-returns c =
-    sym
-    (lowest-at (λ k. bad-bandwidth (getD (c .before .before .before .before .before .before .args .bandwidths .now) k 0)) (length (c .before .before .before .before .before .before .args .bandwidths .now)) (c .before .before .before .before .loop .i) (omega arith)
-    (sym (c .before .out-of-range .ensures) ∙ c .if1 .taken) (c .before .before .before .before .loop .inv))
-
-add-i : tie.Need-add-i Inv-loop μ-loop
-add-i c = search needs
-
-loop-less : tie.Need-loop-less Inv-loop μ-loop
-loop-less c = search needs
+loop-holds c = search none-bad-yet
 
 loop-again : tie.Need-loop-again Inv-loop μ-loop
-loop-again c =
-    one-more-below (λ k. bad-bandwidth (getD (c .before .before .before .before .before .before .args .bandwidths .now) k 0)) (c .before .before .before .before .loop .i) (c .before .before .before .before .loop .inv) (sym (c .before .out-of-range .ensures) ∙ c .if1 .left)
+loop-again c = search none-bad-goes-on
+
+returns : tie.Need-returns Inv-loop μ-loop
+returns c = search bad-found
 
 returns-2 : tie.Need-returns-2 Inv-loop μ-loop
-returns-2 c =
-    sym (none-lowest (λ k. bad-bandwidth (getD (c .before .before .before .args .bandwidths .now) k 0)) (length (c .before .before .before .args .bandwidths .now)) (λ j l. c .before .loop .inv j (omega arith)))
+returns-2 c = search none-bad
 
 pub first-out-of-range-spec : {M : Type 1} → statement M
 first-out-of-range-spec =
@@ -54,11 +32,11 @@ first-out-of-range-spec =
     Inv-loop
     μ-loop
     loop-holds
-    mul-out-of-range
-    shared-slice-read-out-of-range
-    out-of-range-requires
+    (λ c. search needs)
+    (λ c. search needs)
+    (λ c κs. search needs)
     returns
-    add-i
-    loop-less
+    (λ c. search needs)
+    (λ c. search needs)
     loop-again
     returns-2)

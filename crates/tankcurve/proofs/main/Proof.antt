@@ -1,8 +1,5 @@
 -- What has been read is within the buffer.
-use Prim.Native.Nat.{_≤_}
-use mathlib.Core.Path.{sym}
-use lib.ListN.{length}
-use lib.Seq.{length-take-le}
+use Rattle.tankcurve.proofs.Within.{bytes-within, bytes-count}
 use borrow.Author.Needs.{needs}
 use Rattle.tankcurve.proofs.main.Statement.{statement}
 use Rattle.tankcurve.proofs.main.Tie as tie
@@ -16,14 +13,11 @@ read-input-requires c κs = search needs
 enum-known-n : tie.Need-enum-known-n
 enum-known-n c = search needs
 
-within : (c : tie.After-n) → c .n .given .0 .0 ≤ length (c .before .before .before .read-input .last .0)
-within c = rw (c .n .given .1) at (c .before .before .before .read-input .ensures)
-
 array-share-prefix-sheet : tie.Need-array-share-prefix-sheet
-array-share-prefix-sheet c = within (c .before)
+array-share-prefix-sheet c = search bytes-within
 
 slice-aggregate-write-answer : tie.Need-slice-aggregate-write-answer
-slice-aggregate-write-answer c = sym (length-take-le _ _ (within (c .before .before)))
+slice-aggregate-write-answer c = search bytes-count
 
 write-answer-requires : tie.Need-write-answer-requires
 write-answer-requires c κs = search needs

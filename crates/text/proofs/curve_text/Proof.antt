@@ -1,17 +1,14 @@
 -- The buffer is checked first. The reader's own lists have their full lengths, so what it answers is the sheet's; an accepted sheet's used
 -- parts are swept and written, a refused sheet's report is the answer.
-use mathlib.Core.Path.{_≡_}
-use native.Mathlib.Omega.{arith}
-use lib.ListN.{length}
-use Rattle.text.proofs.UsedParts.{other-buffer, other-buffer-stays, minutes-room, minutes-count, values-room, values-count, points-room, points-count, bandwidths-room, bandwidths-count, parts-accepted, parts-read, sheet-refused, refused-sheet-stays, curve-size, curve-written}
+use Rattle.text.proofs.UsedParts.{other-buffer, other-buffer-stays, sheet-refused, refused-sheet-stays, curve-size, curve-written}
+use Rattle.text.proofs.UsedParts.{minutes-room, minutes-count, values-room, values-count, points-room, points-count}
+use Rattle.text.proofs.UsedParts.{bandwidths-room, bandwidths-count, parts-accepted, parts-read}
 use borrow.Author.Needs.{needs}
 use Rattle.text.proofs.curve_text.Statement.{statement}
 use Rattle.text.proofs.curve_text.Tie as tie
 
 returns : tie.Need-returns
-returns c =
-    let another : ¬ (length (c .before .before .before .args .out .now) ≡ 31291) = λ e. omega arith in
-    (search (other-buffer, another), search (other-buffer-stays, another))
+returns c = (search other-buffer, search other-buffer-stays)
 
 slice-aggregate-read-sheet : tie.Need-slice-aggregate-read-sheet
 slice-aggregate-read-sheet c = search needs

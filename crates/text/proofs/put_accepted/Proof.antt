@@ -1,23 +1,20 @@
 -- There are at most 512 marks, so 2,560 numbers are room for five a mark.
-use mathlib.Core.Path.{sym}
-use native.Mathlib.Omega.{arith}
-use lib.Seq.{length-take-le}
-use Rattle.text.proofs.Swept.{accepted-lists}
+use Rattle.text.proofs.Swept.{five-a-mark, five-in-range, front-of-rows, front-count}
 use borrow.Author.Needs.{needs}
 use Rattle.text.proofs.put_accepted.Statement.{statement}
 use Rattle.text.proofs.put_accepted.Tie as tie
 
 mul-size : tie.Need-mul-size
-mul-size c = let f = accepted-lists (c .before .before .before .before .before .args .minutes .now) (c .before .before .before .before .before .args .values .now) (c .before .before .before .before .before .args .points .now) (c .before .before .before .before .before .args .bandwidths .now) (c .before .before .before .before .before .pre .1) .few-points in omega arith
+mul-size c = search five-in-range
 
 array-borrow-prefix-rows : tie.Need-array-borrow-prefix-rows
-array-borrow-prefix-rows c = let f = accepted-lists (c .before .before .before .before .before .before .args .minutes .now) (c .before .before .before .before .before .before .args .values .now) (c .before .before .before .before .before .before .args .points .now) (c .before .before .before .before .before .before .args .bandwidths .now) (c .before .before .before .before .before .before .pre .1) .few-points in omega arith
+array-borrow-prefix-rows c = search five-a-mark
 
 slice-aggregate-put-swept : tie.Need-slice-aggregate-put-swept
-slice-aggregate-put-swept c = let f = accepted-lists (c .before .before .before .before .before .before .before .args .minutes .now) (c .before .before .before .before .before .before .before .args .values .now) (c .before .before .before .before .before .before .before .args .points .now) (c .before .before .before .before .before .before .before .args .bandwidths .now) (c .before .before .before .before .before .before .before .pre .1) .few-points in sym (length-take-le _ _ (omega arith))
+slice-aggregate-put-swept c = search front-count
 
 put-swept-requires : tie.Need-put-swept-requires
-put-swept-requires c κs = let f = accepted-lists (c .before .before .before .before .before .before .before .args .minutes .now) (c .before .before .before .before .before .before .before .args .values .now) (c .before .before .before .before .before .before .before .args .points .now) (c .before .before .before .before .before .before .before .args .bandwidths .now) (c .before .before .before .before .before .before .before .pre .1) .few-points in ((c .before .before .before .before .before .before .before .pre .0, length-take-le _ _ (omega arith)), c .before .before .before .before .before .before .before .pre .1)
+put-swept-requires c κs = ((search needs, search front-of-rows), search needs)
 
 same-length : tie.Need-same-length
 same-length c = search needs

@@ -1,16 +1,11 @@
 -- The buffer is checked first; a number of 64 bits has at most 20 digits, so the text fits.
-use mathlib.Core.Path.{_≡_}
-use native.Mathlib.Omega.{arith}
-use lib.ListN.{length}
 use Rattle.text.proofs.UsedParts.{other-refusal-buffer, other-refusal-buffer-stays, refusal-fits, refusal-size, refusal-written}
 use borrow.Author.Needs.{needs}
 use Rattle.text.proofs.refusal_text.Statement.{statement}
 use Rattle.text.proofs.refusal_text.Tie as tie
 
 returns : tie.Need-returns
-returns c =
-    let another : ¬ (length (c .before .before .args .out .now) ≡ 31291) = λ e. omega arith in
-    (search (other-refusal-buffer, another), search (other-refusal-buffer-stays, another))
+returns c = (search other-refusal-buffer, search other-refusal-buffer-stays)
 
 put-refusal-requires : tie.Need-put-refusal-requires
 put-refusal-requires c κs = search refusal-fits

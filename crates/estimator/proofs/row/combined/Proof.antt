@@ -19,9 +19,6 @@ mul-result c = omega (arith, square-term-fits (c .pre .narrow) (c .pre .small0))
 mul-result-2 : tie.Need-mul-result-2
 mul-result-2 c = omega (arith, square-term-fits (c .pre .narrow) (c .pre .small0))
 
-mul-result-3 : tie.Need-mul-result-3
-mul-result-3 c = search needs
-
 mul-result-4 : tie.Need-mul-result-4
 mul-result-4 c = omega (arith, cross-term-fits (le-of-lt (c .fits .point .fits)) (c .pre .small1))
 
@@ -42,23 +39,17 @@ mul-result-6 c = omega (arith, square-term-fits (le-of-lt (c .fits .point .fits)
 add-result-2 : tie.Need-add-result-2
 add-result-2 c = omega (arith, square-term-fits (le-of-lt (c .fits .point .fits)) (c .pre .small0))
 
-sub-result : tie.Need-sub-result
-sub-result c = search needs
-
-returns : tie.Need-returns
-returns c = search needs
-
 pub combined-spec : {M : Type 1} → statement M
 combined-spec =
     tie.close
     (tie.spec
     mul-result
     mul-result-2
-    mul-result-3
+    (λ c. search needs)
     mul-result-4
     add-result
     mul-result-5
     mul-result-6
     add-result-2
-    sub-result
-    returns)
+    (λ c. search needs)
+    (λ c. search needs))

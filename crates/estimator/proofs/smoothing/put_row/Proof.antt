@@ -1,4 +1,5 @@
 -- Five stores, one after the other, at the five places of the row.
+-- Each keeps the length, so that the next place still lies within the list.
 use native.Mathlib.Numerals.{towards-suc}
 use native.Mathlib.Omega.{arith}
 use borrow.Author.Needs.{needs}
@@ -6,75 +7,39 @@ use lib.ListN.{length-set}
 use Rattle.estimator.proofs.smoothing.put_row.Statement.{statement}
 use Rattle.estimator.proofs.smoothing.put_row.Tie as tie
 
-mul-at : tie.Need-mul-at
-mul-at c = search needs
-
-mul-rows : tie.Need-mul-rows
-mul-rows c = search needs
-
-slice-write-rows : tie.Need-slice-write-rows
-slice-write-rows c = search needs
-
-add-rows : tie.Need-add-rows
-add-rows c = search needs
-
-mul-rows-2 : tie.Need-mul-rows-2
-mul-rows-2 c = search needs
+returns : tie.Need-returns
+returns c = simp towards-suc
 
 slice-write-rows-2 : tie.Need-slice-write-rows-2
 slice-write-rows-2 c = simp length-set (omega arith)
 
-add-rows-2 : tie.Need-add-rows-2
-add-rows-2 c = search needs
-
-mul-rows-3 : tie.Need-mul-rows-3
-mul-rows-3 c = search needs
-
 slice-write-rows-3 : tie.Need-slice-write-rows-3
 slice-write-rows-3 c = simp length-set (omega arith)
-
-add-rows-3 : tie.Need-add-rows-3
-add-rows-3 c = search needs
-
-mul-rows-4 : tie.Need-mul-rows-4
-mul-rows-4 c = search needs
 
 slice-write-rows-4 : tie.Need-slice-write-rows-4
 slice-write-rows-4 c = simp length-set (omega arith)
 
-add-rows-4 : tie.Need-add-rows-4
-add-rows-4 c = search needs
-
-mul-rows-5 : tie.Need-mul-rows-5
-mul-rows-5 c = search needs
-
 slice-write-rows-5 : tie.Need-slice-write-rows-5
 slice-write-rows-5 c = simp length-set (omega arith)
-
-same-length : tie.Need-same-length
-same-length c = search needs
-
-returns : tie.Need-returns
-returns c = simp towards-suc
 
 pub put-row-spec : {M : Type 1} → statement M
 put-row-spec =
     tie.close
     (tie.spec
-    mul-at
-    mul-rows
-    slice-write-rows
-    add-rows
-    mul-rows-2
+    (λ c. search needs)
+    (λ c. search needs)
+    (λ c. search needs)
+    (λ c. search needs)
+    (λ c. search needs)
     slice-write-rows-2
-    add-rows-2
-    mul-rows-3
+    (λ c. search needs)
+    (λ c. search needs)
     slice-write-rows-3
-    add-rows-3
-    mul-rows-4
+    (λ c. search needs)
+    (λ c. search needs)
     slice-write-rows-4
-    add-rows-4
-    mul-rows-5
+    (λ c. search needs)
+    (λ c. search needs)
     slice-write-rows-5
-    same-length
+    (λ c. search needs)
     returns)

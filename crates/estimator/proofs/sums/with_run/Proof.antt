@@ -16,35 +16,13 @@ abbrev μ-loop : tie.MeasureT-loop
 μ-loop minutes values from to sums₀ i₀ sums i = to - i
 
 loop-holds : tie.Need-loop-holds Inv-loop μ-loop
-loop-holds c = run-begins 64 (plus-zero 64) (omega arith) (omega arith)
-
-mul-plus-sample : tie.Need-mul-plus-sample Inv-loop μ-loop
-mul-plus-sample c = search needs
-
-shared-slice-read-plus-sample : tie.Need-shared-slice-read-plus-sample Inv-loop μ-loop
-shared-slice-read-plus-sample c = search needs
-
-mul-plus-sample-2 : tie.Need-mul-plus-sample-2 Inv-loop μ-loop
-mul-plus-sample-2 c = search needs
-
-shared-slice-read-plus-sample-2 : tie.Need-shared-slice-read-plus-sample-2 Inv-loop μ-loop
-shared-slice-read-plus-sample-2 c = search needs
-
-plus-sample-requires : tie.Need-plus-sample-requires Inv-loop μ-loop
-plus-sample-requires c κs = search needs
-
-add-i : tie.Need-add-i Inv-loop μ-loop
-add-i c = search needs
-
-loop-less : tie.Need-loop-less Inv-loop μ-loop
-loop-less c = search needs
+loop-holds c = run-begins 64 (plus-zero 64) (plus-plus 64) (omega arith) (search)
 
 loop-again : tie.Need-loop-again Inv-loop μ-loop
-loop-again c =
-    run-grows (plus-plus 64) (c .before .before .before .before .loop .inv) (omega arith) (c .plus-sample .ensures)
+loop-again c = search run-grows
 
 returns : tie.Need-returns Inv-loop μ-loop
-returns c = run-ends (c .before .loop .inv) (c .loop-test .left)
+returns c = search run-ends
 
 pub with-run-spec : {M : Type 1} → statement M
 with-run-spec =
@@ -53,12 +31,12 @@ with-run-spec =
     Inv-loop
     μ-loop
     loop-holds
-    mul-plus-sample
-    shared-slice-read-plus-sample
-    mul-plus-sample-2
-    shared-slice-read-plus-sample-2
-    plus-sample-requires
-    add-i
-    loop-less
+    (λ c. search needs)
+    (λ c. search needs)
+    (λ c. search needs)
+    (λ c. search needs)
+    (λ c κs. search needs)
+    (λ c. search needs)
+    (λ c. search needs)
     loop-again
     returns)

@@ -16,35 +16,13 @@ abbrev μ-loop : tie.MeasureT-loop
 μ-loop minutes values from to sums₀ i₀ sums i = to - i
 
 loop-holds : tie.Need-loop-holds Inv-loop μ-loop
-loop-holds c = run-begins 64 (minus-zero 64) (omega arith) (omega arith)
-
-mul-minus-sample : tie.Need-mul-minus-sample Inv-loop μ-loop
-mul-minus-sample c = search needs
-
-shared-slice-read-minus-sample : tie.Need-shared-slice-read-minus-sample Inv-loop μ-loop
-shared-slice-read-minus-sample c = search needs
-
-mul-minus-sample-2 : tie.Need-mul-minus-sample-2 Inv-loop μ-loop
-mul-minus-sample-2 c = search needs
-
-shared-slice-read-minus-sample-2 : tie.Need-shared-slice-read-minus-sample-2 Inv-loop μ-loop
-shared-slice-read-minus-sample-2 c = search needs
-
-minus-sample-requires : tie.Need-minus-sample-requires Inv-loop μ-loop
-minus-sample-requires c κs = search needs
-
-add-i : tie.Need-add-i Inv-loop μ-loop
-add-i c = search needs
-
-loop-less : tie.Need-loop-less Inv-loop μ-loop
-loop-less c = search needs
+loop-holds c = run-begins 64 (minus-zero 64) (minus-minus 64) (omega arith) (search)
 
 loop-again : tie.Need-loop-again Inv-loop μ-loop
-loop-again c =
-    run-grows (minus-minus 64) (c .before .before .before .before .loop .inv) (omega arith) (c .minus-sample .ensures)
+loop-again c = search run-grows
 
 returns : tie.Need-returns Inv-loop μ-loop
-returns c = run-ends (c .before .loop .inv) (c .loop-test .left)
+returns c = search run-ends
 
 pub without-run-spec : {M : Type 1} → statement M
 without-run-spec =
@@ -53,12 +31,12 @@ without-run-spec =
     Inv-loop
     μ-loop
     loop-holds
-    mul-minus-sample
-    shared-slice-read-minus-sample
-    mul-minus-sample-2
-    shared-slice-read-minus-sample-2
-    minus-sample-requires
-    add-i
-    loop-less
+    (λ c. search needs)
+    (λ c. search needs)
+    (λ c. search needs)
+    (λ c. search needs)
+    (λ c κs. search needs)
+    (λ c. search needs)
+    (λ c. search needs)
     loop-again
     returns)

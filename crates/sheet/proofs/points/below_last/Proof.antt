@@ -1,13 +1,12 @@
--- The last of the first n marks is at position n - 1; before the first mark nothing decreases.
-use mathlib.Core.Path.{sym}
-use native.Mathlib.Omega.{arith}
-use Rattle.sheet.proofs.Lasts.{decreases-after-front}
+-- The last of the first n marks is at position n - 1, and one more mark decreases exactly if it is below that one.
+-- Before the first mark nothing decreases.
+use Rattle.sheet.proofs.Lasts.{first-never-below, below-at-last}
 use borrow.Author.Needs.{needs}
 use Rattle.sheet.proofs.points.below_last.Statement.{statement}
 use Rattle.sheet.proofs.points.below_last.Tie as tie
 
 returns : tie.Need-returns
-returns c = search needs
+returns c = search first-never-below
 
 sub-result : tie.Need-sub-result
 sub-result c = search needs
@@ -19,9 +18,7 @@ shared-slice-read-result : tie.Need-shared-slice-read-result
 shared-slice-read-result c = search needs
 
 returns-2 : tie.Need-returns-2
-returns-2 c =
-    let a = c .before .before .args in
-    sym (decreases-after-front (a .points .now) (a .count) (a .point) (omega arith) (omega arith))
+returns-2 c = search below-at-last
 
 pub below-last-spec : {M : Type 1} → statement M
 below-last-spec =

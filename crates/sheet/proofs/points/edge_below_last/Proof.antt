@@ -1,13 +1,12 @@
--- The last of the first n marks is at position n - 1; before the first mark no edge decreases.
-use mathlib.Core.Path.{sym, _∙_}
-use native.Mathlib.Omega.{arith}
-use Rattle.sheet.proofs.Lasts.{edge-decreases-after-front}
+-- The last of the first n marks is at position n - 1, and an edge of one more decreases exactly if it is below that one's.
+-- Before the first mark no edge decreases.
+use Rattle.sheet.proofs.Lasts.{first-edge-never-below, edge-below-at-last}
 use borrow.Author.Needs.{needs}
 use Rattle.sheet.proofs.points.edge_below_last.Statement.{statement}
 use Rattle.sheet.proofs.points.edge_below_last.Tie as tie
 
 returns : tie.Need-returns
-returns c = search needs
+returns c = search first-edge-never-below
 
 sub-edge-below : tie.Need-sub-edge-below
 sub-edge-below c = search needs
@@ -31,10 +30,7 @@ edge-below-requires : tie.Need-edge-below-requires
 edge-below-requires c κs = search needs
 
 returns-2 : tie.Need-returns-2
-returns-2 c =
-    let a = c .before .before .before .before .before .before .args in
-    c .edge-below .ensures
-    ∙ sym (edge-decreases-after-front (a .points .now) (a .bandwidths .now) (a .count) (a .point) (a .bandwidth) (omega arith) (omega arith) (omega arith))
+returns-2 c = search edge-below-at-last
 
 pub edge-below-last-spec : {M : Type 1} → statement M
 edge-below-last-spec =

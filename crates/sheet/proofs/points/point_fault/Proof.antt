@@ -1,7 +1,6 @@
 -- The checks are made in the order of a mark line, 5, 9, 10, 6, each after those before it have found nothing.
-use mathlib.Core.Path.{sym}
-use borrow.Author.Tests.{le-leb, lt-leb}
-use lib.Seq.{length-take-le}
+-- So the first that holds is the one that is returned, and at the end none holds.
+use Rattle.sheet.proofs.Lasts.{point-falls, bandwidth-off, edge-falls, points-full, point-fits}
 use borrow.Author.Needs.{needs}
 use Rattle.sheet.proofs.points.point_fault.Statement.{statement}
 use Rattle.sheet.proofs.points.point_fault.Tie as tie
@@ -10,67 +9,25 @@ below-last-requires : tie.Need-below-last-requires
 below-last-requires c κs = search needs
 
 returns : tie.Need-returns
-returns c = sym (rw (← c .before .below-last .ensures, c .if1 .taken))
+returns c = search point-falls
 
 out-of-range-requires : tie.Need-out-of-range-requires
 out-of-range-requires c κs = search needs
 
 returns-2 : tie.Need-returns-2
-returns-2 c =
-    sym
-    (rw (
-      ← c .before .before .before .below-last .ensures,
-      c .before .before .if1 .left,
-      ← c .before .out-of-range .ensures,
-      c .if2 .taken,
-    ))
+returns-2 c = search bandwidth-off
 
 edge-below-last-requires : tie.Need-edge-below-last-requires
 edge-below-last-requires c κs = search needs
 
 returns-3 : tie.Need-returns-3
-returns-3 c =
-    sym
-    (rw (
-      ← c .before .before .before .before .before .below-last .ensures,
-      c .before .before .before .before .if1 .left,
-      ← c .before .before .before .out-of-range .ensures,
-      c .before .before .if2 .left,
-      ← c .before .edge-below-last .ensures,
-      c .if3 .taken,
-    ))
+returns-3 c = search edge-falls
 
 returns-4 : tie.Need-returns-4
-returns-4 c =
-    let a = c .before .before .before .before .before .before .before .before .before .args in
-    let room = length-take-le (a .count) (a .points .now) (c .before .before .before .before .before .before .before .before .before .pre .0) in
-    sym
-    (rw (
-      ← c .before .before .before .before .before .before .below-last .ensures,
-      c .before .before .before .before .before .if1 .left,
-      ← c .before .before .before .before .out-of-range .ensures,
-      c .before .before .before .if2 .left,
-      ← c .before .before .edge-below-last .ensures,
-      c .before .if3 .left,
-      room,
-      le-leb 512 (a .count) (c .if4 .taken),
-    ))
+returns-4 c = search points-full
 
 returns-5 : tie.Need-returns-5
-returns-5 c =
-    let a = c .before .before .before .before .before .before .before .before .before .args in
-    let room = length-take-le (a .count) (a .points .now) (c .before .before .before .before .before .before .before .before .before .pre .0) in
-    sym
-    (rw (
-      ← c .before .before .before .before .before .before .below-last .ensures,
-      c .before .before .before .before .before .if1 .left,
-      ← c .before .before .before .before .out-of-range .ensures,
-      c .before .before .before .if2 .left,
-      ← c .before .before .edge-below-last .ensures,
-      c .before .if3 .left,
-      room,
-      lt-leb 512 (a .count) (c .if4 .left),
-    ))
+returns-5 c = search point-fits
 
 pub point-fault-spec : {M : Type 1} → statement M
 point-fault-spec =

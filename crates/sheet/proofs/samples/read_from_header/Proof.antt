@@ -1,8 +1,6 @@
--- Where the names line stands the reading lines follow it; else the meaning refuses there.
-use mathlib.Core.Path.{_∙_}
-use mathlib.Core.List.{[]}
-use Rattle.meanings.specs.Limits.{full}
-use Rattle.meanings.specs.Sheet.{read-samples}
+-- Where the names line stands the reading lines follow it, and what they give is given.
+-- Where it does not stand the meaning refuses at that byte.
+use Rattle.sheet.proofs.SampleLoop.{no-sample-header, samples-after-header}
 use borrow.Author.Needs.{needs}
 use Rattle.sheet.proofs.samples.read_from_header.Statement.{statement}
 use Rattle.sheet.proofs.samples.read_from_header.Tie as tie
@@ -29,14 +27,10 @@ same-length-2 : tie.Need-same-length-2
 same-length-2 c = search needs
 
 returns : tie.Need-returns
-returns c =
-    let r = c .before .before .before .before .read-samples .ensures in (
-      λ zs hs. c .before .before .before .before .before .before .before .before .before .before .skip-header .ensures (λ p rest. read-samples full zs hs p [] [] [] rest) ∙ rw (c .before .before .before .before .before .before .before .before .first .given .1) (r .0 zs hs),
-      r .1,
-    )
+returns c = search samples-after-header
 
 returns-2 : tie.Need-returns-2
-returns-2 c = (λ zs hs. c .before .before .skip-header .ensures (λ p rest. read-samples full zs hs p [] [] [] rest) ∙ rw (c .enum-told .given .1), tt)
+returns-2 c = search no-sample-header
 
 pub read-from-header-spec : {M : Type 1} → statement M
 read-from-header-spec =

@@ -1,5 +1,5 @@
 -- The names line, and right behind it the line of the number and the place.
-use Rattle.text.proofs.Parts.{refusal-names-fit, refusal-pair-fits, refusal-stored, refusal-ends}
+use Rattle.text.proofs.Parts.{refusal-names-fit, refusal-pair-fits, refusal-stored}
 use borrow.Author.Needs.{needs}
 use Rattle.text.proofs.curve.put_refusal.Statement.{statement}
 use Rattle.text.proofs.curve.put_refusal.Tie as tie
@@ -17,7 +17,7 @@ same-length : tie.Need-same-length
 same-length c = search needs
 
 returns : tie.Need-returns
-returns c = (search refusal-stored, search refusal-ends)
+returns c = search refusal-stored
 
 pub put-refusal-spec : {M : Type 1} → statement M
 put-refusal-spec =

@@ -1,8 +1,6 @@
 -- One store at byte `at` is the text of that one byte.
-use mathlib.Core.Path.{refl}
-use native.Mathlib.Omega.{arith}
 use borrow.Author.Needs.{needs}
-use Rattle.text.proofs.Writing.{written-byte}
+use Rattle.text.proofs.Writing.{byte-stored}
 use Rattle.text.proofs.writer.put_byte.Statement.{statement}
 use Rattle.text.proofs.writer.put_byte.Tie as tie
 
@@ -16,7 +14,7 @@ same-length : tie.Need-same-length
 same-length c = search needs
 
 returns : tie.Need-returns
-returns c = (written-byte (c .args .out .now) (c .args .at) (c .args .b) (omega arith), refl)
+returns c = search byte-stored
 
 pub put-byte-spec : {M : Type 1} → statement M
 put-byte-spec = tie.close (tie.spec slice-write-out add-result same-length returns)

@@ -33,19 +33,19 @@ array-borrow-prefix-running : tie.Need-array-borrow-prefix-running
 array-borrow-prefix-running c = search needs
 
 slice-aggregate-advance-with : tie.Need-slice-aggregate-advance-with
-slice-aggregate-advance-with c = sym (length-take-le _ _ (c .before .before .before .before .before .before .before .before .before .before .list-u64 .ensures))
+slice-aggregate-advance-with c = sym (length-take-le _ _ (search needs))
 
 array-share-prefix-minutes : tie.Need-array-share-prefix-minutes
 array-share-prefix-minutes c = search needs
 
 slice-aggregate-advance-with-2 : tie.Need-slice-aggregate-advance-with-2
-slice-aggregate-advance-with-2 c = sym (length-take-le _ _ (c .before .before .before .before .before .before .before .before .list-u16 .ensures))
+slice-aggregate-advance-with-2 c = sym (length-take-le _ _ (search needs))
 
 array-share-prefix-values : tie.Need-array-share-prefix-values
 array-share-prefix-values c = search needs
 
 slice-aggregate-advance-with-3 : tie.Need-slice-aggregate-advance-with-3
-slice-aggregate-advance-with-3 c = sym (length-take-le _ _ (c .before .before .before .before .before .before .list-u162 .ensures))
+slice-aggregate-advance-with-3 c = sym (length-take-le _ _ (search needs))
 
 narrow-u16-requires : tie.Need-narrow-u16-requires
 narrow-u16-requires c κs = search needs

@@ -39,13 +39,13 @@ array-borrow-prefix-points : tie.Need-array-borrow-prefix-points
 array-borrow-prefix-points c = search needs
 
 slice-aggregate-fill-with : tie.Need-slice-aggregate-fill-with
-slice-aggregate-fill-with c = sym (length-take-le _ _ (c .before .before .before .before .before .at-most .ensures))
+slice-aggregate-fill-with c = sym (length-take-le _ _ (search needs))
 
 array-borrow-prefix-bandwidths : tie.Need-array-borrow-prefix-bandwidths
 array-borrow-prefix-bandwidths c = search needs
 
 slice-aggregate-fill-with-2 : tie.Need-slice-aggregate-fill-with-2
-slice-aggregate-fill-with-2 c = sym (length-take-le _ _ (c .before .before .before .before .before .at-most2 .ensures))
+slice-aggregate-fill-with-2 c = sym (length-take-le _ _ (search needs))
 
 fill-with-requires : tie.Need-fill-with-requires
 fill-with-requires c κs = search needs

@@ -33,13 +33,13 @@ array-share-prefix-minutes : tie.Need-array-share-prefix-minutes
 array-share-prefix-minutes c = search needs
 
 slice-aggregate-point-with : tie.Need-slice-aggregate-point-with
-slice-aggregate-point-with c = sym (length-take-le _ _ (c .before .before .before .before .before .before .before .before .before .list-u16 .ensures))
+slice-aggregate-point-with c = sym (length-take-le _ _ (search needs))
 
 array-share-prefix-values : tie.Need-array-share-prefix-values
 array-share-prefix-values c = search needs
 
 slice-aggregate-point-with-2 : tie.Need-slice-aggregate-point-with-2
-slice-aggregate-point-with-2 c = sym (length-take-le _ _ (c .before .before .before .before .before .before .before .list-u162 .ensures))
+slice-aggregate-point-with-2 c = sym (length-take-le _ _ (search needs))
 
 narrow-u16-requires : tie.Need-narrow-u16-requires
 narrow-u16-requires c κs = search needs
@@ -51,7 +51,7 @@ array-borrow-prefix-out : tie.Need-array-borrow-prefix-out
 array-borrow-prefix-out c = search needs
 
 slice-aggregate-point-with-3 : tie.Need-slice-aggregate-point-with-3
-slice-aggregate-point-with-3 c = sym (length-take-le _ _ (c .before .before .before .before .before .at-most .ensures))
+slice-aggregate-point-with-3 c = sym (length-take-le _ _ (search needs))
 
 point-with-requires : tie.Need-point-with-requires
 point-with-requires c κs = search needs

@@ -24,31 +24,31 @@ array-borrow-prefix-minutes : tie.Need-array-borrow-prefix-minutes
 array-borrow-prefix-minutes c = search needs
 
 slice-aggregate-read-with : tie.Need-slice-aggregate-read-with
-slice-aggregate-read-with c = sym (length-take-le _ _ (c .before .before .before .before .before .at-most .ensures))
+slice-aggregate-read-with c = sym (length-take-le _ _ (search needs))
 
 array-borrow-prefix-values : tie.Need-array-borrow-prefix-values
 array-borrow-prefix-values c = search needs
 
 slice-aggregate-read-with-2 : tie.Need-slice-aggregate-read-with-2
-slice-aggregate-read-with-2 c = sym (length-take-le _ _ (c .before .before .before .before .before .at-most2 .ensures))
+slice-aggregate-read-with-2 c = sym (length-take-le _ _ (search needs))
 
 array-borrow-prefix-points : tie.Need-array-borrow-prefix-points
 array-borrow-prefix-points c = search needs
 
 slice-aggregate-read-with-3 : tie.Need-slice-aggregate-read-with-3
-slice-aggregate-read-with-3 c = sym (length-take-le _ _ (c .before .before .before .before .before .at-most3 .ensures))
+slice-aggregate-read-with-3 c = sym (length-take-le _ _ (search needs))
 
 array-borrow-prefix-bandwidths : tie.Need-array-borrow-prefix-bandwidths
 array-borrow-prefix-bandwidths c = search needs
 
 slice-aggregate-read-with-4 : tie.Need-slice-aggregate-read-with-4
-slice-aggregate-read-with-4 c = sym (length-take-le _ _ (c .before .before .before .before .before .at-most4 .ensures))
+slice-aggregate-read-with-4 c = sym (length-take-le _ _ (search needs))
 
 array-borrow-prefix-counts : tie.Need-array-borrow-prefix-counts
 array-borrow-prefix-counts c = search needs
 
 slice-aggregate-read-with-5 : tie.Need-slice-aggregate-read-with-5
-slice-aggregate-read-with-5 c = sym (length-take-le _ _ (c .before .before .before .before .before .at-most5 .ensures))
+slice-aggregate-read-with-5 c = sym (length-take-le _ _ (search needs))
 
 read-with-requires : tie.Need-read-with-requires
 read-with-requires c κs = search needs

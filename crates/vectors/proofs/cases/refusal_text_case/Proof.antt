@@ -21,7 +21,7 @@ array-borrow-prefix-out : tie.Need-array-borrow-prefix-out
 array-borrow-prefix-out c = search needs
 
 slice-aggregate-refusal-text-with : tie.Need-slice-aggregate-refusal-text-with
-slice-aggregate-refusal-text-with c = sym (length-take-le _ _ (c .before .at-most .ensures))
+slice-aggregate-refusal-text-with c = sym (length-take-le _ _ (search needs))
 
 refusal-text-with-requires : tie.Need-refusal-text-with-requires
 refusal-text-with-requires c κs = search needs

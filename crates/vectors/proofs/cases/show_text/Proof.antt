@@ -12,7 +12,7 @@ written-requires : tie.Need-written-requires
 written-requires c κs = search needs
 
 slice-aggregate-show-bytes : tie.Need-slice-aggregate-show-bytes
-slice-aggregate-show-bytes c = sym (length-take-le _ _ (c .before .written .ensures))
+slice-aggregate-show-bytes c = sym (length-take-le _ _ (search needs))
 
 show-bytes-requires : tie.Need-show-bytes-requires
 show-bytes-requires c κs = search needs

@@ -39,31 +39,31 @@ array-share-prefix-minutes : tie.Need-array-share-prefix-minutes
 array-share-prefix-minutes c = search needs
 
 slice-aggregate-smooth-with : tie.Need-slice-aggregate-smooth-with
-slice-aggregate-smooth-with c = sym (length-take-le _ _ (c .before .before .before .before .before .before .before .before .before .before .before .before .before .list-u16 .ensures))
+slice-aggregate-smooth-with c = sym (length-take-le _ _ (search needs))
 
 array-share-prefix-values : tie.Need-array-share-prefix-values
 array-share-prefix-values c = search needs
 
 slice-aggregate-smooth-with-2 : tie.Need-slice-aggregate-smooth-with-2
-slice-aggregate-smooth-with-2 c = sym (length-take-le _ _ (c .before .before .before .before .before .before .before .before .before .before .before .list-u162 .ensures))
+slice-aggregate-smooth-with-2 c = sym (length-take-le _ _ (search needs))
 
 array-share-prefix-points : tie.Need-array-share-prefix-points
 array-share-prefix-points c = search needs
 
 slice-aggregate-smooth-with-3 : tie.Need-slice-aggregate-smooth-with-3
-slice-aggregate-smooth-with-3 c = sym (length-take-le _ _ (c .before .before .before .before .before .before .before .before .before .list-u163 .ensures))
+slice-aggregate-smooth-with-3 c = sym (length-take-le _ _ (search needs))
 
 array-share-prefix-bandwidths : tie.Need-array-share-prefix-bandwidths
 array-share-prefix-bandwidths c = search needs
 
 slice-aggregate-smooth-with-4 : tie.Need-slice-aggregate-smooth-with-4
-slice-aggregate-smooth-with-4 c = sym (length-take-le _ _ (c .before .before .before .before .before .before .before .list-u32 .ensures))
+slice-aggregate-smooth-with-4 c = sym (length-take-le _ _ (search needs))
 
 array-borrow-prefix-rows : tie.Need-array-borrow-prefix-rows
 array-borrow-prefix-rows c = search needs
 
 slice-aggregate-smooth-with-5 : tie.Need-slice-aggregate-smooth-with-5
-slice-aggregate-smooth-with-5 c = sym (length-take-le _ _ (c .before .before .before .before .before .at-most .ensures))
+slice-aggregate-smooth-with-5 c = sym (length-take-le _ _ (search needs))
 
 smooth-with-requires : tie.Need-smooth-with-requires
 smooth-with-requires c κs = search needs

@@ -36,7 +36,7 @@ array-borrow-prefix-out : tie.Need-array-borrow-prefix-out
 array-borrow-prefix-out c = search needs
 
 slice-aggregate-text-with : tie.Need-slice-aggregate-text-with
-slice-aggregate-text-with c = sym (length-take-le _ _ (c .before .before .at-most2 .ensures))
+slice-aggregate-text-with c = sym (length-take-le _ _ (search needs))
 
 text-with-requires : tie.Need-text-with-requires
 text-with-requires c κs = search needs

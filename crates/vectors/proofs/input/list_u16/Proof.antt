@@ -15,7 +15,7 @@ slice-relend-prefix-take-u16 : tie.Need-slice-relend-prefix-take-u16
 slice-relend-prefix-take-u16 c = search needs
 
 slice-aggregate-take-u16 : tie.Need-slice-aggregate-take-u16
-slice-aggregate-take-u16 c = sym (length-take-le _ _ (c .before .at-most .ensures))
+slice-aggregate-take-u16 c = sym (length-take-le _ _ (search needs))
 
 take-u16-requires : tie.Need-take-u16-requires
 take-u16-requires c κs = search needs

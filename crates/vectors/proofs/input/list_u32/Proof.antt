@@ -15,7 +15,7 @@ slice-relend-prefix-take-u32 : tie.Need-slice-relend-prefix-take-u32
 slice-relend-prefix-take-u32 c = search needs
 
 slice-aggregate-take-u32 : tie.Need-slice-aggregate-take-u32
-slice-aggregate-take-u32 c = sym (length-take-le _ _ (c .before .at-most .ensures))
+slice-aggregate-take-u32 c = sym (length-take-le _ _ (search needs))
 
 take-u32-requires : tie.Need-take-u32-requires
 take-u32-requires c κs = search needs

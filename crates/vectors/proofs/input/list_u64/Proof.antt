@@ -15,7 +15,7 @@ slice-relend-prefix-take-u64 : tie.Need-slice-relend-prefix-take-u64
 slice-relend-prefix-take-u64 c = search needs
 
 slice-aggregate-take-u64 : tie.Need-slice-aggregate-take-u64
-slice-aggregate-take-u64 c = sym (length-take-le _ _ (c .before .at-most .ensures))
+slice-aggregate-take-u64 c = sym (length-take-le _ _ (search needs))
 
 take-u64-requires : tie.Need-take-u64-requires
 take-u64-requires c κs = search needs

@@ -1,0 +1,63 @@
+-- What has been read, and what is written, lies within its buffer.
+use Prim.Native.Nat.{ℕ, _+_, _-_, _^_, _≤_, _<_}
+use mathlib.Core.Path.{_≡_, refl, sym, _∙_}
+use mathlib.Core.List.{List}
+use native.Mathlib.Omega.{arith}
+use lib.ListN.{length, take, drop, length-drop}
+use lib.Seq.{length-take-le}
+use Rattle.meanings.specs.Limits.{max-sheet, max-output}
+use Rattle.meanings.specs.Output.{program}
+use Rattle.output_laws.proofs.OutputFits.{program-fits}
+use Rattle.tankcurve.specs.declared.Input.{Input}
+use Rattle.tankcurve.specs.declared.Input.the-variants.{Bytes}
+use Rattle.tankcurve.specs.Input.{InputWithin}
+
+-- bytes that have come
+module _ (r : Input) (xs : List ℕ) (within : InputWithin r (length xs)) (n : ℕ) (met : r ≡ Bytes n) where
+  pub bytes-within : n ≤ length xs
+  bytes-within = rw met at within
+
+  pub bytes-count : n ≡ length (take n xs)
+  bytes-count = sym (length-take-le n xs bytes-within)
+
+-- the output of a sheet
+module _ (s out : List ℕ) (n : ℕ) (whole : n ≡ length (program s)) (size : length out ≡ max-output) where
+  pub output-within : n ≤ length out
+  output-within = omega (arith, program-fits s)
+
+  pub output-count : n ≡ length (take n out)
+  output-count = sym (length-take-le n out output-within)
+
+-- the buffer has been read into up to `done`
+pub record ReadTo (first now : List ℕ) (done : ℕ) : Type 0 where
+  pub size : length first ≡ max-sheet + 1
+  pub kept : length now ≡ length first
+  pub far : done ≤ length now
+
+pub reading-begins : {b : List ℕ} → length b ≡ max-sheet + 1 → ReadTo b b 0
+reading-begins size = record { size = size; kept = refl; far = omega arith }
+
+-- one read more, which leaves the length as it is
+module _ {first now : List ℕ} {done : ℕ} (w : ReadTo first now done) (next : List ℕ) (same : length next ≡ length now) where
+  pub read-keeps-length : length next ≡ length first
+  read-keeps-length = same ∙ w .kept
+
+  pub still-within : done ≤ length next
+  still-within = omega (arith, same, w .far)
+
+  module _ (r : Input) (part : List ℕ) (within : InputWithin r (length part)) (more : ℕ) (met : r ≡ Bytes more)
+      (rest : length part ≡ length (take (length now - done) (drop done now))) where
+    more-fits : done + more ≤ length now
+    more-fits =
+        let d = length-drop done now in
+        let t = length-take-le (length now - done) (drop done now) (omega arith) in
+        omega (arith, bytes-within r part within more met, rest, t, w .far)
+
+    pub done-in-range : done + more < 2 ^ 64
+    done-in-range = omega (arith, more-fits, w .kept, w .size)
+
+    pub less-to-read : ¬ (more ≡ 0) → length next - (done + more) < length now - done
+    less-to-read some = omega (arith, more-fits, same)
+
+    pub reading-goes-on : ReadTo first next (done + more)
+    reading-goes-on = record { size = w .size; kept = read-keeps-length; far = omega (arith, more-fits, same) }
