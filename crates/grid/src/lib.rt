@@ -1,4 +1,4 @@
-// The bandwidth presets and the evaluation grid: the knob and the mark filler.
+// The bandwidth presets, "the knob", and the evaluation grid, which "the mark filler" fills.
 use grid_checks::fill_fault;
 use meanings::Filling;
 use meanings::Verdict;

@@ -22,7 +22,8 @@ use Rattle.meanings.specs.Output.{program, outcome-text}
 use Rattle.meanings.specs.Sheet.{read-sheet}
 use Rattle.meanings.specs.Calls.{told-evaluation, told-advance, told-smoothing, told-filling, told-reading, told-writing}
 
--- overlong, heading, torn line, early reading, early mark, crowded, no marks, uneven, half width, edge back, foreign record, knob, past the clock
+-- "overlong", "heading", "torn line", "early reading", "early mark", "crowded", "no marks", "uneven", "half width",
+-- "edge back", "foreign record", "knob", "past the clock"
 pub reports-are-numbered :
     map number
     (TooLong

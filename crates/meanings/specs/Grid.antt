@@ -2,7 +2,7 @@
 use Prim.Native.Nat.{ℕ, zero, suc, _+_, _*_}
 use mathlib.Core.List.{List, [], _∷_, _++_}
 
--- the bandwidth presets, the knob's half widths, by position
+-- the bandwidth presets, by index: the half widths of "the knob"
 abbrev pub presets : List ℕ
 presets = 30 ∷ 45 ∷ 60 ∷ 90 ∷ 120 ∷ 180 ∷ 240 ∷ 360 ∷ 480 ∷ 720 ∷ 1080 ∷ 1440 ∷ []
 

@@ -3,19 +3,19 @@
 
 // SPECIFICATION, "Reports": the thirteen reports. `number` of specs/Reports.antt gives each its number.
 pub enum Report {
-    TooLong, // 1, overlong
-    BadHeader, // 2, heading
-    MalformedLine, // 3, torn line
-    SampleOutOfOrder, // 4, early reading
-    PointOutOfOrder, // 5, early mark
-    TooMany, // 6, crowded
-    NoPoints, // 7, no marks
-    LengthMismatch, // 8, uneven
-    BandwidthOutOfRange, // 9, half width
-    EdgeDecreases, // 10, edge back
-    InvalidRecord, // 11, foreign record
-    UnknownPreset, // 12, knob
-    GridOverflow, // 13, past the clock
+    TooLong, // 1, "overlong"
+    BadHeader, // 2, "heading"
+    MalformedLine, // 3, "torn line"
+    SampleOutOfOrder, // 4, "early reading"
+    PointOutOfOrder, // 5, "early mark"
+    TooMany, // 6, "crowded"
+    NoPoints, // 7, "no marks"
+    LengthMismatch, // 8, "uneven"
+    BandwidthOutOfRange, // 9, "half width"
+    EdgeDecreases, // 10, "edge back"
+    InvalidRecord, // 11, "foreign record"
+    UnknownPreset, // 12, "knob"
+    GridOverflow, // 13, "past the clock"
 }
 
 // A report with its place.
