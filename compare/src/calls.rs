@@ -5,26 +5,21 @@
 //! difference, with the whole case.
 
 use crate::lent::Lent;
-use crate::random::Random;
 use crate::tally::Tally;
-use reference::Record;
+use reference::exported::{BOUNDS, COUNTS, DETAIL_UNIT, READER, RECORD};
+use reference::generators::random::Random;
+use reference::{Record, MOST_OUTPUT, ROW_WIDTH};
 use std::fmt::{self, Debug};
 use std::io::{self, Write};
 use std::path::PathBuf;
 use std::process::{Command, Stdio};
-use tankcurve::{slices, Counts, Estimate, Refusal, Report, RunningSums};
+use tankcurve::{slices, Counts, Error, Estimate, Refusal, Report, RunningSums};
 
 /// A number, 0 or a report, and its detail.
 type Answer = (u8, u64);
 
 /// Report 8 at place 0, of a list for the answer that has another length than stated.
 const WRONG_LENGTH: Answer = (8, 0);
-
-/// The lengths of the reader's lists: minutes, values, points, bandwidths, counts.
-pub const READ_LENGTHS: [usize; 5] = [1024, 1024, 512, 512, 2];
-
-/// The length of the buffer for a text.
-pub const OUT_LENGTH: usize = reference::MOST_OUTPUT;
 
 /// Every report, for the typed call that takes one.
 const REPORTS: [Report; 13] = [
@@ -81,16 +76,19 @@ macro_rules! with_case {
 
 /// What the export has to return.
 fn code(answer: Answer) -> u64 {
-    16 * answer.1 + u64::from(answer.0)
+    DETAIL_UNIT * answer.1 + u64::from(answer.0)
 }
 
 fn refused(refusal: reference::Refusal) -> Answer {
     (refusal.number, refusal.place)
 }
 
-/// A typed result, its refusal as number and place.
-fn typed<T>(result: Result<T, tankcurve::Refusal>) -> Result<T, Answer> {
-    result.map_err(|refusal| (refusal.report as u8, refusal.place))
+/// A typed result, its refusal as number and place; an answer that is unknown as a number that none has.
+fn typed<T>(result: Result<T, Error>) -> Result<T, Answer> {
+    result.map_err(|error| match error {
+        Error::Refused(refusal) => (refusal.report as u8, refusal.place),
+        Error::Unknown(answer) => (u8::MAX, answer),
+    })
 }
 
 fn same<T: PartialEq + Debug>(what: &str, expected: T, got: T) -> Result<(), String> {
@@ -113,7 +111,7 @@ fn sized<T, const N: usize>(list: &mut [T]) -> Result<&mut [T; N], String> {
 }
 
 /// The eight numbers of a record.
-fn numbers(record: Record) -> [u64; 8] {
+fn numbers(record: Record) -> [u64; RECORD] {
     let [s00, s10, s20, s01, s11, s21] = record.sums;
     [record.left, record.right, s00, s10, s20, s01, s11, s21]
 }
@@ -182,7 +180,7 @@ impl Calls {
         row_len: usize,
     ) -> Result<(), String> {
         let result = reference::one_mark(minutes, values, point, bandwidth).map_err(refused);
-        let expected = if row_len == 5 {
+        let expected = if row_len == ROW_WIDTH {
             result
         } else {
             Err(WRONG_LENGTH)
@@ -235,7 +233,7 @@ impl Calls {
         let result = reference::one_mark(minutes, values, point, bandwidth)
             .map(|_| run)
             .map_err(refused);
-        let expected = if bounds_len == 2 {
+        let expected = if bounds_len == BOUNDS {
             result
         } else {
             Err(WRONG_LENGTH)
@@ -493,7 +491,7 @@ impl Calls {
         )
     }
 
-    /// One sheet, with lists of these lengths, in the order of `READ_LENGTHS`.
+    /// One sheet, with lists of these lengths, in the order of `READER`.
     pub fn read(&mut self, sheet: &[u8], lengths: [usize; 5]) -> Result<(), String> {
         let mut fronts = (
             vec![0; lengths[0]],
@@ -501,7 +499,7 @@ impl Calls {
             vec![0; lengths[2]],
             vec![0; lengths[3]],
         );
-        let result = if lengths[4] == 2 {
+        let result = if lengths[4] == COUNTS {
             reference::read(
                 sheet,
                 &mut fronts.0,
@@ -546,7 +544,7 @@ impl Calls {
             points.holds("points", &fronts.2)?;
             bandwidths.holds("bandwidths", &fronts.3)?;
             counts.holds("counts", counts_front)?;
-            if lengths == READ_LENGTHS {
+            if lengths == READER {
                 self.read_typed(sheet, result, &fronts)?;
             }
             Ok(())
@@ -598,7 +596,7 @@ impl Calls {
             same("returned", code(answer), got)?;
             lent_sheet.untouched("sheet")?;
             out.holds("out", &front)?;
-            if out_len == OUT_LENGTH {
+            if out_len == MOST_OUTPUT {
                 let got = tankcurve::text(lent_sheet.list(), sized(typed_out.list_mut())?);
                 let written = result.map(|_| Bytes(&front));
                 same("typed", written, typed(got).map(Bytes))?;
@@ -624,7 +622,7 @@ impl Calls {
             let got = slices::refusal_text(number, place, out.list_mut());
             same("returned", code(answer), got)?;
             out.holds("out", &front)?;
-            if let (Some(report), OUT_LENGTH) = (report, out_len) {
+            if let (Some(report), MOST_OUTPUT) = (report, out_len) {
                 let refusal = Refusal { report, place };
                 let got = tankcurve::refusal_text(refusal, sized(typed_out.list_mut())?);
                 let written = result.map(|_| Bytes(&front));

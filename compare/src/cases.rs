@@ -1,14 +1,13 @@
 //! The cases of each call: small ones all together, those at the limits, every set of faults, and
 //! random ones from a fixed seed.
 
-use crate::calls::{Calls, OUT_LENGTH, READ_LENGTHS};
-use crate::lists::{
-    any_minutes, bad_bandwidth, damage_samples, fall, fit_points, near_half, ordered_minutes,
-    sample_count, some_bandwidth, some_point, some_values,
-};
-use crate::random::Random;
+use crate::calls::Calls;
+use crate::lists::{any_minutes, near_half, sample_count, LISTS};
 use crate::sheets;
-use reference::Record;
+use reference::exported::{BOUNDS, READER, RECORD};
+use reference::generators::lists::{fall, some_point};
+use reference::generators::random::Random;
+use reference::{Record, MOST_OUTPUT, ROW_WIDTH};
 
 type Found = Result<(), String>;
 
@@ -55,8 +54,8 @@ fn wrong_lengths(length: usize) -> [usize; 5] {
 // ------------------------------------------------------------------ one point
 
 fn both(calls: &mut Calls, minutes: &[u16], values: &[u16], point: u16, bandwidth: u32) -> Found {
-    calls.evaluate(minutes, values, point, bandwidth, 5)?;
-    calls.window(minutes, values, point, bandwidth, 2)
+    calls.evaluate(minutes, values, point, bandwidth, ROW_WIDTH)?;
+    calls.window(minutes, values, point, bandwidth, BOUNDS)
 }
 
 pub fn evaluate_and_window(calls: &mut Calls) -> Found {
@@ -77,8 +76,8 @@ pub fn evaluate_and_window(calls: &mut Calls) -> Found {
     for count in SAMPLES {
         for bandwidth in BANDWIDTHS {
             for point in [0, 1, 32_767, 65_534, 65_535] {
-                let minutes = ordered_minutes(random, count);
-                let values = some_values(random, count);
+                let minutes = LISTS.ordered_minutes(random, count);
+                let values = LISTS.some_values(random, count);
                 both(calls, &minutes, &values, point, bandwidth)?;
             }
         }
@@ -86,18 +85,18 @@ pub fn evaluate_and_window(calls: &mut Calls) -> Found {
     // Every set of the faults 8, 6, 4, 9.
     for faults in 0..16 {
         let count = if faults & 2 == 0 { 1024 } else { 1025 };
-        let mut minutes = ordered_minutes(random, count);
-        let values = some_values(random, count - faults % 2);
+        let mut minutes = LISTS.ordered_minutes(random, count);
+        let values = LISTS.some_values(random, count - faults % 2);
         if faults & 4 != 0 {
             fall(random, &mut minutes);
         }
         let bandwidth = if faults & 8 == 0 { 65_536 } else { 65_537 };
         both(calls, &minutes, &values, 40_000, bandwidth)?;
         // With a row or bounds of a wrong length besides.
-        for length in wrong_lengths(5) {
+        for length in wrong_lengths(ROW_WIDTH) {
             calls.evaluate(&minutes, &values, 40_000, bandwidth, length)?;
         }
-        for length in wrong_lengths(2) {
+        for length in wrong_lengths(BOUNDS) {
             calls.window(&minutes, &values, 40_000, bandwidth, length)?;
         }
     }
@@ -106,7 +105,13 @@ pub fn evaluate_and_window(calls: &mut Calls) -> Found {
         for position in positions {
             let mut minutes: Vec<u16> = (0..count).map(|i| 100 + i).collect();
             minutes[position] = 99;
-            both(calls, &minutes, &some_values(random, count.into()), 105, 3)?;
+            both(
+                calls,
+                &minutes,
+                &LISTS.some_values(random, count.into()),
+                105,
+                3,
+            )?;
         }
     }
     for _ in 0..500 {
@@ -115,21 +120,21 @@ pub fn evaluate_and_window(calls: &mut Calls) -> Found {
     }
     for _ in 0..60_000 {
         let count = sample_count(random);
-        let mut minutes = ordered_minutes(random, count);
-        let mut values = some_values(random, count);
+        let mut minutes = LISTS.ordered_minutes(random, count);
+        let mut values = LISTS.some_values(random, count);
         let point = some_point(random, &minutes);
-        let mut bandwidth = some_bandwidth(random, &minutes, point);
+        let mut bandwidth = LISTS.some_bandwidth(random, &minutes, point);
         while random.chance(20) {
-            damage_samples(random, &mut minutes, &mut values);
+            LISTS.damage_samples(random, &mut minutes, &mut values);
         }
         if random.chance(12) {
-            bandwidth = bad_bandwidth(random);
+            bandwidth = LISTS.bad_bandwidth(random);
         }
         both(calls, &minutes, &values, point, bandwidth)?;
         if random.chance(5) {
-            let row_len = random.pick(&wrong_lengths(5));
+            let row_len = random.pick(&wrong_lengths(ROW_WIDTH));
             calls.evaluate(&minutes, &values, point, bandwidth, row_len)?;
-            let bounds_len = random.pick(&wrong_lengths(2));
+            let bounds_len = random.pick(&wrong_lengths(BOUNDS));
             calls.window(&minutes, &values, point, bandwidth, bounds_len)?;
         }
     }
@@ -144,7 +149,7 @@ fn some_sums(random: &mut Random) -> [u64; 6] {
         1 => random.below(1000) as u64,
         2 => u64::MAX - random.below(1000) as u64,
         3 => u64::MAX,
-        _ => random.next(),
+        _ => random.number(),
     })
 }
 
@@ -168,7 +173,7 @@ fn damage_record(random: &mut Random, record: &mut Record, count: usize) {
         3 => record.right = u64::MAX,
         4 => record.left = u64::MAX,
         5 => record.right |= 1 << random.between(11, 63),
-        _ => (record.left, record.right) = (random.next(), random.next()),
+        _ => (record.left, record.right) = (random.number(), random.number()),
     }
 }
 
@@ -195,8 +200,8 @@ pub fn advance(calls: &mut Calls) -> Found {
     for count in SAMPLES {
         for bandwidth in BANDWIDTHS {
             for right in [0, 1, 1023, 1024, 1025, 1026, u64::MAX] {
-                let minutes = ordered_minutes(random, count);
-                let values = some_values(random, count);
+                let minutes = LISTS.ordered_minutes(random, count);
+                let values = LISTS.some_values(random, count);
                 let point = some_point(random, &minutes);
                 let record = Record {
                     left: 0,
@@ -211,14 +216,14 @@ pub fn advance(calls: &mut Calls) -> Found {
     for faults in 0..16 {
         let count = if faults & 2 == 0 { 1024 } else { 1025 };
         let minutes = any_minutes(random, count);
-        let values = some_values(random, count - faults % 2);
+        let values = LISTS.some_values(random, count - faults % 2);
         let mut record = valid_record(random, 1024);
         if faults & 4 != 0 {
             record.left = record.right + 1;
         }
         let bandwidth = if faults & 8 == 0 { 65_536 } else { 65_537 };
         calls.advance(record, &minutes, &values, 40_000, bandwidth)?;
-        for length in wrong_lengths(8) {
+        for length in wrong_lengths(RECORD) {
             calls.advance_wrong_length(length, &minutes, &values, 40_000, bandwidth)?;
         }
     }
@@ -237,13 +242,13 @@ fn steps(calls: &mut Calls, random: &mut Random) -> Found {
     let count = sample_count(random);
     let ordered = random.chance(70);
     let minutes = if ordered {
-        ordered_minutes(random, count)
+        LISTS.ordered_minutes(random, count)
     } else {
         any_minutes(random, count)
     };
-    let values = some_values(random, count);
+    let values = LISTS.some_values(random, count);
     let length = random.between(1, 25) as usize;
-    let (points, bandwidths) = fit_points(random, &minutes, length);
+    let (points, bandwidths) = LISTS.fit_points(random, &minutes, length);
     let mut record = if ordered {
         Record::default()
     } else {
@@ -254,10 +259,16 @@ fn steps(calls: &mut Calls, random: &mut Random) -> Found {
             (points[k], bandwidths[k])
         } else {
             let point = some_point(random, &minutes);
-            (point, some_bandwidth(random, &minutes, point))
+            (point, LISTS.some_bandwidth(random, &minutes, point))
         };
         record = match random.below(20) {
-            0 => calls.advance(record, &minutes, &values, point, bad_bandwidth(random))?,
+            0 => calls.advance(
+                record,
+                &minutes,
+                &values,
+                point,
+                LISTS.bad_bandwidth(random),
+            )?,
             1 => calls.advance(
                 record,
                 &minutes,
@@ -267,7 +278,7 @@ fn steps(calls: &mut Calls, random: &mut Random) -> Found {
             )?,
             2 => calls.advance(record, &[9; 1025], &[9; 1025], point, bandwidth)?,
             3 => {
-                let record_len = random.pick(&wrong_lengths(8));
+                let record_len = random.pick(&wrong_lengths(RECORD));
                 calls.advance_wrong_length(record_len, &minutes, &values, point, bandwidth)?;
                 record
             }
@@ -280,18 +291,18 @@ fn steps(calls: &mut Calls, random: &mut Random) -> Found {
 fn step_of_any_origin(calls: &mut Calls, random: &mut Random) -> Found {
     let count = sample_count(random);
     let mut minutes = if random.chance(50) {
-        ordered_minutes(random, count)
+        LISTS.ordered_minutes(random, count)
     } else {
         any_minutes(random, count)
     };
-    let mut values = some_values(random, count);
+    let mut values = LISTS.some_values(random, count);
     let point = some_point(random, &minutes);
-    let mut bandwidth = some_bandwidth(random, &minutes, point);
+    let mut bandwidth = LISTS.some_bandwidth(random, &minutes, point);
     if random.chance(10) {
-        damage_samples(random, &mut minutes, &mut values);
+        LISTS.damage_samples(random, &mut minutes, &mut values);
     }
     if random.chance(10) {
-        bandwidth = bad_bandwidth(random);
+        bandwidth = LISTS.bad_bandwidth(random);
     }
     let mut record = valid_record(random, minutes.len());
     if random.chance(15) {
@@ -313,30 +324,36 @@ pub fn smooth(calls: &mut Calls) -> Found {
             {
                 let bandwidths: Vec<u32> = widths.iter().map(|&width| width.into()).collect();
                 let values = &[2, 3][..minutes.len()];
-                calls.smooth(&minutes, values, &points, &bandwidths, 5 * points.len())?;
+                calls.smooth(
+                    &minutes,
+                    values,
+                    &points,
+                    &bandwidths,
+                    ROW_WIDTH * points.len(),
+                )?;
             }
         }
     }
     for count in SAMPLES {
         for used in [0, 1, 511, 512, 513, 514, 65_536, 65_537] {
-            let minutes = ordered_minutes(random, count);
-            let values = some_values(random, count);
-            let (points, bandwidths) = fit_points(random, &minutes, used);
-            calls.smooth(&minutes, &values, &points, &bandwidths, 5 * used)?;
+            let minutes = LISTS.ordered_minutes(random, count);
+            let values = LISTS.some_values(random, count);
+            let (points, bandwidths) = LISTS.fit_points(random, &minutes, used);
+            calls.smooth(&minutes, &values, &points, &bandwidths, ROW_WIDTH * used)?;
         }
     }
     for bandwidth in BANDWIDTHS {
         for at in 0..4 {
             let mut bandwidths = [65_535, 65_535, 65_536, 65_536];
             bandwidths[at] = bandwidth;
-            calls.smooth(&[9, 9], &[4, 5], &[7, 7, 8, 8], &bandwidths, 20)?;
+            calls.smooth(&[9, 9], &[4, 5], &[7, 7, 8, 8], &bandwidths, 4 * ROW_WIDTH)?;
         }
     }
     smooth_faults(calls, random)?;
     for _ in 0..500 {
         let (minutes, values, point, bandwidth) = near_half(random);
         let points = [point, point + 1];
-        calls.smooth(&minutes, &values, &points, &[bandwidth; 2], 10)?;
+        calls.smooth(&minutes, &values, &points, &[bandwidth; 2], 2 * ROW_WIDTH)?;
     }
     for _ in 0..25_000 {
         some_smooth(calls, random)?;
@@ -351,7 +368,7 @@ fn smooth_faults(calls: &mut Calls, random: &mut Random) -> Found {
         let has = |fault: u32| faults >> fault & 1 == 1;
         let count = if has(3) { 1025 } else { 1024 };
         let mut minutes: Vec<u16> = (0..count).map(|i| i / 2).collect();
-        let values = some_values(random, usize::from(count) - usize::from(has(0)));
+        let values = LISTS.some_values(random, usize::from(count) - usize::from(has(0)));
         let used = match (has(5), has(4)) {
             (true, _) => 0,
             (false, true) => 513,
@@ -375,11 +392,11 @@ fn smooth_faults(calls: &mut Calls, random: &mut Random) -> Found {
             bandwidths.push(9);
         }
         let rows_len = match random.below(4) {
-            _ if !has(2) => 5 * points.len(),
-            0 => 5 * points.len() + 1,
-            1 => 5 * points.len() + 4,
-            2 => 5 * points.len() + 5,
-            _ => (5 * points.len()).max(5) - 1,
+            _ if !has(2) => ROW_WIDTH * points.len(),
+            0 => ROW_WIDTH * points.len() + 1,
+            1 => ROW_WIDTH * points.len() + ROW_WIDTH - 1,
+            2 => ROW_WIDTH * (points.len() + 1),
+            _ => (ROW_WIDTH * points.len()).max(ROW_WIDTH) - 1,
         };
         calls.smooth(&minutes, &values, &points, &bandwidths, rows_len)?;
     }
@@ -388,8 +405,8 @@ fn smooth_faults(calls: &mut Calls, random: &mut Random) -> Found {
 
 fn some_smooth(calls: &mut Calls, random: &mut Random) -> Found {
     let count = sample_count(random);
-    let mut minutes = ordered_minutes(random, count);
-    let mut values = some_values(random, count);
+    let mut minutes = LISTS.ordered_minutes(random, count);
+    let mut values = LISTS.some_values(random, count);
     let used = match random.below(100) {
         0 => 512,
         1 => 511,
@@ -397,10 +414,10 @@ fn some_smooth(calls: &mut Calls, random: &mut Random) -> Found {
         3 => random.below(512),
         _ => random.between(1, 12) as usize,
     };
-    let (mut points, mut bandwidths) = fit_points(random, &minutes, used);
+    let (mut points, mut bandwidths) = LISTS.fit_points(random, &minutes, used);
     while random.chance(30) {
         match random.below(10) {
-            0 | 1 => damage_samples(random, &mut minutes, &mut values),
+            0 | 1 => LISTS.damage_samples(random, &mut minutes, &mut values),
             2 => {
                 bandwidths.pop();
             }
@@ -410,7 +427,7 @@ fn some_smooth(calls: &mut Calls, random: &mut Random) -> Found {
             4 => fall(random, &mut points),
             5 | 6 if !bandwidths.is_empty() => {
                 let at = random.below(bandwidths.len());
-                bandwidths[at] = bad_bandwidth(random);
+                bandwidths[at] = LISTS.bad_bandwidth(random);
             }
             _ if !bandwidths.is_empty() => {
                 let at = random.below(bandwidths.len());
@@ -421,10 +438,10 @@ fn some_smooth(calls: &mut Calls, random: &mut Random) -> Found {
         }
     }
     let rows_len = match random.below(40) {
-        0 => 5 * points.len() + random.pick(&[1, 4, 5]),
-        1 => (5 * points.len()).saturating_sub(random.pick(&[1, 4, 5])),
+        0 => ROW_WIDTH * points.len() + random.pick(&[1, ROW_WIDTH - 1, ROW_WIDTH]),
+        1 => (ROW_WIDTH * points.len()).saturating_sub(random.pick(&[1, ROW_WIDTH - 1, ROW_WIDTH])),
         2 => 0,
-        _ => 5 * points.len(),
+        _ => ROW_WIDTH * points.len(),
     };
     calls.smooth(&minutes, &values, &points, &bandwidths, rows_len)
 }
@@ -470,15 +487,15 @@ pub fn fill(calls: &mut Calls) -> Found {
             1 => length.saturating_sub(1),
             _ => length,
         };
-        let first = random.next() as u16;
+        let first = random.number() as u16;
         let most = (65_535 - usize::from(first)) / length.max(2).saturating_sub(1);
         let spacing = match random.below(4) {
-            0 => random.next() as u16,
+            0 => random.number() as u16,
             1 => random.below(120) as u16,
             _ => (most + random.below(2)) as u16,
         };
         let preset = if random.chance(8) {
-            random.next() as u32
+            random.number() as u32
         } else {
             random.below(13) as u32
         };
@@ -491,8 +508,8 @@ pub fn fill(calls: &mut Calls) -> Found {
 
 /// A sheet with lists and a buffer of the right lengths.
 fn read_and_write(calls: &mut Calls, sheet: &[u8]) -> Found {
-    calls.read(sheet, READ_LENGTHS)?;
-    calls.text(sheet, OUT_LENGTH)
+    calls.read(sheet, READER)?;
+    calls.text(sheet, MOST_OUTPUT)
 }
 
 pub fn read_and_text(calls: &mut Calls) -> Found {
@@ -507,16 +524,16 @@ pub fn read_and_text(calls: &mut Calls) -> Found {
     let fit = sheets::sheet_of_length(random, 500);
     let too_long = sheets::sheet_of_length(random, 32_769);
     for sheet in [&fit, &fit[1..], &fit[..499], &[], &too_long] {
-        for list in 0..READ_LENGTHS.len() {
-            for length in wrong_lengths(READ_LENGTHS[list]) {
-                let mut lengths = READ_LENGTHS;
+        for list in 0..READER.len() {
+            for length in wrong_lengths(READER[list]) {
+                let mut lengths = READER;
                 lengths[list] = length;
                 calls.read(sheet, lengths)?;
             }
         }
         calls.read(sheet, [0; 5])?;
         calls.read(sheet, [512, 512, 1024, 1024, 2])?;
-        for length in wrong_lengths(OUT_LENGTH)
+        for length in wrong_lengths(MOST_OUTPUT)
             .into_iter()
             .chain([94, 32_768, 32_769])
         {
@@ -527,11 +544,11 @@ pub fn read_and_text(calls: &mut Calls) -> Found {
         let sheet = sheets::some_sheet(random);
         read_and_write(calls, &sheet)?;
         if random.chance(3) {
-            let mut lengths = READ_LENGTHS;
+            let mut lengths = READER;
             let list = random.below(lengths.len());
             lengths[list] = random.pick(&wrong_lengths(lengths[list]));
             calls.read(&sheet, lengths)?;
-            calls.text(&sheet, random.pick(&wrong_lengths(OUT_LENGTH)))?;
+            calls.text(&sheet, random.pick(&wrong_lengths(MOST_OUTPUT)))?;
         }
     }
     Ok(())
@@ -558,11 +575,11 @@ pub fn refusal_text(calls: &mut Calls) -> Found {
     let numbers = written_numbers();
     for &number in &numbers {
         for &place in &numbers {
-            calls.refusal_text(number, place, OUT_LENGTH)?;
+            calls.refusal_text(number, place, MOST_OUTPUT)?;
         }
     }
     for (number, place) in [(4, 52), (0, 0), (8, 0), (u64::MAX, u64::MAX)] {
-        for length in wrong_lengths(OUT_LENGTH)
+        for length in wrong_lengths(MOST_OUTPUT)
             .into_iter()
             .chain([19, 56, 32_768])
         {
@@ -570,11 +587,11 @@ pub fn refusal_text(calls: &mut Calls) -> Found {
         }
     }
     for _ in 0..10_000 {
-        let number = random.next() >> random.below(64);
-        let place = random.next() >> random.below(64);
-        calls.refusal_text(number, place, OUT_LENGTH)?;
+        let number = random.number() >> random.below(64);
+        let place = random.number() >> random.below(64);
+        calls.refusal_text(number, place, MOST_OUTPUT)?;
         if random.chance(3) {
-            let length = random.pick(&wrong_lengths(OUT_LENGTH));
+            let length = random.pick(&wrong_lengths(MOST_OUTPUT));
             calls.refusal_text(number, place, length)?;
         }
     }

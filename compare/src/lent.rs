@@ -1,6 +1,6 @@
 //! Lists that are lent to a call and compared whole afterwards.
 
-use crate::random::Random;
+use reference::generators::random::Random;
 use std::fmt::Debug;
 use std::hint::black_box;
 
@@ -46,8 +46,8 @@ pub struct Lent<T> {
 impl<T: Element> Lent<T> {
     /// A list of `length` elements that holds a pattern.
     pub fn patterned(random: &mut Random, length: usize) -> Lent<T> {
-        let first = random.next();
-        let step = random.next() | 1;
+        let first = random.number();
+        let step = random.number() | 1;
         let at = |i: usize| T::cut(first.wrapping_add(step.wrapping_mul(i as u64)) >> 7);
         let before: Vec<T> = (0..length + 2 * GUARD).map(at).collect();
         let memory = before.clone();

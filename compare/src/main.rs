@@ -9,7 +9,6 @@ mod calls;
 mod cases;
 mod lent;
 mod lists;
-mod random;
 mod sheets;
 mod tally;
 

@@ -1,49 +1,45 @@
 //! Sheets: fit ones, and ones damaged in every way.
 
-use crate::lists::{fit_points, ordered_minutes, some_values, MOST_POINTS, MOST_SAMPLES};
-use crate::random::Random;
+use crate::lists::{LISTS, MOST_POINTS, MOST_SAMPLES};
+use reference::generators::random::Random;
+use reference::generators::sheets::{
+    damage_bytes, damage_lines, fields_of, joined, lengthened, lines_of, lines_with, sheet_of,
+    ByteFault, LineFault, FIELDS,
+};
 use reference::MOST_BYTES;
+
+const LINE_FAULTS: [LineFault; 14] = [
+    LineFault::Twice,
+    LineFault::Gone,
+    LineFault::Elsewhere,
+    LineFault::Empty,
+    LineFault::Joined,
+    LineFault::Split,
+    LineFault::Longer,
+    LineFault::FieldGone,
+    LineFault::ValueField,
+    LineFault::ValueField,
+    LineFault::ValueField,
+    LineFault::ValueField,
+    LineFault::ValueField,
+    LineFault::ValueField,
+];
+
+const BYTE_FAULTS: [ByteFault; 9] = [
+    ByteFault::Bit,
+    ByteFault::Any,
+    ByteFault::Usual,
+    ByteFault::Gone,
+    ByteFault::More,
+    ByteFault::Cut,
+    ByteFault::LastGone,
+    ByteFault::FeedGone,
+    ByteFault::MoreBehind,
+];
 
 /// A small sheet with a line of each kind, discarded injections among them.
 const SMALL: &[u8] =
     b"mark,half\n9,10\n12,13\n65535,65536\n\nminute,inj,vdk\n4,3,7\n8,1,9\n8,2,10\n11,4,65535\n";
-
-/// Fields at, about and over each limit, and wrong ones.
-const FIELDS: [&str; 33] = [
-    "",
-    "0",
-    "00",
-    "1",
-    "01",
-    "2",
-    "3",
-    "9",
-    "10",
-    "65534",
-    "65535",
-    "65536",
-    "65537",
-    "99999",
-    "100000",
-    "065535",
-    "000000",
-    "655350",
-    "131071",
-    "4294967295",
-    "4294967297",
-    "18446744073709551617",
-    "-1",
-    "+1",
-    "1.0",
-    "1e3",
-    " 1",
-    "1 ",
-    "\t1",
-    "0x1",
-    "/",
-    ":",
-    "x",
-];
 
 /// Every sheet that one small damage makes of a small one: each byte gone, replaced, doubled by
 /// another or last; each field replaced.
@@ -102,12 +98,10 @@ pub fn small_damages() -> Vec<Vec<u8>> {
 
 /// A sheet of `points` times one point line and `samples` times one sample line, then more lines.
 fn repeated(points: usize, point_more: &str, samples: usize, sample_more: &str) -> Vec<u8> {
-    let text = format!(
-        "mark,half\n{}{point_more}\nminute,inj,vdk\n{}{sample_more}",
-        "3,2\n".repeat(points),
-        "9,3,4\n".repeat(samples)
-    );
-    text.into_bytes()
+    sheet_of(
+        &("3,2\n".repeat(points) + point_more),
+        &("9,3,4\n".repeat(samples) + sample_more),
+    )
 }
 
 /// Sheets at each limit, one below and one over, and at a limit with one more fault.
@@ -209,42 +203,10 @@ pub fn limits(random: &mut Random) -> Vec<Vec<u8>> {
 
 /// A sheet of exactly `length` bytes, fit but for that: discarded injections make up the length.
 pub fn sheet_of_length(random: &mut Random, length: usize) -> Vec<u8> {
-    let mut sheet = b"mark,half\n20,10\n30,10\n\nminute,inj,vdk\n".to_vec();
-    for _ in 0..random.below(20) {
-        sheet.extend(format!("7,3,{}\n", random.next() as u16).into_bytes());
-    }
-    while length - sheet.len() > 20 {
-        sheet.extend(b"9,1,0\n");
-    }
-    // 15 to 20 bytes are left: two lines of 7 to 10 bytes each.
-    let left = length - sheet.len();
-    for size in [left / 2, left - left / 2] {
-        sheet.extend(b"9,2,");
-        sheet.resize(sheet.len() + size - 5, b'1');
-        sheet.push(b'\n');
-    }
-    sheet
-}
-
-fn lines_of(sheet: &[u8]) -> Vec<Vec<u8>> {
-    let mut lines: Vec<Vec<u8>> = sheet
-        .split(|&byte| byte == b'\n')
-        .map(<[u8]>::to_vec)
+    let samples: String = (0..random.below(20))
+        .map(|_| format!("7,3,{}\n", random.number() as u16))
         .collect();
-    lines.pop();
-    lines
-}
-
-fn fields_of(line: &[u8]) -> Vec<Vec<u8>> {
-    line.split(|&byte| byte == b',')
-        .map(<[u8]>::to_vec)
-        .collect()
-}
-
-fn joined(lines: &[Vec<u8>]) -> Vec<u8> {
-    let mut sheet = lines.join(&b'\n');
-    sheet.push(b'\n');
-    sheet
+    lengthened(sheet_of("20,10\n30,10\n", &samples), length)
 }
 
 /// The lines of a random sheet, fit but now and then over a limit or without points.
@@ -261,137 +223,18 @@ fn some_lines(random: &mut Random) -> Vec<Vec<u8>> {
         2 => 0,
         _ => random.between(1, 6) as usize,
     };
-    let minutes = ordered_minutes(random, samples);
-    let values = some_values(random, samples);
-    let (points, bandwidths) = fit_points(random, &minutes, used);
+    let minutes = LISTS.ordered_minutes(random, samples);
+    let values = LISTS.some_values(random, samples);
+    let (points, bandwidths) = LISTS.fit_points(random, &minutes, used);
     let style = random.below(3);
-
-    let mut lines = vec![b"mark,half".to_vec()];
-    for (point, bandwidth) in points.iter().zip(&bandwidths) {
-        lines.push(format!("{point},{bandwidth}").into_bytes());
-    }
-    lines.push(Vec::new());
-    lines.push(b"minute,inj,vdk".to_vec());
-    for (k, (minute, value)) in minutes.iter().zip(&values).enumerate() {
-        let injection = match style {
+    let injections: Vec<usize> = (0..samples)
+        .map(|k| match style {
             0 => 3,
             1 => random.pick(&[1, 2, 3, 3, 3, 4, 10, 12, 19, 20, 65_535]),
             _ => k + 1,
-        };
-        lines.push(format!("{minute},{injection},{value}").into_bytes());
-    }
-    lines
-}
-
-/// One damage to a sheet's lines.
-fn damage_lines(random: &mut Random, lines: &mut Vec<Vec<u8>>) {
-    if lines.is_empty() {
-        return;
-    }
-    let at = random.below(lines.len());
-    match random.below(14) {
-        // A line twice, gone, elsewhere, empty.
-        0 => lines.insert(at, lines[at].clone()),
-        1 => {
-            lines.remove(at);
-        }
-        2 => {
-            let other = random.below(lines.len());
-            lines.swap(at, other);
-        }
-        3 => lines.insert(at, Vec::new()),
-        // Two lines run together, or one split.
-        4 if at + 1 < lines.len() => {
-            let next = lines.remove(at + 1);
-            lines[at].extend(next);
-        }
-        5 => {
-            let cut = random.below(lines[at].len() + 1);
-            let tail = lines[at].split_off(cut);
-            lines.insert(at + 1, tail);
-        }
-        // A field more, a field less.
-        6 => lines[at].extend(random.pick(&[&b",3"[..], b",", b" ", b"\r", b",0,0"])),
-        7 => {
-            let mut fields = fields_of(&lines[at]);
-            fields.remove(random.below(fields.len()));
-            lines[at] = fields.join(&b',');
-        }
-        _ => damage_field(random, lines),
-    }
-}
-
-/// Changes one field, mostly of a line of values, about the first line too many where there is one.
-fn damage_field(random: &mut Random, lines: &mut [Vec<u8>]) {
-    let numbered: Vec<usize> = (0..lines.len())
-        .filter(|&i| lines[i].first().is_some_and(u8::is_ascii_digit))
+        })
         .collect();
-    let at = if numbered.is_empty() || random.chance(5) {
-        random.below(lines.len())
-    } else if numbered.len() > 500 && random.chance(50) {
-        let header = lines.iter().position(|line| line == b"minute,inj,vdk");
-        let limit = random.pick(&[MOST_POINTS, header.unwrap_or(0) + MOST_SAMPLES]);
-        (limit + random.below(3)).min(lines.len() - 1)
-    } else {
-        random.pick(&numbered)
-    };
-    let before = number(&fields_of(&lines[at.saturating_sub(1)])[0]);
-    let mut fields = fields_of(&lines[at]);
-    let which = random.below(fields.len());
-    let shape = (fields.len(), which);
-    fields[which] = match random.below(12) {
-        0 => random.pick(&FIELDS).as_bytes().to_vec(),
-        1 => [b"0", &fields[which][..]].concat(),
-        // A number moved a little: minutes and points out of order, edges that fall, other injections.
-        2..=5 => {
-            let by = random.pick(&[-30, -3, -2, -1, 1, 2, 3, 30]);
-            (number(&fields[which]) + by)
-                .max(0)
-                .to_string()
-                .into_bytes()
-        }
-        _ if which == 0 => (before - 1).max(0).to_string().into_bytes(),
-        _ if shape == (2, 1) => random
-            .pick(&["0", "65536", "65537", "99999"])
-            .as_bytes()
-            .to_vec(),
-        _ if shape == (3, 1) => random.pick(&["0", "1", "2", "3"]).as_bytes().to_vec(),
-        _ => random.pick(&["0", "65535", "65536"]).as_bytes().to_vec(),
-    };
-    lines[at] = fields.join(&b',');
-}
-
-/// The number of a field, or 0.
-fn number(field: &[u8]) -> i64 {
-    String::from_utf8_lossy(field).parse().unwrap_or(0)
-}
-
-/// One damage to a sheet's bytes.
-fn damage_bytes(random: &mut Random, sheet: &mut Vec<u8>) {
-    if sheet.is_empty() {
-        return;
-    }
-    let at = random.below(sheet.len());
-    match random.below(9) {
-        0 => sheet[at] ^= 1 << random.below(8),
-        1 => sheet[at] = random.next() as u8,
-        2 => sheet[at] = random.pick(b"0123456789,\n\r -"),
-        3 => {
-            sheet.remove(at);
-        }
-        4 => sheet.insert(at, random.pick(b"0123456789,\n\r -")),
-        5 => sheet.truncate(at),
-        6 => {
-            sheet.pop();
-        }
-        7 => {
-            let feeds: Vec<usize> = (0..sheet.len()).filter(|&i| sheet[i] == b'\n').collect();
-            if !feeds.is_empty() {
-                sheet.remove(random.pick(&feeds));
-            }
-        }
-        _ => sheet.extend(random.pick(&[&b"\n"[..], b"\n\n", b"9", b"65535,3,9", b"65535,3,9\n"])),
-    }
+    lines_with(&points, &bandwidths, &minutes, &injections, &values)
 }
 
 /// A random sheet: fit, with lines damaged, with bytes damaged, or hardly a sheet.
@@ -403,7 +246,7 @@ pub fn some_sheet(random: &mut Random) -> Vec<u8> {
         }
         1 => {
             let length = random.below(60);
-            return (0..length).map(|_| random.next() as u8).collect();
+            return (0..length).map(|_| random.number() as u8).collect();
         }
         2 => {
             let length = random.below(60);
@@ -415,14 +258,14 @@ pub fn some_sheet(random: &mut Random) -> Vec<u8> {
     let style = random.below(10);
     if style >= 3 {
         while random.chance(55) {
-            damage_lines(random, &mut lines);
+            damage_lines(random, &LINE_FAULTS, &mut lines);
         }
     }
     let mut sheet = joined(&lines);
     if style >= 7 {
-        damage_bytes(random, &mut sheet);
+        damage_bytes(random, &BYTE_FAULTS, &mut sheet);
         while random.chance(30) {
-            damage_bytes(random, &mut sheet);
+            damage_bytes(random, &BYTE_FAULTS, &mut sheet);
         }
     }
     sheet

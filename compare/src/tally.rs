@@ -1,5 +1,10 @@
 //! How often each answer came.
 
+use reference::exported::DETAIL_UNIT;
+
+/// How many numbers an answer can have.
+const NUMBERS: usize = DETAIL_UNIT as usize;
+
 /// The answers of one call.
 pub struct Tally {
     call: &'static str,
@@ -7,7 +12,7 @@ pub struct Tally {
     listed: &'static [u8],
     cases: u64,
     accepted: u64,
-    reports: [u64; 16],
+    reports: [u64; NUMBERS],
 }
 
 impl Tally {
@@ -17,7 +22,7 @@ impl Tally {
             listed,
             cases: 0,
             accepted: 0,
-            reports: [0; 16],
+            reports: [0; NUMBERS],
         }
     }
 
@@ -56,7 +61,7 @@ impl Tally {
         if self.accepted == 0 {
             return Err(format!("{}: no case was accepted", self.call));
         }
-        for number in 1..16u8 {
+        for number in 1..=u8::MAX {
             let came = self.reports[usize::from(number)] > 0;
             let listed = self.listed.contains(&number);
             if listed && !came {

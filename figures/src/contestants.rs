@@ -1,6 +1,7 @@
 //! The calls that are measured, over one input and one set of buffers.
 
 use figures::inputs::{Buffers, Input};
+use figures::plain::{DETAIL_UNIT, ROW_WIDTH};
 use figures::{direct, plain};
 use tankcurve::slices;
 
@@ -9,12 +10,12 @@ pub struct Contestant {
     pub call: fn(&Input, &mut Buffers) -> u64,
 }
 
-/// Every contestant answers what the proved call returns: 16 × detail + number.
+/// Every contestant answers what the proved call returns: detail and number as one number.
 pub static CALLS: [Contestant; 8] = [
     Contestant {
         name: "tankcurve_smooth",
         call: |input, lent| {
-            let rows = &mut lent.rows[..5 * input.points.len()];
+            let rows = &mut lent.rows[..ROW_WIDTH * input.points.len()];
             let (minutes, values) = (&input.minutes, &input.values);
             slices::smooth(minutes, values, &input.points, &input.bandwidths, rows)
         },
@@ -22,28 +23,31 @@ pub static CALLS: [Contestant; 8] = [
     Contestant {
         name: "plain::smooth",
         call: |input, lent| {
-            let rows = &mut lent.rows[..5 * input.points.len()];
+            let rows = &mut lent.rows[..ROW_WIDTH * input.points.len()];
             let (minutes, values) = (&input.minutes, &input.values);
             let passes = plain::smooth(minutes, values, &input.points, &input.bandwidths, rows);
-            passes.map_or_else(|refusal| refusal.code(), |n| 16 * n)
+            passes.map_or_else(|refusal| refusal.code(), |n| DETAIL_UNIT * n)
         },
     },
     Contestant {
         name: "direct::smooth",
         call: |input, lent| {
-            let rows = &mut lent.rows[..5 * input.points.len()];
+            let rows = &mut lent.rows[..ROW_WIDTH * input.points.len()];
             let (minutes, values) = (&input.minutes, &input.values);
             let passes = direct::smooth(minutes, values, &input.points, &input.bandwidths, rows);
-            passes.map_or_else(|refusal| refusal.code(), |n| 16 * n)
+            passes.map_or_else(|refusal| refusal.code(), |n| DETAIL_UNIT * n)
         },
     },
     Contestant {
         name: "reference::sweep",
         call: |input, lent| {
-            let rows = &mut lent.rows[..5 * input.points.len()];
+            let rows = &mut lent.rows[..ROW_WIDTH * input.points.len()];
             let (minutes, values) = (&input.minutes, &input.values);
             let passes = reference::sweep(minutes, values, &input.points, &input.bandwidths, rows);
-            passes.map_or_else(|r| 16 * r.place + u64::from(r.number), |n| 16 * n)
+            passes.map_or_else(
+                |r| DETAIL_UNIT * r.place + u64::from(r.number),
+                |n| DETAIL_UNIT * n,
+            )
         },
     },
     Contestant {
@@ -86,7 +90,7 @@ pub static CALLS: [Contestant; 8] = [
         name: "plain::text",
         call: |input, lent| {
             let length = plain::text(&input.sheet, &mut lent.out);
-            length.map_or_else(|refusal| refusal.code(), |n| 16 * n as u64)
+            length.map_or_else(|refusal| refusal.code(), |n| DETAIL_UNIT * n as u64)
         },
     },
 ];

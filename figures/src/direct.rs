@@ -1,6 +1,6 @@
 //! Direct evaluation: the same checks and edges, and at every point a sum over its whole run.
 
-use crate::plain::{smooth_fault, value, Refusal};
+use crate::plain::{smooth_fault, value, Refusal, ROW_WIDTH};
 
 /// Weight and sum over a run: h² − (minute − z)², and that times the value.
 fn direct_sums(minutes: &[u16], values: &[u16], z: i64, h: i64) -> (u64, u64) {
@@ -28,7 +28,7 @@ pub fn smooth(
     let mut left = 0;
     let mut right = 0;
     let marks = points.iter().zip(bandwidths);
-    for ((&point, &bandwidth), row) in marks.zip(rows.chunks_exact_mut(5)) {
+    for ((&point, &bandwidth), row) in marks.zip(rows.chunks_exact_mut(ROW_WIDTH)) {
         let z = i64::from(point);
         let h = i64::from(bandwidth);
         while right < minutes.len() && i64::from(minutes[right]) <= z + h {

@@ -1,6 +1,6 @@
 //! What every contestant gets: the same lists or sheet, and the same buffers.
 
-use crate::plain::{MAX_OUTPUT, MAX_POINTS, MAX_SAMPLES};
+use crate::plain::{MAX_OUTPUT, MAX_POINTS, MAX_SAMPLES, ROW_WIDTH};
 
 /// The lists of a grid and its samples, and the sheet that has them.
 pub struct Input {
@@ -19,7 +19,7 @@ pub struct Buffers {
     pub values: [u16; MAX_SAMPLES],
     pub points: [u16; MAX_POINTS],
     pub bandwidths: [u32; MAX_POINTS],
-    pub rows: [u64; 5 * MAX_POINTS],
+    pub rows: [u64; ROW_WIDTH * MAX_POINTS],
     pub counts: [u64; 2],
     pub out: [u8; MAX_OUTPUT],
 }
@@ -32,7 +32,7 @@ impl Buffers {
             values: [0xa5a5; MAX_SAMPLES],
             points: [0xa5a5; MAX_POINTS],
             bandwidths: [0xa5a5_a5a5; MAX_POINTS],
-            rows: [0xa5a5_a5a5_a5a5_a5a5; 5 * MAX_POINTS],
+            rows: [0xa5a5_a5a5_a5a5_a5a5; ROW_WIDTH * MAX_POINTS],
             counts: [0xa5a5_a5a5_a5a5_a5a5; 2],
             out: [0xa5; MAX_OUTPUT],
         })

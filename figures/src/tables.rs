@@ -6,6 +6,7 @@ use crate::measure::{
     BATCH, COUNTED_CALLS, PROCESS_ROUNDS, ROUNDS,
 };
 use figures::inputs::{input, Input};
+use figures::plain::{MAX_OUTPUT, MAX_POINTS, ROW_WIDTH};
 
 /// The bandwidth of every figure but those that name another.
 const BANDWIDTH: u32 = 20_000;
@@ -91,7 +92,7 @@ fn beside_rust(program: &str, plain: &str, full: &Input) -> Result<(), String> {
     let smooths = [SMOOTHS[0], SMOOTHS[1]];
     call_line("sweep: `tankcurve_smooth`", Some(1.1), smooths, full)?;
     call_line("reader: `tankcurve_read`", Some(1.2), READS, full)?;
-    call_line("sheet to text: `tankcurve_text`", None, TEXTS, full)?;
+    call_line("sheet to text: `tankcurve_text`", Some(1.0), TEXTS, full)?;
     let sheets: [(&str, &[u8]); 2] = [("full sheet", &full.sheet), ("empty input", b"")];
     for (what, sheet) in sheets {
         let timed = process_times(&[(program, sheet), (plain, sheet)])?;
@@ -108,13 +109,13 @@ fn beside_rust(program: &str, plain: &str, full: &Input) -> Result<(), String> {
 fn beside_direct_sums() -> Result<(), String> {
     println!("\n### The sweep beside direct evaluation\n");
     println!(
-        "Ratios are direct ÷ `tankcurve_smooth`. The run is the mean number of samples in a window. `direct::smooth` has
-the same checks and edges and sums over the run of each point in 64 bits; `reference::sweep`, the second
-implementation, goes through all samples at each point in 128 bits, here without checks of overflow.
+        "Ratios are direct ÷ `tankcurve_smooth`. The run is the mean number of readings in a window. `direct::smooth` has
+the same checks and edges and sums over the run of each mark in 64 bits; `reference::sweep`, the second
+implementation, goes through all readings at each mark in 128 bits, here without checks of overflow.
 "
     );
     println!(
-        "| bandwidth | run | direct evaluation | its least time | ratio, median | ratio, least | \
+        "| half width | run | direct evaluation | its least time | ratio, median | ratio, least | \
          its instructions | ratio, instructions | goal |"
     );
     println!("|---|---|---|---|---|---|---|---|---|");
@@ -149,7 +150,7 @@ implementation, goes through all samples at each point in 128 bits, here without
     Ok(())
 }
 
-/// The mean number of samples in a window.
+/// The mean number of readings in a window.
 fn mean_run(given: &Input) -> usize {
     let mut all = 0;
     for (&z, &h) in given.points.iter().zip(&given.bandwidths) {
@@ -214,12 +215,12 @@ pub fn print(program: &str, plain: &str) -> Result<(), String> {
         "Before any time was taken the contestants gave equal answers and left equal buffers on {} inputs, those of
 the tables among them and most of the others with a fault, and the two programs wrote the same.
 
-Inputs: {} samples and {} points, minutes 10,000 to 65,242 every 54, points 10,000 to 65,188 every 108,
+Inputs: {} samples and {} points, minutes 10,000 to 65,242 every 54, marks 10,000 to 65,188 every 108,
 bandwidth {} where none is named: a sweep of {} passes. Their sheet has {} bytes, each number five
-digits, every reading kept. A half and a quarter have every second and every fourth minute and point.
+digits, every reading kept. A half and a quarter have every second and every fourth minute and mark.
 
-Buffers: lists and sheets on the heap; the lent buffers (minutes and values 1,024 × 2 bytes, points 512 × 2,
-bandwidths 512 × 4, rows 2,560 × 8, out 31,291) in one block of the heap, the same for all contestants. The
+Buffers: lists and sheets on the heap; the lent buffers (minutes and values 1,024 × 2 bytes, marks 512 × 2,
+half widths 512 × 4, rows {} × 8, out {}) in one block of the heap, the same for all contestants. The
 reader's own lists (7 KB), the text's lists and rows (27 KB) and the programs' sheet and output (64 KB) are on
 the stack, in both languages. Inputs and buffers stay in the cache from call to call.
 
@@ -233,6 +234,8 @@ all, the loader's too.
         grouped(u64::from(BANDWIDTH)),
         grouped(passes(full)),
         grouped(full.sheet.len() as u64),
+        grouped((ROW_WIDTH * MAX_POINTS) as u64),
+        grouped(MAX_OUTPUT as u64),
         grouped(ROUNDS as u64),
         BATCH.as_micros(),
         PROCESS_ROUNDS,
@@ -245,7 +248,7 @@ all, the loader's too.
 }
 
 fn passes(given: &Input) -> u64 {
-    let mut rows = vec![0; 5 * given.points.len()];
+    let mut rows = vec![0; ROW_WIDTH * given.points.len()];
     let (minutes, values) = (&given.minutes, &given.values);
     tankcurve::smooth(minutes, values, &given.points, &given.bandwidths, &mut rows).unwrap_or(0)
 }

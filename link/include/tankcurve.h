@@ -6,10 +6,10 @@
  * has to be tested before it. What the calls mean stands in docs/SPECIFICATION.md; a title in square brackets names its section. Words in
  * quotes are the trade's. A minute counts from pitching; a value is in tenths of a microgram per litre.
  *
- * Every call returns 16 * detail + number. Number 0 means accepted; what the detail then is stands at each call. Number 1 to 13 is a report
- * and the detail its place; every list that was lent then holds what it held before. Each call gives the first of its reports whose
- * condition holds, in the order that stands at it. A place is 0 unless something else is said there. A list for the answer (row, bounds,
- * record, counts, out) of another length than stated is report 8 at place 0, found before all else.
+ * Every call returns TANKCURVE_DETAIL_UNIT * detail + number. Number 0 means accepted; what the detail then is stands at each call. Number 1
+ * to 13 is a report and the detail its place; every list that was lent then holds what it held before. Each call gives the first of its
+ * reports whose condition holds, in the order that stands at it. A place is 0 unless something else is said there. A list for the answer
+ * (row, bounds, record, counts, out) of another length than stated is report 8 at place 0, found before all else.
  *
  * The proof is about the calls on Rattle's abstract machine, where a slice is what it says. Outside it are:
  *   - null pointers, also for empty lists: pass a non-null, aligned pointer with length 0;
@@ -41,6 +41,9 @@ extern "C" {
 #define TANKCURVE_RECORD_LEN 8     /* left, right, s00, s10, s20, s01, s11, s21 */
 #define TANKCURVE_COUNTS_LEN 2     /* samples, points */
 
+/* What one of a detail counts for in what a call returns; every number is below it. */
+#define TANKCURVE_DETAIL_UNIT 256
+
 /* The value of a row of weight 0: missing. */
 #define TANKCURVE_MISSING 65536
 
@@ -69,13 +72,13 @@ enum tankcurve_report {
 /* The number of what a call returned: 0 or a report. */
 static inline enum tankcurve_report tankcurve_number(uint64_t answer)
 {
-    return (enum tankcurve_report)(answer % 16);
+    return (enum tankcurve_report)(answer % TANKCURVE_DETAIL_UNIT);
 }
 
 /* The detail of what a call returned: of a report its place. */
 static inline uint64_t tankcurve_detail(uint64_t answer)
 {
-    return answer / 16;
+    return answer / TANKCURVE_DETAIL_UNIT;
 }
 
 /*
@@ -107,7 +110,7 @@ uint64_t tankcurve_advance(uint64_t *record, size_t record_len, const uint16_t *
                            size_t values_len, uint16_t point, uint32_t bandwidth);
 
 /*
- * The estimates at all points ("the sweep") [The row]. rows: exactly 5 numbers a point, each as a row of tankcurve_evaluate.
+ * The estimates at all points ("the sweep") [The row]. rows: exactly TANKCURVE_ROW_LEN numbers a point, each as a row of tankcurve_evaluate.
  * Detail: the passes, last left plus last right. Reports: 8 (minutes with values, points with bandwidths, or rows), 6, 7, 4, 5, 9, 10; the
  * places of the last four are the lowest position at which the condition holds, for 4, 5 and 10 that of the later one.
  */
@@ -135,16 +138,16 @@ uint64_t tankcurve_read(const uint8_t *sheet, size_t sheet_len, uint16_t *minute
                         size_t counts_len);
 
 /*
- * Writes the curve of a sheet, as the program writes it, to the start of out, which has 31,291 bytes; what is behind it is untouched
- * [Output]. Detail: the bytes written. Reports: 8 (out has another length), then what tankcurve_read reports of the sheet, at the same place:
+ * Writes the curve of a sheet, as the program writes it, to the start of out, which has TANKCURVE_MAX_OUTPUT bytes; what is behind it is
+ * untouched [Output]. Detail: the bytes written. Reports: 8 (out has another length), then what tankcurve_read reports of the sheet, at the same place:
  * 1 (place 32,768), or that of the first faulty line, 2, 7, or 3, 4 or 5, 9, 10, 6. out is then as it was; tankcurve_refusal_text writes
  * what the program writes of that number and place.
  */
 uint64_t tankcurve_text(const uint8_t *sheet, size_t sheet_len, uint8_t *out, size_t out_len);
 
 /*
- * Writes the text of a refusal, as the program writes it, to the start of out, which has 31,291 bytes; what is behind it is untouched
- * [Output]. It is `refused,place` and, on a second line, number, a comma and place in decimal; each line ends in a line feed. number and
+ * Writes the text of a refusal, as the program writes it, to the start of out, which has TANKCURVE_MAX_OUTPUT bytes; what is behind it is
+ * untouched [Output]. It is `refused,place` and, on a second line, number, a comma and place in decimal; each line ends in a line feed. number and
  * place may be any: whether a call reports them is not looked at. Detail: the bytes written, 18 to 56. Report: 8 (out has another length).
  */
 uint64_t tankcurve_refusal_text(uint64_t number, uint64_t place, uint8_t *out, size_t out_len);

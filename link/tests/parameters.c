@@ -49,8 +49,10 @@ static void same_list(const char *what, const void *got, const void *expected, s
 
 static void answers(void)
 {
-    same("number of an answer", tankcurve_number(16 * 52 + 13), TANKCURVE_GRID_OVERFLOW);
-    same("detail of an answer", tankcurve_detail(16 * 52 + 13), 52);
+    same("number of an answer", tankcurve_number(TANKCURVE_DETAIL_UNIT * 52 + 13), TANKCURVE_GRID_OVERFLOW);
+    same("detail of an answer", tankcurve_detail(TANKCURVE_DETAIL_UNIT * 52 + 13), 52);
+    same("the greatest number of an answer", tankcurve_number(TANKCURVE_DETAIL_UNIT * 52 + 255), 255);
+    same("detail beside it", tankcurve_detail(TANKCURVE_DETAIL_UNIT * 52 + 255), 52);
 }
 
 static void evaluate(void)
@@ -59,7 +61,7 @@ static void evaluate(void)
     const uint64_t after[] = {1, 5, 74, 858, 12, 95};
     uint64_t row[TANKCURVE_ROW_LEN + 1] = {90, 91, 92, 93, 94, 95};
     same("evaluate, falling minutes", tankcurve_evaluate(falling, SAMPLES, values, SAMPLES, 14, 7, row, TANKCURVE_ROW_LEN),
-         16 * 4 + TANKCURVE_SAMPLE_OUT_OF_ORDER);
+         TANKCURVE_DETAIL_UNIT * 4 + TANKCURVE_SAMPLE_OUT_OF_ORDER);
     same("evaluate, one value less", tankcurve_evaluate(minutes, SAMPLES, values, SAMPLES - 1, 14, 7, row, TANKCURVE_ROW_LEN),
          TANKCURVE_LENGTH_MISMATCH);
     same("evaluate, a longer row", tankcurve_evaluate(minutes, SAMPLES, values, SAMPLES, 14, 7, row, TANKCURVE_ROW_LEN + 1),
@@ -84,7 +86,7 @@ static void window(void)
     const uint64_t after[] = {1, 5, 92};
     uint64_t bounds[TANKCURVE_BOUNDS_LEN + 1] = {90, 91, 92};
     same("window, falling minutes", tankcurve_window(falling, SAMPLES, values, SAMPLES, 14, 7, bounds, TANKCURVE_BOUNDS_LEN),
-         16 * 4 + TANKCURVE_SAMPLE_OUT_OF_ORDER);
+         TANKCURVE_DETAIL_UNIT * 4 + TANKCURVE_SAMPLE_OUT_OF_ORDER);
     same("window, one value less", tankcurve_window(minutes, SAMPLES, values, SAMPLES - 1, 14, 7, bounds, TANKCURVE_BOUNDS_LEN),
          TANKCURVE_LENGTH_MISMATCH);
     same("window, longer bounds", tankcurve_window(minutes, SAMPLES, values, SAMPLES, 14, 7, bounds, TANKCURVE_BOUNDS_LEN + 1),
@@ -124,7 +126,7 @@ static void smooth(void)
     const uint64_t after[] = {0, 4, 70, 630, 9, 1, 5, 74, 858, 12, 3, 5, 78, 2022, 26, 105};
     uint64_t rows[] = {90, 91, 92, 93, 94, 95, 96, 97, 98, 99, 100, 101, 102, 103, 104, 105};
     same("smooth, an edge decreases", tankcurve_smooth(minutes, SAMPLES, values, SAMPLES, points, 3, widening, 3, rows, 15),
-         16 * 2 + TANKCURVE_EDGE_DECREASES);
+         TANKCURVE_DETAIL_UNIT * 2 + TANKCURVE_EDGE_DECREASES);
     same("smooth, one value less", tankcurve_smooth(minutes, SAMPLES, values, SAMPLES - 1, points, 3, bandwidths, 3, rows, 15),
          TANKCURVE_LENGTH_MISMATCH);
     same("smooth, one bandwidth less", tankcurve_smooth(minutes, SAMPLES, values, SAMPLES, points, 3, bandwidths, 2, rows, 15),
@@ -132,7 +134,7 @@ static void smooth(void)
     same("smooth, longer rows", tankcurve_smooth(minutes, SAMPLES, values, SAMPLES, points, 3, bandwidths, 3, rows, 16),
          TANKCURVE_LENGTH_MISMATCH);
     same_list("smooth, rows of a refusal", rows, before, sizeof before);
-    same("smooth", tankcurve_smooth(minutes, SAMPLES, values, SAMPLES, points, 3, bandwidths, 3, rows, 15), 16 * 8);
+    same("smooth", tankcurve_smooth(minutes, SAMPLES, values, SAMPLES, points, 3, bandwidths, 3, rows, 15), TANKCURVE_DETAIL_UNIT * 8);
     same_list("smooth, rows", rows, after, sizeof after);
 }
 
@@ -146,7 +148,7 @@ static void smooth_lists_of_one_length(void)
     uint64_t rows[SAMPLES * TANKCURVE_ROW_LEN] = {0};
     same("smooth, six points",
          tankcurve_smooth(minutes, SAMPLES, values, SAMPLES, points, SAMPLES, bandwidths, SAMPLES, rows, SAMPLES * TANKCURVE_ROW_LEN),
-         16 * 11);
+         TANKCURVE_DETAIL_UNIT * 11);
     same_list("smooth, rows of six points", rows, after, sizeof after);
 }
 
@@ -193,7 +195,7 @@ static void read(void)
          tankcurve_read((const uint8_t *)falling_sheet, strlen(falling_sheet), read_minutes, TANKCURVE_MAX_SAMPLES, read_values,
                         TANKCURVE_MAX_SAMPLES, points, TANKCURVE_MAX_POINTS, bandwidths, TANKCURVE_MAX_POINTS, counts,
                         TANKCURVE_COUNTS_LEN),
-         16 * 52 + TANKCURVE_SAMPLE_OUT_OF_ORDER);
+         TANKCURVE_DETAIL_UNIT * 52 + TANKCURVE_SAMPLE_OUT_OF_ORDER);
     /* A list of another length, each in turn. */
     for (int k = 0; k < 5; k++)
         same("read, a shorter list",
@@ -234,9 +236,9 @@ static void text(void)
     same("text, a refused sheet and a shorter buffer",
          tankcurve_text((const uint8_t *)falling_sheet, strlen(falling_sheet), out, TANKCURVE_MAX_OUTPUT - 1), TANKCURVE_LENGTH_MISMATCH);
     same("text, a refused sheet", tankcurve_text((const uint8_t *)falling_sheet, strlen(falling_sheet), out, TANKCURVE_MAX_OUTPUT),
-         16 * 52 + TANKCURVE_SAMPLE_OUT_OF_ORDER);
+         TANKCURVE_DETAIL_UNIT * 52 + TANKCURVE_SAMPLE_OUT_OF_ORDER);
     same_list("text, buffer of a refusal", out, all, sizeof all);
-    same("text", tankcurve_text((const uint8_t *)sheet, strlen(sheet), out, TANKCURVE_MAX_OUTPUT), 16 * 94);
+    same("text", tankcurve_text((const uint8_t *)sheet, strlen(sheet), out, TANKCURVE_MAX_OUTPUT), TANKCURVE_DETAIL_UNIT * 94);
     memcpy(all, curve, strlen(curve));
     same_list("text, buffer", out, all, sizeof all);
 }
@@ -250,11 +252,11 @@ static void refusal_text(void)
     same("refusal text, a shorter buffer", tankcurve_refusal_text(4, 52, out, TANKCURVE_MAX_OUTPUT - 1), TANKCURVE_LENGTH_MISMATCH);
     same("refusal text, a longer buffer", tankcurve_refusal_text(4, 52, out, TANKCURVE_MAX_OUTPUT + 1), TANKCURVE_LENGTH_MISMATCH);
     same_list("refusal text, buffer of a refusal", out, all, sizeof all);
-    same("refusal text", tankcurve_refusal_text(4, 52, out, TANKCURVE_MAX_OUTPUT), 16 * 19);
+    same("refusal text", tankcurve_refusal_text(4, 52, out, TANKCURVE_MAX_OUTPUT), TANKCURVE_DETAIL_UNIT * 19);
     memcpy(all, falling_text, strlen(falling_text));
     same_list("refusal text, buffer", out, all, sizeof all);
     /* A number that no call reports. */
-    same("refusal text, any number", tankcurve_refusal_text(UINT64_MAX, 9876543210, out, TANKCURVE_MAX_OUTPUT), 16 * 46);
+    same("refusal text, any number", tankcurve_refusal_text(UINT64_MAX, 9876543210, out, TANKCURVE_MAX_OUTPUT), TANKCURVE_DETAIL_UNIT * 46);
     memcpy(all, wide, strlen(wide));
     same_list("refusal text, buffer of any number", out, all, sizeof all);
 }

@@ -5,6 +5,9 @@
 //! A comment that ends in a title in brackets names the section of
 //! docs/SPECIFICATION.md that its code follows.
 
+pub mod exported;
+pub mod generators;
+
 /// The longest list of kept readings that is no fault [Readings and marks].
 pub const MOST_READINGS: usize = 1024;
 
@@ -18,6 +21,9 @@ pub const MOST_BYTES: usize = 32_768;
 /// line of at most 61 for each of 512 marks, 13 of names, 10 of two counts
 /// [Output].
 pub const MOST_OUTPUT: usize = 31_291;
+
+/// How many numbers a row has [The row].
+pub const ROW_WIDTH: usize = 5;
 
 /// What stands for the value of a row without weight [The row].
 pub const MISSING: u64 = 65_536;
@@ -79,7 +85,7 @@ fn first_fall(list: &[u16]) -> Option<usize> {
 }
 
 /// The five numbers of a mark, over the window with both its ends [The row].
-fn row(minutes: &[u16], values: &[u16], mark: u16, half: u32) -> [u64; 5] {
+fn row(minutes: &[u16], values: &[u16], mark: u16, half: u32) -> [u64; ROW_WIDTH] {
     let z = i128::from(mark);
     let h = i128::from(half);
 
@@ -125,7 +131,7 @@ pub fn one_mark(
     values: &[u16],
     mark: u16,
     half: u32,
-) -> Result<[u64; 5], Refusal> {
+) -> Result<[u64; ROW_WIDTH], Refusal> {
     if minutes.len() != values.len() {
         return refuse(8, 0);
     }
@@ -235,7 +241,7 @@ pub fn sweep(
 ) -> Result<u64, Refusal> {
     if minutes.len() != values.len()
         || marks.len() != halves.len()
-        || rows.len() as u128 != 5 * marks.len() as u128
+        || rows.len() as u128 != (ROW_WIDTH * marks.len()) as u128
     {
         return refuse(8, 0);
     }
@@ -264,7 +270,7 @@ pub fn sweep(
     for (k, (&mark, &half)) in marks.iter().zip(halves).enumerate() {
         let five = row(minutes, values, mark, half);
         for (field, &number) in five.iter().enumerate() {
-            rows[5 * k + field] = number;
+            rows[ROW_WIDTH * k + field] = number;
         }
         passes = five[0] + five[1];
     }

@@ -122,13 +122,13 @@ fn c11_edge_back() {
 fn c12_edge_back_in_a_sheet() {
     let sheet = b"mark,half\n20,10\n21,12\n";
     assert_eq!(program(sheet), b"refused,place\n10,16\n");
-    let mut out = [90; 31291];
+    let mut out = [90; MOST_OUTPUT];
     let refusal = Refusal {
         number: 10,
         place: 16,
     };
     assert_eq!(text(sheet, &mut out), Err(refusal));
-    assert_eq!(out, [90; 31291]);
+    assert_eq!(out, [90; MOST_OUTPUT]);
     assert_eq!(refusal_text(10, 16, &mut out), Ok(20));
     assert_eq!(out[..20], *b"refused,place\n10,16\n");
     assert_eq!(out[20..], [90; 31271]);
@@ -137,7 +137,7 @@ fn c12_edge_back_in_a_sheet() {
 #[test]
 fn whole_sheet() {
     assert_eq!(program(SHEET), WRITTEN);
-    let mut out = [90; 31291];
+    let mut out = [90; MOST_OUTPUT];
     assert_eq!(text(SHEET, &mut out), Ok(WRITTEN.len()));
     assert_eq!(out[..WRITTEN.len()], *WRITTEN);
     assert!(out[WRITTEN.len()..].iter().all(|&b| b == 90));

@@ -522,19 +522,22 @@ fn text_reports() {
     ];
     for (sheet, number, place) in &sheets {
         let sheet = sheet.as_bytes();
-        assert_eq!(texted(sheet, 31291), no(*number, *place));
+        assert_eq!(texted(sheet, MOST_OUTPUT), no(*number, *place));
         // 8 before the report of the sheet.
         for length in WRONG_LENGTHS {
             assert_eq!(texted(sheet, length), no(8, 0));
         }
         // The program tells the refusal that the call returns.
-        let told = refusal_texted(u64::from(*number), *place, 31291);
+        let told = refusal_texted(u64::from(*number), *place, MOST_OUTPUT);
         assert_eq!(told, Ok(program(sheet)));
     }
     for length in WRONG_LENGTHS {
         assert_eq!(texted(HEAD.as_bytes(), length), no(8, 0));
     }
-    assert_eq!(texted(HEAD.as_bytes(), 31291), Ok(program(HEAD.as_bytes())));
+    assert_eq!(
+        texted(HEAD.as_bytes(), MOST_OUTPUT),
+        Ok(program(HEAD.as_bytes()))
+    );
 }
 
 /// 512 lines of 58 bytes, and both counts of four digits.
@@ -546,7 +549,7 @@ fn text_of_a_full_sheet() {
         "0,3,65535\n".repeat(1000),
         "65535,3,65535\n".repeat(24)
     );
-    let written = texted(sheet.as_bytes(), 31291).unwrap();
+    let written = texted(sheet.as_bytes(), MOST_OUTPUT).unwrap();
     assert_eq!(written, program(sheet.as_bytes()));
     assert_eq!(written.len(), 36 + 512 * 58 + 13 + 10);
 }
@@ -567,7 +570,7 @@ fn refusal_texts() {
         (most, most, "18446744073709551615,18446744073709551615"),
     ] {
         let written = format!("refused,place\n{line}\n").into_bytes();
-        assert_eq!(refusal_texted(number, place, 31291), Ok(written));
+        assert_eq!(refusal_texted(number, place, MOST_OUTPUT), Ok(written));
         for length in WRONG_LENGTHS {
             assert_eq!(refusal_texted(number, place, length), no(8, 0));
         }

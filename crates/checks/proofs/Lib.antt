@@ -1,1 +1,2 @@
 pub mod Decreases
+pub mod RowCounts

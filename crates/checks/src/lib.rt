@@ -6,7 +6,7 @@ ghost use mathlib.Core.Path.{_≡_};
 ghost use lib.ListN.{length};
 ghost use Rattle.meanings.specs.Limits.{full as full-limits};
 ghost use Rattle.meanings.specs.Lists.{lowest};
-ghost use Rattle.meanings.specs.Reports.{number, told-found, decreases, bad-bandwidth, edge-below};
+ghost use Rattle.meanings.specs.Reports.{number, found-position, decreases, outside as outside-meaning, bad-bandwidth, uneven-rows, edge-below};
 ghost use Rattle.checks.specs.ReaderLists.{uneven-lists};
 
 // The full limits: 1,024 kept readings and 512 marks.
@@ -42,7 +42,7 @@ pub fn report_number(report: Report) -> u64
 
 // The lowest position whose element is below the one before.
 pub fn first_decrease(xs: &[u16]) -> Found
-    ensures { λ r. ⌜ told-found r ≡ lowest (decreases (now (xs .entry))) (length (now (xs .entry))) ⌝ }
+    ensures { λ r. ⌜ found-position r ≡ lowest (decreases (now (xs .entry))) (length (now (xs .entry))) ⌝ }
 {
     let mut i = 1;
     while i < xs.len() {
@@ -54,14 +54,37 @@ pub fn first_decrease(xs: &[u16]) -> Found
     Found::Nothing
 }
 
-// Whether a half width is out of its range.
-pub fn out_of_range(bandwidth: u32) -> bool
-    ensures { λ r. ⌜ r ≡ bad-bandwidth bandwidth ⌝ }
+// Whether a half width is 0 or over the greatest one.
+pub fn outside(bandwidth: u32, most: u32) -> bool
+    ensures { λ r. ⌜ r ≡ outside-meaning most bandwidth ⌝ }
 {
     if bandwidth == 0 {
         return true;
     }
-    65536 < bandwidth
+    most < bandwidth
+}
+
+// Whether a half width is out of the range of minutes.
+pub fn out_of_range(bandwidth: u32) -> bool
+    ensures { λ r. ⌜ r ≡ bad-bandwidth bandwidth ⌝ }
+{
+    outside(bandwidth, 65536)
+}
+
+// Whether a list of so many numbers has another length than `width` numbers a mark. No product is made, so none wraps.
+pub fn uneven_rows(rows: usize, width: usize, points: usize) -> bool
+    ensures { λ r. ⌜ r ≡ uneven-rows width rows points ⌝ }
+{
+    if width == 0 {
+        return 0 < rows;
+    }
+    if rows % width != 0 {
+        return true;
+    }
+    if rows / width != points {
+        return true;
+    }
+    false
 }
 
 // Whether the reader's lists are of another length than 1,024, 1,024, 512, 512.

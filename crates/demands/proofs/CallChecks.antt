@@ -3,25 +3,31 @@ use Prim.Native.Nat.{ℕ, zero, suc, _+_, _-_, _*_, _≤_, _<_}
 use mathlib.Core.Path.{_≡_, refl, sym, _∙_}
 use mathlib.Core.Bool.{Bool, true, false, true≢false, _||_}
 use mathlib.Core.Logic.{_⊎_, inl, inr}
-use mathlib.Core.List.{List}
+use mathlib.Core.List.{List, [], _++_}
 use native.Mathlib.Omega.{arith}
 use borrow.Author.Tests.{ltb-true, ltb-false, leb-true, leb-false, eqb-true, eqb-false}
 use lib.Dec.{ltb, leb, eqb}
 use lib.ListN.{length, getD}
+use Rattle.meanings.specs.declared.Limits.{Limits}
 use Rattle.meanings.specs.Lists.{lowest}
-use Rattle.meanings.specs.Limits.{full, max-bandwidth}
+use Rattle.meanings.specs.Limits.{full, max-bandwidth, row-width}
 use Rattle.meanings.specs.Grid.{presets}
-use Rattle.meanings.specs.Reports.{at, report, differ, decreases, bad-bandwidth}
-use Rattle.meanings.specs.Reports.{edge-decreases, evaluate-checks, advance-checks, smooth-checks, fill-checks, read-checks, buffer-checks}
+use Rattle.meanings.specs.Reports.{Check, at, differ, decreases, outside, edge-decreases, uneven-samples, uneven-points, uneven-rows}
+use Rattle.meanings.specs.Reports.{size-checks, series-checks, record-checks, bandwidth-checks, curve-size-checks, order-checks}
+use Rattle.meanings.specs.Reports.{bandwidth-list-checks, edge-checks, evaluate-checks, advance-checks, curve-checks, smooth-checks}
+use Rattle.meanings.specs.Reports.{fill-checks, read-checks, buffer-checks}
+use Rattle.meanings.specs.Reports as reports
 use Rattle.meanings.proofs.Checks.{differ-false, differ-same}
-use Rattle.demands.specs.Conditions.{AtZero, FallsAt, OutOfRange, EdgeFallsAt, evaluate-conditions}
-use Rattle.demands.specs.Conditions.{advance-conditions, smooth-conditions, fill-conditions, read-conditions, buffer-conditions}
+use Rattle.demands.specs.Conditions.{Conditions, no-more, condition, AtZero, FallsAt, OutOfRange, EdgeFallsAt, size-conditions}
+use Rattle.demands.specs.Conditions.{series-conditions, record-conditions, bandwidth-conditions, curve-size-conditions, order-conditions}
+use Rattle.demands.specs.Conditions.{bandwidth-list-conditions, evaluate-conditions, advance-conditions, curve-conditions, smooth-conditions}
+use Rattle.demands.specs.Conditions.{fill-conditions, read-conditions, buffer-conditions}
 use Rattle.demands.proofs.FirstFaults.{Finds, FindAll, at-finds, lowest-finds}
 
 -- the test is true where the condition holds, and false where it does not
-record Decides (b : Bool) (C : Type 0) : Type 0 where
-  holds : b ≡ true → C
-  fails : b ≡ false → ¬ C
+pub record Decides (b : Bool) (C : Type 0) : Type 0 where
+  pub holds : b ≡ true → C
+  pub fails : b ≡ false → ¬ C
 
 above : (m n : ℕ) → Decides (ltb m n) (m < n)
 above m n = record { holds = ltb-true m n; fails = λ e l. omega (arith, ltb-false m n e) }
@@ -56,16 +62,16 @@ test-true : (b : Bool) (C : Type 0) → Decides b C → C → b ≡ true
 test-true true C d c = refl
 test-true false C d c = absurd (d .fails refl c)
 
-out-of-range : (h : ℕ) → Decides (bad-bandwidth h) (OutOfRange h)
-out-of-range h = either _ _ _ _ (equal h 0) (above max-bandwidth h)
+out-of-range : (most h : ℕ) → Decides (outside most h) (OutOfRange most h)
+out-of-range most h = either _ _ _ _ (equal h 0) (above most h)
 
 -- a condition of the whole call
-finds : (n : ℕ) {b : Bool} {C : Type 0} → Decides b C → Finds (report n (at 0 b)) n (AtZero C)
+finds : (n : ℕ) {b : Bool} {C : Type 0} → Decides b C → Finds (reports.check n (at 0 b)) n (AtZero C)
 finds n {b} {C} d = at-finds n b C (d .holds) (d .fails)
 
 -- a condition at the positions of a list
 finds-lowest : (n : ℕ) (t : ℕ → Bool) (size : ℕ) (At : ℕ → Type 0) → ((i : ℕ) → At i → i < size) → ((i : ℕ) → i < size → Decides (t i) (At i))
-    → Finds (report n (lowest t size)) n At
+    → Finds (reports.check n (lowest t size)) n At
 finds-lowest n t size At within d =
     lowest-finds n t size At (λ i l e. d i l .holds e) (λ i a. (within i a, test-true (t i) (At i) (d i (within i a)) a))
 
@@ -76,7 +82,7 @@ falls xs (suc i) l =
     (λ f. let n : f .before ≡ i = omega (arith, f .next) in rw n at (f .falls))
     (above (getD xs (suc i) 0) (getD xs i 0))
 
-finds-fall : (n : ℕ) (xs : List ℕ) → Finds (report n (lowest (decreases xs) (length xs))) n (FallsAt xs)
+finds-fall : (n : ℕ) (xs : List ℕ) → Finds (reports.check n (lowest (decreases xs) (length xs))) n (FallsAt xs)
 finds-fall n xs = finds-lowest n (decreases xs) (length xs) (FallsAt xs) (λ i f. f .within) (falls xs)
 
 edge-falls : (zs hs : List ℕ) (i : ℕ) → i < length zs → Decides (edge-decreases zs hs i) (EdgeFallsAt zs hs i)
@@ -87,43 +93,66 @@ edge-falls zs hs (suc i) l =
     (either _ _ _ _ (above (getD zs (suc i) 0 + getD hs i 0) (getD zs i 0 + getD hs (suc i) 0))
     (above (getD zs (suc i) 0 + getD hs (suc i) 0) (getD zs i 0 + getD hs i 0)))
 
+-- the pieces: a list of checks in front of others finds its conditions in front of theirs
+module _ {ks : List Check} {cs : Conditions} where
+  pub size-finds : (L : Limits) (ts vs : List ℕ) → FindAll ks cs → FindAll (size-checks L ts vs ++ ks) (size-conditions L ts vs cs)
+  size-finds L ts vs f = record { each = (finds 8 (unequal _ _), (finds 6 (above _ _), f .each)) }
+
+  pub series-finds : (L : Limits) (ts vs : List ℕ) → FindAll ks cs → FindAll (series-checks L ts vs ++ ks) (series-conditions L ts vs cs)
+  series-finds L ts vs f = record { each = (finds 8 (unequal _ _), (finds 6 (above _ _), (finds-fall 4 ts, f .each))) }
+
+  pub record-finds : (n left right : ℕ) → FindAll ks cs → FindAll (record-checks n left right ++ ks) (record-conditions n left right cs)
+  record-finds n left right f = record { each = (finds 11 (either _ _ _ _ (above _ _) (above _ _)), f .each) }
+
+  pub bandwidth-finds : (h : ℕ) → FindAll ks cs → FindAll (bandwidth-checks h ++ ks) (bandwidth-conditions h cs)
+  bandwidth-finds h f = record { each = (finds 9 (out-of-range max-bandwidth h), f .each) }
+
+  -- one more list is uneven exactly where it does not fit
+  pub curve-size-finds : (L : Limits) (ts vs zs hs : List ℕ) (more : Bool) (Fits : Type 0) → Decides more (¬ Fits) → FindAll ks cs
+      → FindAll (curve-size-checks L ts vs zs hs more ++ ks) (curve-size-conditions L ts vs zs hs Fits cs)
+  curve-size-finds L ts vs zs hs more Fits d f = record {
+    each = (finds 8 lengths, (finds 6 (either _ _ _ _ (above _ _) (above _ _)), (finds 7 (equal _ 0), f .each)));
+  }
+    where
+      lengths : Decides (uneven-samples ts vs || uneven-points zs hs || more) (¬ ((length ts ≡ length vs) × (length zs ≡ length hs) × Fits))
+      lengths =
+          same-condition _ _ _ (λ k a. k ((a .0, a .1), a .2)) (λ k a. k (a .0 .0, a .0 .1, a .1))
+          (either-not _ _ ((length ts ≡ length vs) × (length zs ≡ length hs)) Fits (either-not _ _ _ _ (unequal _ _) (unequal _ _)) d)
+
+  pub order-finds : (ts zs : List ℕ) → FindAll ks cs → FindAll (order-checks ts zs ++ ks) (order-conditions ts zs cs)
+  order-finds ts zs f = record { each = (finds-fall 4 ts, (finds-fall 5 zs, f .each)) }
+
+  pub bandwidth-list-finds : (most : ℕ) (hs : List ℕ) → FindAll ks cs
+      → FindAll (bandwidth-list-checks most hs ++ ks) (bandwidth-list-conditions most hs cs)
+  bandwidth-list-finds most hs f = record {
+    each = (
+      finds-lowest 9 _ (length hs) _ (λ i g. g .0) (λ i l. same-condition _ _ _ (λ o. (l, o)) (λ g. g .1) (out-of-range most (getD hs i 0))),
+      f .each,
+    );
+  }
+
+  pub edge-finds : (zs hs : List ℕ) → FindAll ks cs → FindAll (edge-checks zs hs ++ ks) (condition 10 (EdgeFallsAt zs hs) cs)
+  edge-finds zs hs f = record { each = (finds-lowest 10 _ (length zs) _ (λ i g. g .within) (edge-falls zs hs), f .each) }
+
+-- no check finds no condition
+none-left : FindAll [] no-more
+none-left = record { each = tt }
+
+-- the calls
 pub evaluate-finds : (ts vs : List ℕ) (h : ℕ) → FindAll (evaluate-checks full ts vs h) (evaluate-conditions ts vs h)
-evaluate-finds ts vs h = record { each = (finds 8 (unequal _ _), (finds 6 (above _ _), (finds-fall 4 ts, (finds 9 (out-of-range h), tt)))) }
+evaluate-finds ts vs h = series-finds full ts vs (bandwidth-finds h none-left)
 
 pub advance-finds : (ts vs : List ℕ) (left right h : ℕ) → FindAll (advance-checks full ts vs left right h) (advance-conditions ts vs left right h)
-advance-finds ts vs left right h = record {
-  each = (finds 8 (unequal _ _), (finds 6 (above _ _), (finds 11 (either _ _ _ _ (above _ _) (above _ _)), (finds 9 (out-of-range h), tt))));
-}
+advance-finds ts vs left right h = size-finds full ts vs (record-finds (length ts) left right (bandwidth-finds h none-left))
+
+pub curve-finds : (L : Limits) (ts vs zs hs : List ℕ) (more : Bool) (Fits : Type 0) → Decides more (¬ Fits)
+    → FindAll (curve-checks L ts vs zs hs more) (curve-conditions L ts vs zs hs Fits)
+curve-finds L ts vs zs hs more Fits d =
+    curve-size-finds L ts vs zs hs more Fits d
+    (order-finds ts zs (bandwidth-list-finds max-bandwidth hs (edge-finds zs hs none-left)))
 
 pub smooth-finds : (ts vs zs hs : List ℕ) (rows : ℕ) → FindAll (smooth-checks full ts vs zs hs rows) (smooth-conditions ts vs zs hs rows)
-smooth-finds ts vs zs hs rows = record {
-  each = (
-    finds 8 lengths,
-    (
-      finds 6 (either _ _ _ _ (above _ _) (above _ _)),
-      (
-        finds 7 (equal _ 0),
-        (
-          finds-fall 4 ts,
-          (
-            finds-fall 5 zs,
-            (
-              finds-lowest 9 _ (length hs) _ (λ i f. f .0) (λ i l. same-condition _ _ _ (λ o. (l, o)) (λ f. f .1) (out-of-range (getD hs i 0))),
-              (finds-lowest 10 _ (length zs) _ (λ i f. f .within) (edge-falls zs hs), tt),
-            ),
-          ),
-        ),
-      ),
-    ),
-  );
-}
-  where
-    lengths : Decides (differ (length ts) (length vs) || differ (length zs) (length hs) || differ rows (5 * length zs))
-        (¬ ((length ts ≡ length vs) × (length zs ≡ length hs) × (rows ≡ 5 * length zs)))
-    lengths =
-        same-condition _ _ _ (λ k a. k ((a .0, a .1), a .2)) (λ k a. k (a .0 .0, a .0 .1, a .1))
-        (either-not _ _ ((length ts ≡ length vs) × (length zs ≡ length hs)) (rows ≡ 5 * length zs)
-        (either-not _ _ _ _ (unequal _ _) (unequal _ _)) (unequal _ _))
+smooth-finds ts vs zs hs rows = curve-finds full ts vs zs hs (uneven-rows row-width rows (length zs)) (rows ≡ row-width * length zs) (unequal _ _)
 
 pub fill-finds : (z₀ spacing preset : ℕ) (zs hs : List ℕ)
     → FindAll (fill-checks full (length presets) z₀ spacing preset (length zs) (length hs)) (fill-conditions z₀ spacing preset zs hs)

@@ -12,9 +12,9 @@ use Rattle.meanings.specs.declared.Evaluation.{Evaluation}
 use Rattle.meanings.specs.declared.Advance.{Advance}
 use Rattle.meanings.specs.declared.Smoothing.{Smoothing}
 use Rattle.meanings.specs.declared.Filling.{Filling}
-use Rattle.meanings.specs.declared.Reading.{Reading}
+use Rattle.meanings.specs.declared.Parsing.{Parsing}
 use Rattle.meanings.specs.declared.Writing.{Writing}
-use Rattle.meanings.specs.Limits.{full}
+use Rattle.meanings.specs.Limits.{full, row-width}
 use Rattle.meanings.specs.Moves.{moves}
 use Rattle.meanings.specs.Reports.{Fault, refused, accepted-or}
 use Rattle.meanings.specs.Reports.{first-of, evaluate-checks, advance-checks, read-checks, buffer-checks}
@@ -25,10 +25,11 @@ use Rattle.meanings.specs.Claim.{refusal}
 use Rattle.meanings.specs.Sheet.{or-next, read-sheet}
 use Rattle.meanings.specs.SheetForm.{Refused}
 use Rattle.meanings.specs.Output.{curve-text, refusal-text}
-use Rattle.meanings.specs.Calls.{told-evaluation, told-advance, told-smoothing, told-filling, told-reading, told-writing, evaluate, window}
+use Rattle.meanings.specs.Calls.{evaluation-answer, advance-answer, smoothing-answer, filling-answer, parsing-answer, writing-answer, evaluate, window}
 use Rattle.meanings.specs.Calls.{window-start, smooth, smooth-rows, fill, fill-points, fill-bandwidths, read, counts}
 use Rattle.meanings.specs.Calls.{write, write-buffer, write-refusal-text, refusal-buffer}
-use Rattle.tankcurve_abi.specs.Answers.{answered, untold, sized, stored, bounds, count-numbers, record-numbers, record-of}
+use Rattle.meanings.specs.Codes.{answered, no-detail}
+use Rattle.tankcurve_abi.specs.Answers.{sized, bounds, count-numbers, record-numbers, record-of}
 use Rattle.estimator.proofs.evaluate.Met as evaluate-met
 use Rattle.estimator.proofs.window.Met as window-met
 use Rattle.estimator.proofs.advance.Met as advance-met
@@ -94,7 +95,7 @@ every-input = record {
 }
 
 pub evaluate-refused : (ts vs : List ℕ) (z h : ℕ) (a : Evaluation) → EvaluateCall ts vs z h a
-    → RefusedExactly (refusal (told-evaluation a)) (FirstFault (evaluate-conditions ts vs h))
+    → RefusedExactly (refusal (evaluation-answer a)) (FirstFault (evaluate-conditions ts vs h))
 unfolding evaluate
 evaluate-refused ts vs z h a c = decided-exactly (estimate ts vs z h) (evaluate-finds ts vs h) (c .ensured)
 
@@ -108,13 +109,13 @@ window-refused ts vs z h values-at part c n p f =
     (c .ensured .0 ∙ ap (λ (o : Option Fault). accepted-or o (run-of ts vs z h) []) e, c .ensured .1 .0, omega arith)
 
 pub advance-refused : (r : RunningSums) (ts vs : List ℕ) (z h : ℕ) (a : Advance) → AdvanceCall r ts vs z h a
-    → RefusedExactly (refusal (told-advance a)) (FirstFault (advance-conditions ts vs (r .left) (r .right) h))
+    → RefusedExactly (refusal (advance-answer a)) (FirstFault (advance-conditions ts vs (r .left) (r .right) h))
 unfolding advance
 advance-refused r ts vs z h a c =
     decided-exactly (moved ts vs r z h) (advance-finds ts vs (r .left) (r .right) h) (c .ensured)
 
 pub smooth-refused : (ts vs zs hs rs : List ℕ) (a : Smoothing) (rs′ : List ℕ) → SmoothCall ts vs zs hs rs a rs′
-    → RefusedAndStays (refusal (told-smoothing a)) (FirstFault (smooth-conditions ts vs zs hs (length rs))) (rs′ ≡ rs)
+    → RefusedAndStays (refusal (smoothing-answer a)) (FirstFault (smooth-conditions ts vs zs hs (length rs))) (rs′ ≡ rs)
 unfolding smooth smooth-rows
 smooth-refused ts vs zs hs rs a rs′ c = record {
   exactly = decided-exactly (passes ts vs fresh (moves zs hs)) (smooth-finds ts vs zs hs (length rs)) (c .ensured .0);
@@ -124,7 +125,7 @@ smooth-refused ts vs zs hs rs a rs′ c = record {
 }
 
 pub fill-refused : (z₀ spacing preset : ℕ) (zs hs : List ℕ) (a : Filling) (zs′ hs′ : List ℕ) → FillCall z₀ spacing preset zs hs a zs′ hs′
-    → RefusedAndStays (refusal (told-filling a)) (FirstFault (fill-conditions z₀ spacing preset zs hs)) ((zs′ ≡ zs) × (hs′ ≡ hs))
+    → RefusedAndStays (refusal (filling-answer a)) (FirstFault (fill-conditions z₀ spacing preset zs hs)) ((zs′ ≡ zs) × (hs′ ≡ hs))
 unfolding fill fill-points fill-bandwidths
 fill-refused z₀ spacing preset zs hs a zs′ hs′ c =
     let finds = fill-finds z₀ spacing preset zs hs in
@@ -136,13 +137,13 @@ fill-refused z₀ spacing preset zs hs a zs′ hs′ c =
       );
     }
 
-pub read-refused : (s ts vs zs hs : List ℕ) (a : Reading) (ts′ vs′ zs′ hs′ : List ℕ) → ReadCall s ts vs zs hs a ts′ vs′ zs′ hs′
-    → RefusedAndStays (refusal (told-reading a)) (FirstOrElse (read-conditions ts vs zs hs) (Refused full s))
+pub read-refused : (s ts vs zs hs : List ℕ) (a : Parsing) (ts′ vs′ zs′ hs′ : List ℕ) → ReadCall s ts vs zs hs a ts′ vs′ zs′ hs′
+    → RefusedAndStays (refusal (parsing-answer a)) (FirstOrElse (read-conditions ts vs zs hs) (Refused full s))
     ((ts′ ≡ ts) × (vs′ ≡ vs) × (zs′ ≡ zs) × (hs′ ≡ hs))
 unfolding read
 read-refused s ts vs zs hs a ts′ vs′ zs′ hs′ c =
     let o = read full s ts vs zs hs in
-    let same : refusal (told-reading a) ≡ refusal o = ap refusal (c .ensured .0) ∙ counts-refused o in
+    let same : refusal (parsing-answer a) ≡ refusal o = ap refusal (c .ensured .0) ∙ counts-refused o in
     record {
       exactly = rw same (sheet-exactly (read-finds ts vs zs hs) s);
       stays = λ e q.
@@ -155,18 +156,18 @@ read-refused s ts vs zs hs a ts′ vs′ zs′ hs′ c =
     }
 
 pub text-refused : (s out : List ℕ) (a : Writing) (out′ : List ℕ) → TextCall s out a out′
-    → RefusedAndStays (refusal (told-writing a)) (FirstOrElse (buffer-conditions out) (Refused full s)) (out′ ≡ out)
+    → RefusedAndStays (refusal (writing-answer a)) (FirstOrElse (buffer-conditions out) (Refused full s)) (out′ ≡ out)
 unfolding write write-buffer
 text-refused s out a out′ c =
     let o = or-next (first-of (buffer-checks (length out))) (read-sheet full s) in
-    let same : refusal (told-writing a) ≡ refusal o = ap refusal (c .ensured .0) ∙ size-refused o in
+    let same : refusal (writing-answer a) ≡ refusal o = ap refusal (c .ensured .0) ∙ size-refused o in
     record {
       exactly = rw same (sheet-exactly (buffer-finds out) s);
       stays = λ e q. c .ensured .1 ∙ front-stays o curve-text out e (sym same ∙ q);
     }
 
 pub refusal-text-refused : (n p : ℕ) (out : List ℕ) (a : Writing) (out′ : List ℕ) → RefusalTextCall n p out a out′
-    → RefusedAndStays (refusal (told-writing a)) (FirstFault (buffer-conditions out)) (out′ ≡ out)
+    → RefusedAndStays (refusal (writing-answer a)) (FirstFault (buffer-conditions out)) (out′ ≡ out)
 unfolding write-refusal-text refusal-buffer
 refusal-text-refused n p out a out′ c =
     let t = refusal-text (record { number = n; place = p }) in
@@ -185,23 +186,23 @@ module _ (n : ℕ) (xs ts vs : List ℕ) (z h : ℕ) where
       decided-exactly (estimate ts vs z h) (length-first-finds n xs (evaluate-finds ts vs h))
       (sized-is-checked n xs (evaluate-checks full ts vs h) (estimate ts vs z h))
 
-  pub evaluate-told : (c : ℕ) → c ≡ answered untold (sized n xs (evaluate full ts vs z h)) → code-refusal c ≡ refusal (sized n xs (evaluate full ts vs z h))
-  evaluate-told c q =
-      exported-refusal untold (sized n xs (evaluate full ts vs z h)) c _ q
+  pub evaluate-coded : (c : ℕ) → c ≡ answered no-detail (sized n xs (evaluate full ts vs z h)) → code-refusal c ≡ refusal (sized n xs (evaluate full ts vs z h))
+  evaluate-coded c q =
+      exported-refusal no-detail (sized n xs (evaluate full ts vs z h)) c _ q
       (first-numbered (length-first n xs (evaluate-conditions ts vs h)) refl) evaluate-exactly
 
 pub exported-evaluate-refused : (ts vs : List ℕ) (z h : ℕ) (row : List ℕ) (c : ℕ) (row′ : List ℕ) → ExportedEvaluate ts vs z h row c row′
     → RefusedAndStays (code-refusal c) (FirstFault (length-first 5 row (evaluate-conditions ts vs h))) (row′ ≡ row)
 exported-evaluate-refused ts vs z h row c row′ k =
-    let t = sized 5 row (evaluate full ts vs z h) in
-    exported-stays t c _ (evaluate-told 5 row ts vs z h c (k .ensured .0)) (evaluate-exactly 5 row ts vs z h)
+    let t = sized row-width row (evaluate full ts vs z h) in
+    exported-stays t c _ (evaluate-coded 5 row ts vs z h c (k .ensured .0)) (evaluate-exactly 5 row ts vs z h)
     (row′ ≡ row) (λ e q. k .ensured .1 ∙ stored-stays fields t row e q)
 
 pub exported-window-refused : (ts vs : List ℕ) (z h : ℕ) (bs : List ℕ) (c : ℕ) (bs′ : List ℕ) → ExportedWindow ts vs z h bs c bs′
     → RefusedAndStays (code-refusal c) (FirstFault (length-first 2 bs (evaluate-conditions ts vs h))) (bs′ ≡ bs)
 exported-window-refused ts vs z h bs c bs′ k =
     let t = sized 2 bs (evaluate full ts vs z h) in
-    exported-stays t c _ (evaluate-told 2 bs ts vs z h c (k .ensured .0)) (evaluate-exactly 2 bs ts vs z h)
+    exported-stays t c _ (evaluate-coded 2 bs ts vs z h c (k .ensured .0)) (evaluate-exactly 2 bs ts vs z h)
     (bs′ ≡ bs) (λ e q. k .ensured .1 ∙ stored-stays bounds t bs e q)
 
 -- the step on a list of eight numbers
@@ -214,17 +215,17 @@ module _ (xs ts vs : List ℕ) (z h : ℕ) where
       decided-exactly (moved ts vs r z h) (length-first-finds 8 xs (advance-finds ts vs (r .left) (r .right) h))
       (sized-is-checked 8 xs (advance-checks full ts vs (r .left) (r .right) h) (moved ts vs r z h))
 
-  pub advance-told : (c : ℕ) → c ≡ answered untold (sized 8 xs (advance ts vs (record-of xs) z h))
+  pub advance-coded : (c : ℕ) → c ≡ answered no-detail (sized 8 xs (advance ts vs (record-of xs) z h))
       → code-refusal c ≡ refusal (sized 8 xs (advance ts vs (record-of xs) z h))
-  advance-told c q =
-      exported-refusal untold (sized 8 xs (advance ts vs (record-of xs) z h)) c _ q
+  advance-coded c q =
+      exported-refusal no-detail (sized 8 xs (advance ts vs (record-of xs) z h)) c _ q
       (first-numbered (length-first 8 xs (advance-conditions ts vs (record-of xs .left) (record-of xs .right) h)) refl) advance-exactly
 
 pub exported-advance-refused : (xs ts vs : List ℕ) (z h c : ℕ) (xs′ : List ℕ) → ExportedAdvance xs ts vs z h c xs′
     → RefusedAndStays (code-refusal c) (FirstFault (length-first 8 xs (advance-conditions ts vs (record-of xs .left) (record-of xs .right) h))) (xs′ ≡ xs)
 exported-advance-refused xs ts vs z h c xs′ k =
     let t = sized 8 xs (advance ts vs (record-of xs) z h) in
-    exported-stays t c _ (advance-told xs ts vs z h c (k .ensured .0)) (advance-exactly xs ts vs z h)
+    exported-stays t c _ (advance-coded xs ts vs z h c (k .ensured .0)) (advance-exactly xs ts vs z h)
     (xs′ ≡ xs) (λ e q. k .ensured .1 ∙ stored-stays record-numbers t xs e q)
 
 -- the sweep
@@ -233,8 +234,8 @@ module _ (ts vs zs hs rs : List ℕ) where
   unfolding smooth
   smooth-exactly = decided-exactly (passes ts vs fresh (moves zs hs)) (smooth-finds ts vs zs hs (length rs)) refl
 
-  pub smooth-told : (c : ℕ) → c ≡ answered (λ n. n) (smooth full ts vs zs hs rs) → code-refusal c ≡ refusal (smooth full ts vs zs hs rs)
-  smooth-told c q =
+  pub smooth-coded : (c : ℕ) → c ≡ answered (λ n. n) (smooth full ts vs zs hs rs) → code-refusal c ≡ refusal (smooth full ts vs zs hs rs)
+  smooth-coded c q =
       exported-refusal (λ n. n) (smooth full ts vs zs hs rs) c _ q
       (first-numbered (smooth-conditions ts vs zs hs (length rs)) refl) smooth-exactly
 
@@ -242,7 +243,7 @@ pub exported-smooth-refused : (ts vs zs hs rs : List ℕ) (c : ℕ) (rs′ : Lis
     → RefusedAndStays (code-refusal c) (FirstFault (smooth-conditions ts vs zs hs (length rs))) (rs′ ≡ rs)
 unfolding smooth smooth-rows
 exported-smooth-refused ts vs zs hs rs c rs′ k =
-    exported-stays (smooth full ts vs zs hs rs) c _ (smooth-told ts vs zs hs rs c (k .ensured .0)) (smooth-exactly ts vs zs hs rs) (rs′ ≡ rs)
+    exported-stays (smooth full ts vs zs hs rs) c _ (smooth-coded ts vs zs hs rs c (k .ensured .0)) (smooth-exactly ts vs zs hs rs) (rs′ ≡ rs)
     (decided-stays {t = smooth full ts vs zs hs rs} (passes ts vs fresh (moves zs hs)) (smooth-finds ts vs zs hs (length rs)) refl
     (rows ts vs zs hs (length zs)) rs rs′ (k .ensured .1))
 
@@ -252,9 +253,9 @@ module _ (z₀ spacing preset : ℕ) (zs hs : List ℕ) where
   unfolding fill
   fill-exactly = decided-exactly tt (fill-finds z₀ spacing preset zs hs) refl
 
-  pub fill-told : (c : ℕ) → c ≡ answered untold (fill full z₀ spacing preset zs hs) → code-refusal c ≡ refusal (fill full z₀ spacing preset zs hs)
-  fill-told c q =
-      exported-refusal untold (fill full z₀ spacing preset zs hs) c _ q (first-numbered (fill-conditions z₀ spacing preset zs hs) refl) fill-exactly
+  pub fill-coded : (c : ℕ) → c ≡ answered no-detail (fill full z₀ spacing preset zs hs) → code-refusal c ≡ refusal (fill full z₀ spacing preset zs hs)
+  fill-coded c q =
+      exported-refusal no-detail (fill full z₀ spacing preset zs hs) c _ q (first-numbered (fill-conditions z₀ spacing preset zs hs) refl) fill-exactly
 
 pub exported-fill-refused : (z₀ spacing preset : ℕ) (zs hs : List ℕ) (c : ℕ) (zs′ hs′ : List ℕ) → ExportedFill z₀ spacing preset zs hs c zs′ hs′
     → RefusedAndStays (code-refusal c) (FirstFault (fill-conditions z₀ spacing preset zs hs)) ((zs′ ≡ zs) × (hs′ ≡ hs))
@@ -262,7 +263,7 @@ unfolding fill fill-points fill-bandwidths
 exported-fill-refused z₀ spacing preset zs hs c zs′ hs′ k =
     let finds = fill-finds z₀ spacing preset zs hs in
     let t = fill full z₀ spacing preset zs hs in
-    exported-stays t c _ (fill-told z₀ spacing preset zs hs c (k .ensured .0)) (fill-exactly z₀ spacing preset zs hs) ((zs′ ≡ zs) × (hs′ ≡ hs))
+    exported-stays t c _ (fill-coded z₀ spacing preset zs hs c (k .ensured .0)) (fill-exactly z₀ spacing preset zs hs) ((zs′ ≡ zs) × (hs′ ≡ hs))
     (λ e q. (
       decided-stays {t = t} tt finds refl (grid z₀ spacing (length zs)) zs zs′ (k .ensured .1 .0) e q,
       decided-stays {t = t} tt finds refl (replicate (length hs) (getD presets preset 0)) hs hs′ (k .ensured .1 .1) e q,
@@ -279,10 +280,10 @@ module _ (s ts vs zs hs ns : List ℕ) where
       )
       (sheet-exactly (length-first-finds 2 ns (read-finds ts vs zs hs)) s)
 
-  pub read-told : (c : ℕ) → c ≡ answered untold (counts (sized 2 ns (read full s ts vs zs hs)))
+  pub read-coded : (c : ℕ) → c ≡ answered no-detail (counts (sized 2 ns (read full s ts vs zs hs)))
       → code-refusal c ≡ refusal (counts (sized 2 ns (read full s ts vs zs hs)))
-  read-told c q =
-      exported-refusal untold (counts (sized 2 ns (read full s ts vs zs hs))) c _ q
+  read-coded c q =
+      exported-refusal no-detail (counts (sized 2 ns (read full s ts vs zs hs))) c _ q
       (first-or-else-numbered (length-first 2 ns (read-conditions ts vs zs hs)) refl s) read-exactly
 
 pub exported-read-refused : (s ts vs zs hs ns : List ℕ) (c : ℕ) (ts′ vs′ zs′ hs′ ns′ : List ℕ)
@@ -291,7 +292,7 @@ pub exported-read-refused : (s ts vs zs hs ns : List ℕ) (c : ℕ) (ts′ vs′
     ((ts′ ≡ ts) × (vs′ ≡ vs) × (zs′ ≡ zs) × (hs′ ≡ hs) × (ns′ ≡ ns))
 exported-read-refused s ts vs zs hs ns c ts′ vs′ zs′ hs′ ns′ k =
     let o = sized 2 ns (read full s ts vs zs hs) in
-    exported-stays (counts o) c _ (read-told s ts vs zs hs ns c (k .ensured .0)) (read-exactly s ts vs zs hs ns)
+    exported-stays (counts o) c _ (read-coded s ts vs zs hs ns c (k .ensured .0)) (read-exactly s ts vs zs hs ns)
     ((ts′ ≡ ts) × (vs′ ≡ vs) × (zs′ ≡ zs) × (hs′ ≡ hs) × (ns′ ≡ ns))
     (λ e q.
     let l = sym (counts-refused o) ∙ q in (
@@ -308,15 +309,15 @@ module _ (s out : List ℕ) where
   text-exactly =
       rw (size-refused (or-next (first-of (buffer-checks (length out))) (read-sheet full s))) (sheet-exactly (buffer-finds out) s)
 
-  pub text-told : (c : ℕ) → c ≡ answered (λ n. n) (write s out) → code-refusal c ≡ refusal (write s out)
-  text-told c q = exported-refusal (λ n. n) (write s out) c _ q (first-or-else-numbered (buffer-conditions out) refl s) text-exactly
+  pub text-coded : (c : ℕ) → c ≡ answered (λ n. n) (write s out) → code-refusal c ≡ refusal (write s out)
+  text-coded c q = exported-refusal (λ n. n) (write s out) c _ q (first-or-else-numbered (buffer-conditions out) refl s) text-exactly
 
 pub exported-text-refused : (s out : List ℕ) (c : ℕ) (out′ : List ℕ) → ExportedText s out c out′
     → RefusedAndStays (code-refusal c) (FirstOrElse (buffer-conditions out) (Refused full s)) (out′ ≡ out)
 unfolding write write-buffer
 exported-text-refused s out c out′ k =
     let o = or-next (first-of (buffer-checks (length out))) (read-sheet full s) in
-    exported-stays (write s out) c _ (text-told s out c (k .ensured .0)) (text-exactly s out) (out′ ≡ out)
+    exported-stays (write s out) c _ (text-coded s out c (k .ensured .0)) (text-exactly s out) (out′ ≡ out)
     (λ e q. k .ensured .1 ∙ front-stays o curve-text out e (sym (size-refused o) ∙ q))
 
 module _ (n p : ℕ) (out : List ℕ) where
@@ -324,8 +325,8 @@ module _ (n p : ℕ) (out : List ℕ) where
   unfolding write-refusal-text
   refusal-text-exactly = decided-exactly (length (refusal-text (record { number = n; place = p }))) (buffer-finds out) refl
 
-  pub refusal-text-told : (c : ℕ) → c ≡ answered (λ n. n) (write-refusal-text n p out) → code-refusal c ≡ refusal (write-refusal-text n p out)
-  refusal-text-told c q =
+  pub refusal-text-coded : (c : ℕ) → c ≡ answered (λ n. n) (write-refusal-text n p out) → code-refusal c ≡ refusal (write-refusal-text n p out)
+  refusal-text-coded c q =
       exported-refusal (λ n. n) (write-refusal-text n p out) c _ q (first-numbered (buffer-conditions out) refl) refusal-text-exactly
 
 pub exported-refusal-text-refused : (n p : ℕ) (out : List ℕ) (c : ℕ) (out′ : List ℕ) → ExportedRefusalText n p out c out′
@@ -333,5 +334,5 @@ pub exported-refusal-text-refused : (n p : ℕ) (out : List ℕ) (c : ℕ) (out�
 unfolding write-refusal-text refusal-buffer
 exported-refusal-text-refused n p out c out′ k =
     let t = refusal-text (record { number = n; place = p }) in
-    exported-stays (write-refusal-text n p out) c _ (refusal-text-told n p out c (k .ensured .0)) (refusal-text-exactly n p out) (out′ ≡ out)
+    exported-stays (write-refusal-text n p out) c _ (refusal-text-coded n p out c (k .ensured .0)) (refusal-text-exactly n p out) (out′ ≡ out)
     (decided-stays {t = write-refusal-text n p out} (length t) (buffer-finds out) refl (t ++ drop (length t) out) out out′ (k .ensured .1))

@@ -7,43 +7,44 @@ use mathlib.Core.List.{List, [], _∷_, _++_}
 use mathlib.Core.Option.{Option}
 use native.Mathlib.Omega.{arith}
 use borrow.Author.Tests.{ne-eqb, eq-eqb}
-use lib.Dec.{eqb}
 use lib.ListN.{length, getD, take}
 use Rattle.meanings.specs.declared.RunningSums.{RunningSums}
 use Rattle.meanings.specs.declared.Advance.{Advance}
-use Rattle.meanings.specs.declared.Advance.the-variants.{Moved, Stayed}
+use Rattle.meanings.specs.declared.Advance.the-variants.{Moved}
 use Rattle.meanings.specs.Lists.{AtMost}
 use Rattle.meanings.specs.Limits.{full, max-u16}
 use Rattle.meanings.specs.Moves.{Move, moves}
 use Rattle.meanings.specs.Reports.{Fault, Answer, given, refused}
-use Rattle.meanings.specs.Running.{fresh, advance, settled, after-step, after, record-row}
+use Rattle.meanings.specs.Running.{fresh, advance, next-record, after-step, after, record-row}
 use Rattle.meanings.specs.EventLog.{EventLog}
 use Rattle.meanings.specs.Claim.{StepHolds, refusal, record-after}
-use Rattle.meanings.specs.Calls.{told-advance, smooth, smooth-rows}
+use Rattle.meanings.specs.Calls.{advance-answer, smooth, smooth-rows}
 use Rattle.meanings.proofs.Claim.{demand-3, log-follows, refused-with-8-6-or-9}
 use Rattle.meanings.proofs.Passes.{fresh-within, after-onward, after-append}
+use Rattle.meanings.proofs.Checks.{same-limits}
 use Rattle.meanings.proofs.SmoothLog.{smooth-passes}
 use Rattle.meanings.proofs.SmoothRows.{smooth-row-is-record-row}
-use Rattle.text.specs.Table.{row-at}
-use Rattle.tankcurve_abi.specs.Answers.{answered, untold, sized, stored, record-of, record-numbers}
+use Rattle.text.specs.Table.{stored-row}
+use Rattle.meanings.specs.Codes.{detail-unit, answered, no-detail}
+use Rattle.tankcurve_abi.specs.Answers.{sized, stored, record-of, record-numbers}
 use Rattle.tankcurve_abi.proofs.Stores.{record-read-back}
 use Rattle.demands.specs.Calls.{ExportedAdvance}
 use Rattle.demands.specs.Conditions.{code-refusal}
 use Rattle.demands.specs.Demands.{held, Steps, ExportedSteps, OrderedSteps, LogMatches, Demand3}
 use Rattle.demands.specs.Demands as demands
 use Rattle.demands.proofs.Refusals.{accepted-given}
-use Rattle.demands.proofs.Demand1.{advance-told, smooth-told}
+use Rattle.demands.proofs.Demand1.{advance-coded, smooth-coded}
 use Rattle.demands.proofs.Rows.{five-are-row}
 
-held-is-settled : (r : RunningSums) (a : Advance) → held r a ≡ settled r (told-advance a)
-held-is-settled r (Moved r′) = refl
-held-is-settled r (Stayed e) = refl
+held-is-next-record : (r : RunningSums) (a : Advance) → held r a ≡ next-record r (advance-answer a)
+held-is-next-record r (Moved r′) = refl
+held-is-next-record r (Advance.Refused e) = refl
 
 -- calls leave what the steps' meaning leaves
 left-by-steps : {ts vs : List ℕ} {r r′ : RunningSums} {ms : List Move} → Steps ts vs r ms r′ → r′ ≡ after ts vs r ms
 left-by-steps demands.Steps.no-step = refl
 left-by-steps {ts} {vs} {r} (demands.Steps.one-step {ms = ms} m a c s) =
-    left-by-steps s ∙ ap (λ (q : RunningSums). after ts vs q ms) (held-is-settled r a ∙ ap (settled r) (c .ensured))
+    left-by-steps s ∙ ap (λ (q : RunningSums). after ts vs q ms) (held-is-next-record r a ∙ ap (next-record r) (c .ensured))
 
 -- one step more
 step-leaves : (ts vs : List ℕ) (before : List Move) (m : Move) → after-step ts vs (record-after ts vs before) m ≡ record-after ts vs (before ++ m ∷ [])
@@ -52,7 +53,7 @@ step-leaves ts vs before m = sym (after-append ts vs fresh before (m ∷ []))
 -- the claim of a step, of what a caller has seen of it
 seen-step-holds : (ts vs : List ℕ) (ms before rest : List Move) (m : Move) (f : Option Fault) (r r′ : RunningSums) → OrderedSteps ts vs ms
     → ms ≡ before ++ m ∷ rest → r ≡ record-after ts vs before → f ≡ refusal (advance ts vs r (m .point) (m .bandwidth))
-    → r′ ≡ settled r (advance ts vs r (m .point) (m .bandwidth)) → StepHolds ts vs before m f r r′
+    → r′ ≡ next-record r (advance ts vs r (m .point) (m .bandwidth)) → StepHolds ts vs before m f r r′
 seen-step-holds ts vs ms before rest m f r r′ o q a b c =
     rw (b, c, a, step-leaves ts vs before m)
     (demand-3 ts vs ms (o .minutes) (o .values) (o .ordered) (o .no-edge-back) .each before rest m q)
@@ -72,11 +73,11 @@ matches ts vs ms r o e =
 -- a step on eight numbers is the step on their record
 pub record NumbersStep (xs ts vs : List ℕ) (z h c : ℕ) (xs′ : List ℕ) : Type 0 where
   pub eight : length xs′ ≡ 8
-  pub moves-record : record-of xs′ ≡ settled (record-of xs) (advance ts vs (record-of xs) z h)
+  pub moves-record : record-of xs′ ≡ next-record (record-of xs) (advance ts vs (record-of xs) z h)
   pub tells : code-refusal c ≡ refusal (advance ts vs (record-of xs) z h)
 
 stored-record : (xs : List ℕ) → length xs ≡ 8 → (t : Answer RunningSums)
-    → (length (stored record-numbers t xs) ≡ 8) × (record-of (stored record-numbers t xs) ≡ settled (record-of xs) t)
+    → (length (stored record-numbers t xs) ≡ 8) × (record-of (stored record-numbers t xs) ≡ next-record (record-of xs) t)
 stored-record xs e (given r) = (refl, record-read-back r)
 stored-record xs e (refused f) = (e, refl)
 
@@ -93,7 +94,7 @@ numbers-step xs ts vs z h c xs′ e k =
     record {
       eight = ap length q ∙ s .0;
       moves-record = ap record-of q ∙ s .1;
-      tells = advance-told xs ts vs z h c (k .ensured .0) ∙ ap refusal o;
+      tells = advance-coded xs ts vs z h c (k .ensured .0) ∙ ap refusal o;
     }
 
 left-by-exported : {ts vs xs xs′ : List ℕ} {ms : List Move} → ExportedSteps ts vs xs ms xs′ → length xs ≡ 8
@@ -111,16 +112,16 @@ refused-numbers xs ts vs z h c xs′ n k = let e = ne-eqb (length xs) 8 n in (rw
 module _ (ts vs zs hs rs rs′ : List ℕ) (n : ℕ) (minutes : AtMost max-u16 ts) (values : AtMost max-u16 vs)
     (accepted : smooth full ts vs zs hs rs ≡ given n) (rows : rs′ ≡ smooth-rows full ts vs zs hs rs) where
   row-of-steps : (k : ℕ) → k < length zs
-      → row-at rs′ k ≡ record-row (after ts vs fresh (moves (take (suc k) zs) (take (suc k) hs))) (getD zs k 0) (getD hs k 0)
+      → stored-row rs′ k ≡ record-row (after ts vs fresh (moves (take (suc k) zs) (take (suc k) hs))) (getD zs k 0) (getD hs k 0)
   row-of-steps k l =
       five-are-row rs′ k (record-row (after ts vs fresh (moves (take (suc k) zs) (take (suc k) hs))) (getD zs k 0) (getD hs k 0))
-      (rw rows (smooth-row-is-record-row ts vs zs hs rs n k minutes values accepted l))
+      (rw rows (smooth-row-is-record-row full (same-limits full) ts vs zs hs rs n k minutes values accepted l))
 
 pub demand-3-of-calls : Demand3
 demand-3-of-calls = record {
   each-step = λ ts vs ms before rest m r a o q s c.
-      seen-step-holds ts vs ms before rest m (refusal (told-advance a)) r (held r a) o q (left-by-steps s) (ap refusal (c .ensured))
-      (held-is-settled r a ∙ ap (settled r) (c .ensured));
+      seen-step-holds ts vs ms before rest m (refusal (advance-answer a)) r (held r a) o q (left-by-steps s) (ap refusal (c .ensured))
+      (held-is-next-record r a ∙ ap (next-record r) (c .ensured));
   each-once = λ ts vs ms r o s. matches ts vs ms r o (left-by-steps s);
   refused-with = refused-with-8-6-or-9;
   each-exported-step = λ ts vs ms before rest m xs c xs′ o q s k.
@@ -136,15 +137,15 @@ demand-3-of-calls = record {
   exported-steps-leave = λ ts vs xs xs′ ms e s. left-by-exported s e;
   exported-step-accepted = λ xs ts vs z h c xs′ k q.
       let t = sized 8 xs (advance ts vs (record-of xs) z h) in
-      k .ensured .0 ∙ ap (answered untold) (accepted-given t (sym (advance-told xs ts vs z h c (k .ensured .0)) ∙ q) .1);
+      k .ensured .0 ∙ ap (answered no-detail) (accepted-given t (sym (advance-coded xs ts vs z h c (k .ensured .0)) ∙ q) .1);
   smooth-steps = λ ts vs zs hs rs n rs′ k t v c l. row-of-steps ts vs zs hs rs rs′ n t v (sym (c .ensured .0)) (c .ensured .1) k l;
-  smooth-passes = λ ts vs zs hs rs n rs′ t v c. smooth-passes ts vs zs hs rs n t v (sym (c .ensured .0));
+  smooth-passes = λ ts vs zs hs rs n rs′ t v c. smooth-passes full (same-limits full) ts vs zs hs t v rs n (sym (c .ensured .0));
   exported-smooth-steps = λ ts vs zs hs rs c rs′ k t v x q l.
-      let g = accepted-given (smooth full ts vs zs hs rs) (sym (smooth-told ts vs zs hs rs c (x .ensured .0)) ∙ q) in
+      let g = accepted-given (smooth full ts vs zs hs rs) (sym (smooth-coded ts vs zs hs rs c (x .ensured .0)) ∙ q) in
       row-of-steps ts vs zs hs rs rs′ (g .0) t v (g .1) (x .ensured .1) k l;
   exported-smooth-passes = λ ts vs zs hs rs c rs′ t v x q.
-      let g = accepted-given (smooth full ts vs zs hs rs) (sym (smooth-told ts vs zs hs rs c (x .ensured .0)) ∙ q) in
-      let p = smooth-passes ts vs zs hs rs (g .0) t v (g .1) in
-      let e : c ≡ 16 * g .0 = x .ensured .0 ∙ ap (answered (λ n. n)) (g .1) in
+      let g = accepted-given (smooth full ts vs zs hs rs) (sym (smooth-coded ts vs zs hs rs c (x .ensured .0)) ∙ q) in
+      let p = smooth-passes full (same-limits full) ts vs zs hs t v rs (g .0) (g .1) in
+      let e : c ≡ detail-unit * g .0 = x .ensured .0 ∙ ap (answered (λ n. n)) (g .1) in
       (omega arith, omega arith);
 }

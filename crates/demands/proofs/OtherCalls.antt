@@ -5,11 +5,9 @@ use mathlib.Core.List.{List, _++_}
 use mathlib.Core.Option.{Option, none, some}
 use native.Mathlib.Omega.{arith}
 use lib.ListN.{length, getD, drop, replicate, length-replicate, getD-replicate}
-use Rattle.meanings.specs.declared.Filling.the-variants.{Filled}
 use Rattle.meanings.specs.Limits.{full}
 use Rattle.meanings.specs.Reports.{Fault, given, refused, accepted-or, first-of, read-checks}
 use Rattle.meanings.specs.Grid.{presets, grid}
-use Rattle.meanings.specs.Claim.{refusal}
 use Rattle.meanings.specs.Sheet.{Contents, Outcome, or-next, read-sheet}
 use Rattle.meanings.specs.SheetForm.{IsSheet}
 use Rattle.meanings.specs.Output.{refusal-text}
@@ -17,11 +15,12 @@ use Rattle.meanings.specs.Calls.{Counts, fill-refusal, fill, fill-points, fill-
 use Rattle.meanings.specs.Calls.{filled-front, write, buffer-refusal, write-refusal-text, refusal-buffer}
 use Rattle.meanings.proofs.Checks.{given-accepted}
 use Rattle.meanings.proofs.Grids.{fill-accepts, grid-length, grid-at}
-use Rattle.sheet_laws.proofs.Outcomes.{read-is-printed}
-use Rattle.tankcurve_abi.specs.Answers.{answered, untold, sized, stored, count-numbers}
+use Rattle.laws_sheet.proofs.Outcomes.{read-is-printed}
+use Rattle.meanings.specs.Codes.{detail-unit, answered, no-detail}
+use Rattle.tankcurve_abi.specs.Answers.{sized, stored, count-numbers}
 use Rattle.demands.specs.Demands.{FilledGrid, SheetRead, OtherCalls}
 use Rattle.demands.proofs.Refusals.{accepted-given, sized-opens, counts-refused}
-use Rattle.demands.proofs.Demand1.{fill-told, read-told, text-told, refusal-text-told}
+use Rattle.demands.proofs.Demand1.{fill-coded, read-coded, text-coded, refusal-text-coded}
 use Rattle.demands.proofs.Program.{text-in-front}
 
 filled-grid : (z₀ spacing preset : ℕ) (zs hs zs′ hs′ : List ℕ) → fill full z₀ spacing preset zs hs ≡ given tt
@@ -30,7 +29,7 @@ filled-grid : (z₀ spacing preset : ℕ) (zs hs zs′ hs′ : List ℕ) → fil
 unfolding fill fill-points fill-bandwidths
 filled-grid z₀ spacing preset zs hs zs′ hs′ q a b =
     let f = given-accepted (fill-refusal full z₀ spacing preset zs hs) tt tt q .0 in
-    let e = fill-accepts z₀ spacing preset (length zs) (length hs) f .even in
+    let e = fill-accepts full z₀ spacing preset (length zs) (length hs) f .even in
     let points : zs′ ≡ grid z₀ spacing (length zs) = a ∙ ap (λ (o : Option Fault). accepted-or o (grid z₀ spacing (length zs)) zs) f in
     let bandwidths : hs′ ≡ replicate (length hs) (getD presets preset 0) =
     b ∙ ap (λ (o : Option Fault). accepted-or o (replicate (length hs) (getD presets preset 0)) hs) f in
@@ -92,15 +91,15 @@ other-calls = record {
   refusal-text-writes = λ n p out k out′ c. refusal-in-front n p out k out′ (c .ensured .0) (c .ensured .1);
   exported-fill-fills = λ z₀ spacing preset zs hs c zs′ hs′ k q.
       let t = fill full z₀ spacing preset zs hs in
-      let g = accepted-given t (sym (fill-told z₀ spacing preset zs hs c (k .ensured .0)) ∙ q) in
-      (k .ensured .0 ∙ ap (answered untold) (g .1), filled-grid z₀ spacing preset zs hs zs′ hs′ (g .1) (k .ensured .1 .0) (k .ensured .1 .1));
+      let g = accepted-given t (sym (fill-coded z₀ spacing preset zs hs c (k .ensured .0)) ∙ q) in
+      (k .ensured .0 ∙ ap (answered no-detail) (g .1), filled-grid z₀ spacing preset zs hs zs′ hs′ (g .1) (k .ensured .1 .0) (k .ensured .1 .1));
   exported-read-fills = λ s ts vs zs hs ns c ts′ vs′ zs′ hs′ ns′ k q.
       let r = read full s ts vs zs hs in
       let o = sized 2 ns r in
-      let f = sym (counts-refused o) ∙ sym (read-told s ts vs zs hs ns c (k .ensured .0)) ∙ q in
+      let f = sym (counts-refused o) ∙ sym (read-coded s ts vs zs hs ns c (k .ensured .0)) ∙ q in
       let g = accepted-given o f in
       let open-answer = sym (sized-opens 2 ns r f) ∙ g .1 in (
-        k .ensured .0 ∙ ap (λ (x : Outcome). answered untold (counts x)) (g .1),
+        k .ensured .0 ∙ ap (λ (x : Outcome). answered no-detail (counts x)) (g .1),
         (
           g .0,
           (
@@ -111,11 +110,11 @@ other-calls = record {
         ),
       );
   exported-text-writes = λ s out c out′ k q.
-      let g = accepted-given (write s out) (sym (text-told s out c (k .ensured .0)) ∙ q) in
+      let g = accepted-given (write s out) (sym (text-coded s out c (k .ensured .0)) ∙ q) in
       let w = text-in-front s out (g .0) out′ (sym (g .1)) (k .ensured .1) in
-      (k .ensured .0 ∙ ap (answered (λ n. n)) (g .1) ∙ ap (λ (n : ℕ). 16 * n) (w .0), w .1);
+      (k .ensured .0 ∙ ap (answered (λ n. n)) (g .1) ∙ ap (λ (n : ℕ). detail-unit * n) (w .0), w .1);
   exported-refusal-text-writes = λ n p out c out′ k q.
-      let g = accepted-given (write-refusal-text n p out) (sym (refusal-text-told n p out c (k .ensured .0)) ∙ q) in
+      let g = accepted-given (write-refusal-text n p out) (sym (refusal-text-coded n p out c (k .ensured .0)) ∙ q) in
       let w = refusal-in-front n p out (g .0) out′ (sym (g .1)) (k .ensured .1) in
-      (k .ensured .0 ∙ ap (answered (λ n. n)) (g .1) ∙ ap (λ (n : ℕ). 16 * n) (w .0), w .1);
+      (k .ensured .0 ∙ ap (answered (λ n. n)) (g .1) ∙ ap (λ (n : ℕ). detail-unit * n) (w .0), w .1);
 }

@@ -8,7 +8,7 @@ use mathlib.Core.Option.{Option, none, some}
 use native.Mathlib.Omega.{arith}
 use lib.ListN.{length, getD, drop, replicate, length-replicate}
 use Rattle.meanings.specs.declared.Writing.{Writing}
-use Rattle.meanings.specs.Limits.{full, max-output}
+use Rattle.meanings.specs.Limits.{full, row-width, max-output}
 use Rattle.meanings.specs.Moves.{moves}
 use Rattle.meanings.specs.Reports.{Fault, given, refused, first-of, buffer-checks}
 use Rattle.meanings.specs.Estimate.{estimate}
@@ -18,17 +18,17 @@ use Rattle.meanings.specs.Claim.{refusal}
 use Rattle.meanings.specs.Sheet.{Contents, Outcome, or-next, read-sheet}
 use Rattle.meanings.specs.SheetForm.{IsSheet, Refused}
 use Rattle.meanings.specs.Output.{curve-text, refusal-text, outcome-text, program}
-use Rattle.meanings.specs.Calls.{told-writing, filled-front, curve-size, write, write-buffer, write-refusal-text, refusal-buffer}
-use Rattle.meanings.proofs.Accepted.{published-row}
-use Rattle.meanings.proofs.Checks.{differ-same}
+use Rattle.meanings.specs.Calls.{writing-answer, filled-front, curve-size, write, write-buffer, write-refusal-text, refusal-buffer}
+use Rattle.meanings.proofs.PublishedRows.{published-row}
+use Rattle.meanings.proofs.Checks.{same-limits, differ-same}
 use Rattle.meanings.proofs.SmoothLog.{smooth-passes}
-use Rattle.sheet_laws.proofs.Decided.{Decided, decided, accepted, faulted}
-use Rattle.sheet_laws.proofs.Printed.{printed-is-read, refused-only}
-use Rattle.sheet_laws.proofs.Outcomes.{never-both, one-report}
-use Rattle.output_laws.proofs.AcceptedSheet.{AcceptedContents, accepted-contents}
-use Rattle.output_laws.proofs.Swept.{accepted-sheet-has-passes}
-use Rattle.output_laws.proofs.Front.{program-front}
-use Rattle.output_laws.proofs.OutputFits.{program-fits}
+use Rattle.laws_sheet.proofs.Decided.{Decided, decided, accepted, faulted}
+use Rattle.laws_sheet.proofs.Printed.{printed-is-read, refused-only}
+use Rattle.laws_sheet.proofs.Outcomes.{never-both, one-report}
+use Rattle.laws_output.proofs.AcceptedSheet.{AcceptedContents, accepted-contents}
+use Rattle.laws_output.proofs.Swept.{accepted-sheet-has-passes}
+use Rattle.laws_output.proofs.Front.{program-front}
+use Rattle.laws_output.proofs.OutputFits.{program-fits}
 use Rattle.demands.specs.Calls.{TextCall, RefusalTextCall}
 use Rattle.demands.specs.Demands.{log-passes, Draws, Refuses, ProgramHolds}
 
@@ -69,12 +69,12 @@ draws s c i = record {
     p : (passes (c .minutes) (c .values) fresh (moves (c .points) (c .bandwidths)) ≡ log-passes (c .minutes) (c .values) (moves (c .points) (c .bandwidths)))
         × (passes (c .minutes) (c .values) fresh (moves (c .points) (c .bandwidths)) ≤ 2 * length (c .minutes))
     p =
-        let rs : List ℕ = replicate (5 * length (c .points)) 0 in
-        smooth-passes (c .minutes) (c .values) (c .points) (c .bandwidths) rs _ (a .minute-range) (a .value-range)
-        (accepted-sheet-has-passes s c read rs (length-replicate (5 * length (c .points)) 0))
+        let rs : List ℕ = replicate (row-width * length (c .points)) 0 in
+        smooth-passes full (same-limits full) (c .minutes) (c .values) (c .points) (c .bandwidths) (a .minute-range) (a .value-range) rs _
+        (accepted-sheet-has-passes s c read rs (length-replicate (row-width * length (c .points)) 0))
 
 refuses : (s : List ℕ) (n p : ℕ) → Refused full s n p → Refuses s n p
-refuses s n p r = record { report = r; text = program-goes-by s (refused (record { number = n; place = p })) (refused-only full s n p r) }
+refuses s n p r = record { condition = r; text = program-goes-by s (refused (record { number = n; place = p })) (refused-only full s n p r) }
 
 -- the buffer of an accepted sheet, whatever the buffer's own check says
 curve-in-front : (s out out′ : List ℕ) (k : ℕ) (f : Option Fault) (o : Outcome) → read-sheet full s ≡ o → given k ≡ curve-size (or-next f o)
@@ -95,8 +95,8 @@ refused-sheet s out out′ f (given c) r a b = let z : _≡_ {A = ℕ} 0 1 = cc 
 refused-sheet s out out′ f (refused e) r a b = let q : e ≡ f = cc in (program-goes-by s (refused e) r ∙ ap refusal-text q, b)
 
 by-refusal : (s out out′ out″ : List ℕ) (f : Fault) (a b : Writing) → length out ≡ max-output → TextCall s out a out′
-    → refusal (told-writing a) ≡ some f → RefusalTextCall (f .number) (f .place) out′ b out″
-    → (told-writing b ≡ given (length (program s))) × (out″ ≡ program s ++ drop (length (program s)) out)
+    → refusal (writing-answer a) ≡ some f → RefusalTextCall (f .number) (f .place) out′ b out″
+    → (writing-answer b ≡ given (length (program s))) × (out″ ≡ program s ++ drop (length (program s)) out)
 unfolding write write-buffer write-refusal-text refusal-buffer
 by-refusal s out out′ out″ f a b l c q d =
     let e = differ-same (length out) max-output l in

@@ -1,36 +1,38 @@
 -- From the meaning of a call to its refusals: an answer that a list of checks decides is refused exactly by the list's conditions, a reader's
 -- by its lists' lengths and then by the sheet, and the one number of an exported answer says the same.
-use Prim.Native.Nat.{ℕ, _+_, _*_, _/_, _%_, _≤_}
+use Prim.Native.Nat.{ℕ, _*_, _%_}
 use mathlib.Core.Path.{_≡_, refl, sym, ap, _∙_}
 use mathlib.Core.Bool.{Bool, true, false, true≢false, not, _&&_, and-eq-true-iff}
 use mathlib.Core.Logic.{inl, inr}
 use mathlib.Core.List.{List, _∷_}
 use mathlib.Core.Option.{Option, none, some}
 use native.Mathlib.Omega.{arith}
-use borrow.Author.Tests.{eq-eqb, ne-eqb, eqb-true, eqb-false, leb-true}
-use lib.Dec.{eqb, leb}
+use borrow.Author.Tests.{eq-eqb, ne-eqb, eqb-true, eqb-false, leb-true, ltb-true}
+use lib.Dec.{eqb, ltb, leb}
 use lib.ListN.{length}
 use Rattle.meanings.specs.Lists.{pick}
 use Rattle.meanings.specs.Limits.{full}
-use Rattle.meanings.specs.Moves.{Move}
-use Rattle.meanings.specs.Reports.{Fault, Answer, given, refused, unless, accepted-or, Check, at, report, first-of}
+use Rattle.meanings.specs.Sheet.{EvaluationPoint}
+use Rattle.meanings.specs.Reports.{Fault, Answer, given, refused, unless, accepted-or, Check, at, check, first-of}
 use Rattle.meanings.specs.Claim.{refusal}
 use Rattle.meanings.specs.Sheet.{Injection, Contents, Outcome, or-next, read-sheet}
 use Rattle.meanings.specs.Calls.{counts, curve-size, filled-front}
 use Rattle.meanings.specs.SheetForm.{PointFault, SampleFault, Refused, too-long, no-point-header, no-empty-line}
 use Rattle.meanings.specs.SheetForm.{malformed-point, faulty-point, no-point, no-sample-header, malformed-sample, faulty-sample}
 use Rattle.meanings.proofs.Claim.{refusal-unless}
-use Rattle.sheet_laws.proofs.Outcomes.{never-both, one-report, read-is-printed, refused-is-refused}
-use Rattle.tankcurve_abi.specs.Answers.{answered, sized, stored}
+use Rattle.laws_sheet.proofs.Outcomes.{never-both, one-report, read-is-printed, refused-is-refused}
+use Rattle.meanings.specs.Codes.{detail-unit, answered}
+use Rattle.tankcurve_abi.specs.Answers.{sized, stored}
+use Rattle.meanings.proofs.Codes.{Numbered, code-read-back, accepted-read-back}
 use Rattle.demands.specs.Conditions.{Conditions, no-more, AtZero, FirstFault, FirstOrElse, RefusedExactly, length-first, code-refusal}
 use Rattle.demands.specs.Conditions as conditions
 use Rattle.demands.specs.Demands.{RefusedAndStays}
 use Rattle.demands.proofs.FirstFaults.{Finds, FindAll, first-found, none-found, one-first, none-or-first, exactly, refused-exactly, at-finds}
 
 -- an answer t that the checks ks decide
-module _ {A : Type 0} {t : Answer A} (a : A) {ks : List Check} {cs : Conditions} (finds : FindAll ks cs) (told : t ≡ unless (first-of ks) a) where
+module _ {A : Type 0} {t : Answer A} (a : A) {ks : List Check} {cs : Conditions} (finds : FindAll ks cs) (answer : t ≡ unless (first-of ks) a) where
   pub refusal-is-first : refusal t ≡ first-of ks
-  refusal-is-first = ap refusal told ∙ refusal-unless (first-of ks) a
+  refusal-is-first = ap refusal answer ∙ refusal-unless (first-of ks) a
 
   pub decided-exactly : RefusedExactly (refusal t) (FirstFault cs)
   decided-exactly = rw refusal-is-first (refused-exactly finds)
@@ -69,7 +71,7 @@ module _ {ks : List Check} {cs : Conditions} (finds : FindAll ks cs) (s : List �
 
 -- a list that must have n numbers, as a check in front of others
 abbrev pub length-check : ℕ → List ℕ → Check
-length-check n xs = report 8 (at 0 (not (eqb (length xs) n)))
+length-check n xs = check 8 (at 0 (not (eqb (length xs) n)))
 
 length-finds : (n : ℕ) (xs : List ℕ) → Finds (length-check n xs) 8 (AtZero (¬ (length xs ≡ n)))
 length-finds n xs = at-finds 8 (not (eqb (length xs) n)) (¬ (length xs ≡ n)) (holds (eqb (length xs) n) refl) (fails (eqb (length xs) n) refl)
@@ -91,7 +93,7 @@ pub sized-is-checked : {A : Type 0} (n : ℕ) (xs : List ℕ) (ks : List Check) 
 unfolding sized
 sized-is-checked {A} n xs ks a = by (eqb (length xs) n)
   where
-    by : (b : Bool) → pick b (unless (first-of ks) a) (refused (record { number = 8; place = 0 })) ≡ unless (first-of (report 8 (at 0 (not b)) ∷ ks)) a
+    by : (b : Bool) → pick b (unless (first-of ks) a) (refused (record { number = 8; place = 0 })) ≡ unless (first-of (check 8 (at 0 (not b)) ∷ ks)) a
     by true = refl
     by false = refl
 
@@ -100,7 +102,7 @@ pub sized-sheet-is-checked : (n : ℕ) (xs : List ℕ) (ks : List Check) (o : Ou
 unfolding sized
 sized-sheet-is-checked n xs ks o = by (eqb (length xs) n)
   where
-    by : (b : Bool) → pick b (or-next (first-of ks) o) (refused (record { number = 8; place = 0 })) ≡ or-next (first-of (report 8 (at 0 (not b)) ∷ ks)) o
+    by : (b : Bool) → pick b (or-next (first-of ks) o) (refused (record { number = 8; place = 0 })) ≡ or-next (first-of (check 8 (at 0 (not b)) ∷ ks)) o
     by true = refl
     by false = refl
 
@@ -109,23 +111,20 @@ pub stored-stays : {A : Type 0} (numbers : A → List ℕ) (t : Answer A) (xs : 
 stored-stays numbers (given a) xs e q = let z : _≡_ {A = ℕ} 0 1 = cc in absurd (omega arith)
 stored-stays numbers (refused f) xs e q = refl
 
--- numbers that an exported answer can tell
-abbrev pub Numbered : ℕ → Type 0
-Numbered n = (1 ≤ n) × (n ≤ 15)
-
+-- reports whose numbers an exported answer can tell
 abbrev pub numbered : Conditions → Bool
 numbered no-more = true
-numbered (conditions.report n At cs) = (leb 1 n && leb n 15) && numbered cs
+numbered (conditions.condition n At cs) = (leb 1 n && ltb n detail-unit) && numbered cs
 
 pub first-numbered : (cs : Conditions) → numbered cs ≡ true → (n p : ℕ) → FirstFault cs n p → Numbered n
 first-numbered no-more a n p f = absurd f
-first-numbered (conditions.report m At cs) a n p (inl f) =
-    let b = and-eq-true-iff (leb 1 m) (leb m 15) .0 (and-eq-true-iff (leb 1 m && leb m 15) (numbered cs) .0 a .0) in
-    rw (f .0) (leb-true 1 m (b .0), leb-true m 15 (b .1))
-first-numbered (conditions.report m At cs) a n p (inr f) =
-    first-numbered cs (and-eq-true-iff (leb 1 m && leb m 15) (numbered cs) .0 a .1) n p (f .1)
+first-numbered (conditions.condition m At cs) a n p (inl f) =
+    let b = and-eq-true-iff (leb 1 m) (ltb m detail-unit) .0 (and-eq-true-iff (leb 1 m && ltb m detail-unit) (numbered cs) .0 a .0) in
+    rw (f .0) (leb-true 1 m (b .0), ltb-true m detail-unit (b .1))
+first-numbered (conditions.condition m At cs) a n p (inr f) =
+    first-numbered cs (and-eq-true-iff (leb 1 m && ltb m detail-unit) (numbered cs) .0 a .1) n p (f .1)
 
-point-fault-numbered : {ms : List Move} {m : Move} (n : ℕ) → PointFault full ms m n → Numbered n
+point-fault-numbered : {ms : List EvaluationPoint} {m : EvaluationPoint} (n : ℕ) → PointFault full ms m n → Numbered n
 point-fault-numbered n (PointFault.out-of-order before m₀ e l) = (omega arith, omega arith)
 point-fault-numbered n (PointFault.bandwidth o b) = (omega arith, omega arith)
 point-fault-numbered n (PointFault.edge o b e) = (omega arith, omega arith)
@@ -138,25 +137,22 @@ sample-fault-numbered n (SampleFault.too-many o b l) = (omega arith, omega arith
 pub sheet-numbered : (s : List ℕ) (n p : ℕ) → Refused full s n p → Numbered n
 sheet-numbered s n p (too-long l) = (omega arith, omega arith)
 sheet-numbered s n p (no-point-header l w) = (omega arith, omega arith)
-sheet-numbered s n p (no-empty-line l ms f e) = (omega arith, omega arith)
-sheet-numbered s n p (malformed-point l ms f b rest e c w) = (omega arith, omega arith)
-sheet-numbered s n p (faulty-point l ms f m k b x) = point-fault-numbered n x
-sheet-numbered s n p (no-point l b) = (omega arith, omega arith)
-sheet-numbered s n p (no-sample-header l ms f o rest e w) = (omega arith, omega arith)
-sheet-numbered s n p (malformed-sample l ms f o js g b rest e w) = (omega arith, omega arith)
-sheet-numbered s n p (faulty-sample l ms f o js g j k b x) = sample-fault-numbered n x
+sheet-numbered s n p (no-empty-line l e ms f q) = (omega arith, omega arith)
+sheet-numbered s n p (malformed-point l e ms f b rest q c w) = (omega arith, omega arith)
+sheet-numbered s n p (faulty-point l e ms f m k b x) = point-fault-numbered n x
+sheet-numbered s n p (no-point l e d b) = (omega arith, omega arith)
+sheet-numbered s n p (no-sample-header l e ms f o d rest q w) = (omega arith, omega arith)
+sheet-numbered s n p (malformed-sample l e ms fit o d f js g b rest q w) = (omega arith, omega arith)
+sheet-numbered s n p (faulty-sample l e ms fit o d f js g j k b x) = sample-fault-numbered n x
 
 -- the one number of an answer tells what it was refused with
 pub code-reads : {A : Type 0} (detail : A → ℕ) (t : Answer A) → ((e : Fault) → refusal t ≡ some e → Numbered (e .number))
     → code-refusal (answered detail t) ≡ refusal t
-code-reads detail (given a) f = rw (eq-eqb (16 * detail a % 16) 0 (omega arith))
-code-reads detail (refused e) f = by (e .number) (e .place) (f e refl)
-  where
-    by : (n p : ℕ) → Numbered n → code-refusal (16 * p + n) ≡ some (record { number = n; place = p })
-    by n p l =
-        let m : (16 * p + n) % 16 ≡ n = omega arith in
-        let d : (16 * p + n) / 16 ≡ p = omega arith in
-        rw (m, d, ne-eqb n 0 (λ z. omega arith))
+code-reads detail (given a) f = rw (eq-eqb (detail-unit * detail a % detail-unit) 0 (accepted-read-back (detail a) .0))
+code-reads detail (refused e) f =
+    let n = f e refl in
+    let b = code-read-back e (n .1) in
+    rw (b .0, b .1, ne-eqb (e .number) 0 (λ z. omega (arith, n .0)))
 
 -- so an exported call is refused exactly as its answer is
 pub exported-refusal : {A : Type 0} (detail : A → ℕ) (t : Answer A) (c : ℕ) (R : ℕ → ℕ → Type 0) → c ≡ answered detail t

@@ -12,7 +12,7 @@ use Rattle.meanings.specs.declared.Evaluation.{Evaluation}
 use Rattle.meanings.specs.declared.Advance.{Advance}
 use Rattle.meanings.specs.declared.Smoothing.{Smoothing}
 use Rattle.meanings.specs.declared.Filling.{Filling}
-use Rattle.meanings.specs.declared.Reading.{Reading}
+use Rattle.meanings.specs.declared.Parsing.{Parsing}
 use Rattle.meanings.specs.declared.Writing.{Writing}
 use Rattle.estimator.proofs.evaluate.Reads as evaluate
 use Rattle.estimator.proofs.window.Reads as window
@@ -113,7 +113,7 @@ pub record FillCall (z₀ spacing preset : ℕ) (zs hs : List ℕ) (a : Filling)
       fill-grid.Post lifetimes (z₀, (spacing, (preset, (lent points-at zs, (lent bandwidths-at hs, tt))))) a
       (z₀, (spacing, (preset, (lent points-at zs′, (lent bandwidths-at hs′, tt)))))
 
-pub record ReadCall (s ts vs zs hs : List ℕ) (a : Reading) (ts′ vs′ zs′ hs′ : List ℕ) : Type 0 where
+pub record ReadCall (s ts vs zs hs : List ℕ) (a : Parsing) (ts′ vs′ zs′ hs′ : List ℕ) : Type 0 where
   pub lifetimes : Lfts 5
   pub sheet-at : Place
   pub minutes-at : Place
@@ -141,10 +141,10 @@ pub record ExportedEvaluate (ts vs : List ℕ) (z h : ℕ) (row : List ℕ) (c :
   pub lifetimes : Lfts 3
   pub minutes-at : Place
   pub values-at : Place
-  pub row-at : Place
+  pub stored-row : Place
   pub ensured :
-      exported-evaluate.Post lifetimes (lent minutes-at ts, (lent values-at vs, (z, (h, (lent row-at row, tt))))) c
-      (lent minutes-at ts, (lent values-at vs, (z, (h, (lent row-at row′, tt)))))
+      exported-evaluate.Post lifetimes (lent minutes-at ts, (lent values-at vs, (z, (h, (lent stored-row row, tt))))) c
+      (lent minutes-at ts, (lent values-at vs, (z, (h, (lent stored-row row′, tt)))))
 
 pub record ExportedWindow (ts vs : List ℕ) (z h : ℕ) (bounds : List ℕ) (c : ℕ) (bounds′ : List ℕ) : Type 0 where
   pub lifetimes : Lfts 3

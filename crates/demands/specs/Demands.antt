@@ -17,17 +17,17 @@ use Rattle.meanings.specs.declared.RunningSums.{RunningSums}
 use Rattle.meanings.specs.declared.Evaluation.{Evaluation}
 use Rattle.meanings.specs.declared.Evaluation.the-variants.{Row}
 use Rattle.meanings.specs.declared.Advance.{Advance}
-use Rattle.meanings.specs.declared.Advance.the-variants.{Moved, Stayed}
+use Rattle.meanings.specs.declared.Advance.the-variants.{Moved}
 use Rattle.meanings.specs.declared.Smoothing.{Smoothing}
 use Rattle.meanings.specs.declared.Smoothing.the-variants.{Passes}
 use Rattle.meanings.specs.declared.Filling.{Filling}
 use Rattle.meanings.specs.declared.Filling.the-variants.{Filled}
-use Rattle.meanings.specs.declared.Reading.{Reading}
-use Rattle.meanings.specs.declared.Reading.the-variants.{Used}
+use Rattle.meanings.specs.declared.Parsing.{Parsing}
+use Rattle.meanings.specs.declared.Parsing.the-variants.{Used}
 use Rattle.meanings.specs.declared.Writing.{Writing}
 use Rattle.meanings.specs.declared.Writing.the-variants.{Written}
 use Rattle.meanings.specs.Lists.{AtMost, Ordered}
-use Rattle.meanings.specs.Limits.{full, max-u16, max-sheet, max-output}
+use Rattle.meanings.specs.Limits.{full, max-u16, row-width, max-sheet, max-output}
 use Rattle.meanings.specs.Moves.{Move, moves}
 use Rattle.meanings.specs.Reports.{Fault, given}
 use Rattle.meanings.specs.Estimate.{estimate}
@@ -41,8 +41,9 @@ use Rattle.meanings.specs.SheetForm.{IsSheet, Refused}
 use Rattle.meanings.specs.Output.{curve-text, refusal-text, program}
 use Rattle.meanings.specs.Cases.{AllHold}
 use Rattle.meanings.specs.Document.{document-cases}
-use Rattle.meanings.specs.Calls.{told-evaluation, told-advance, told-smoothing, told-filling, told-reading, told-writing}
-use Rattle.text.specs.Table.{row-at}
+use Rattle.meanings.specs.Calls.{evaluation-answer, advance-answer, smoothing-answer, filling-answer, parsing-answer, writing-answer}
+use Rattle.text.specs.Table.{stored-row}
+use Rattle.meanings.specs.Codes.{detail-unit}
 use Rattle.tankcurve_abi.specs.Answers.{record-of}
 use Rattle.demands.specs.Calls.{Place, EveryInputTaken, EvaluateCall, WindowCall, AdvanceCall, SmoothCall}
 use Rattle.demands.specs.Calls.{FillCall, ReadCall, TextCall, RefusalTextCall, ExportedEvaluate, ExportedWindow}
@@ -76,7 +77,7 @@ pub record Draws (s : List ℕ) (c : Contents) : Type 0 where
 -- the program refuses with report n at byte p
 pub record Refuses (s : List ℕ) (n p : ℕ) : Type 0 where
   -- the report's condition holds at that byte, and nothing that comes before it is at fault
-  pub report : Refused full s n p
+  pub condition : Refused full s n p
   -- what it writes is number and place
   pub text : program s ≡ refusal-text (record { number = n; place = p })
 
@@ -101,8 +102,8 @@ pub record ProgramHolds (s : List ℕ) : Type 0 where
   pub by-curve : (out out′ : List ℕ) (k : ℕ) → TextCall s out (Written k) out′
       → (k ≡ length (program s)) × (out′ ≡ program s ++ drop (length (program s)) out)
   pub by-refusal : (out out′ out″ : List ℕ) (f : Fault) (a b : Writing) → length out ≡ max-output → TextCall s out a out′
-      → refusal (told-writing a) ≡ some f → RefusalTextCall (f .number) (f .place) out′ b out″
-      → (told-writing b ≡ given (length (program s))) × (out″ ≡ program s ++ drop (length (program s)) out)
+      → refusal (writing-answer a) ≡ some f → RefusalTextCall (f .number) (f .place) out′ b out″
+      → (writing-answer b ≡ given (length (program s))) × (out″ ≡ program s ++ drop (length (program s)) out)
 
 -- ---------------------------------------------------------------------------------------------------------------------------------------
 -- Demand 1
@@ -119,30 +120,30 @@ pub record Demand1 : Type 2 where
   pub program-holds : (s : List ℕ) → ProgramHolds s
   -- the question at one mark
   pub evaluate-refused : (ts vs : List ℕ) (z h : ℕ) (a : Evaluation) → EvaluateCall ts vs z h a
-      → RefusedExactly (refusal (told-evaluation a)) (FirstFault (evaluate-conditions ts vs h))
+      → RefusedExactly (refusal (evaluation-answer a)) (FirstFault (evaluate-conditions ts vs h))
   -- its run: where the question is refused the part is empty, at the start of the values
   pub window-refused : (ts vs : List ℕ) (z h : ℕ) (values-at : Place) (part : RefT (List ℕ)) → WindowCall ts vs z h values-at part
       → (n p : ℕ) → FirstFault (evaluate-conditions ts vs h) n p
       → (part .now ≡ []) × (part .ptr .0 ≡ values-at .ptr .0) × (part .ptr .1 ≡ values-at .ptr .1)
   -- the single step, on a record of any origin
   pub advance-refused : (r : RunningSums) (ts vs : List ℕ) (z h : ℕ) (a : Advance) → AdvanceCall r ts vs z h a
-      → RefusedExactly (refusal (told-advance a)) (FirstFault (advance-conditions ts vs (r .left) (r .right) h))
+      → RefusedExactly (refusal (advance-answer a)) (FirstFault (advance-conditions ts vs (r .left) (r .right) h))
   -- the whole sweep
   pub smooth-refused : (ts vs zs hs rs : List ℕ) (a : Smoothing) (rs′ : List ℕ) → SmoothCall ts vs zs hs rs a rs′
-      → RefusedAndStays (refusal (told-smoothing a)) (FirstFault (smooth-conditions ts vs zs hs (length rs))) (rs′ ≡ rs)
+      → RefusedAndStays (refusal (smoothing-answer a)) (FirstFault (smooth-conditions ts vs zs hs (length rs))) (rs′ ≡ rs)
   -- the mark filler
   pub fill-refused : (z₀ spacing preset : ℕ) (zs hs : List ℕ) (a : Filling) (zs′ hs′ : List ℕ) → FillCall z₀ spacing preset zs hs a zs′ hs′
-      → RefusedAndStays (refusal (told-filling a)) (FirstFault (fill-conditions z₀ spacing preset zs hs)) ((zs′ ≡ zs) × (hs′ ≡ hs))
+      → RefusedAndStays (refusal (filling-answer a)) (FirstFault (fill-conditions z₀ spacing preset zs hs)) ((zs′ ≡ zs) × (hs′ ≡ hs))
   -- the reader: its lists' lengths, then the sheet
-  pub read-refused : (s ts vs zs hs : List ℕ) (a : Reading) (ts′ vs′ zs′ hs′ : List ℕ) → ReadCall s ts vs zs hs a ts′ vs′ zs′ hs′
-      → RefusedAndStays (refusal (told-reading a)) (FirstOrElse (read-conditions ts vs zs hs) (Refused full s))
+  pub read-refused : (s ts vs zs hs : List ℕ) (a : Parsing) (ts′ vs′ zs′ hs′ : List ℕ) → ReadCall s ts vs zs hs a ts′ vs′ zs′ hs′
+      → RefusedAndStays (refusal (parsing-answer a)) (FirstOrElse (read-conditions ts vs zs hs) (Refused full s))
       ((ts′ ≡ ts) × (vs′ ≡ vs) × (zs′ ≡ zs) × (hs′ ≡ hs))
   -- a sheet's text: the buffer's length, then the sheet
   pub text-refused : (s out : List ℕ) (a : Writing) (out′ : List ℕ) → TextCall s out a out′
-      → RefusedAndStays (refusal (told-writing a)) (FirstOrElse (buffer-conditions out) (Refused full s)) (out′ ≡ out)
+      → RefusedAndStays (refusal (writing-answer a)) (FirstOrElse (buffer-conditions out) (Refused full s)) (out′ ≡ out)
   -- the text of a refusal: the buffer's length alone
   pub refusal-text-refused : (n p : ℕ) (out : List ℕ) (a : Writing) (out′ : List ℕ) → RefusalTextCall n p out a out′
-      → RefusedAndStays (refusal (told-writing a)) (FirstFault (buffer-conditions out)) (out′ ≡ out)
+      → RefusedAndStays (refusal (writing-answer a)) (FirstFault (buffer-conditions out)) (out′ ≡ out)
   -- the same calls for C and Rust, whose lists of fixed length are looked at first
   pub exported-evaluate-refused : (ts vs : List ℕ) (z h : ℕ) (row : List ℕ) (c : ℕ) (row′ : List ℕ) → ExportedEvaluate ts vs z h row c row′
       → RefusedAndStays (code-refusal c) (FirstFault (length-first 5 row (evaluate-conditions ts vs h))) (row′ ≡ row)
@@ -185,18 +186,18 @@ pub record Demand2 : Type 0 where
       × (part .ptr .0 ≡ values-at .ptr .0) × (part .ptr .1 ≡ values-at .ptr .1 + e .left * 2)
   -- each five numbers of an accepted sweep's rows
   pub smooth-rows : (ts vs zs hs rs : List ℕ) (n : ℕ) (rs′ : List ℕ) → AtMost max-u16 vs → SmoothCall ts vs zs hs rs (Passes n) rs′
-      → (length rs′ ≡ 5 * length zs)
-      × ((k : ℕ) → k < length zs → PublishedRow ts vs (getD zs k 0) (getD hs k 0) (row-at rs′ k))
+      → (length rs′ ≡ row-width * length zs)
+      × ((k : ℕ) → k < length zs → PublishedRow ts vs (getD zs k 0) (getD hs k 0) (stored-row rs′ k))
   -- the same of the calls for C and Rust
   pub exported-row : (ts vs : List ℕ) (z h : ℕ) (row : List ℕ) (c : ℕ) (row′ : List ℕ) → AtMost max-u16 vs
-      → ExportedEvaluate ts vs z h row c row′ → code-refusal c ≡ none → (c ≡ 0) × (length row′ ≡ 5) × PublishedRow ts vs z h (row-at row′ 0)
+      → ExportedEvaluate ts vs z h row c row′ → code-refusal c ≡ none → (c ≡ 0) × (length row′ ≡ row-width) × PublishedRow ts vs z h (stored-row row′ 0)
   pub exported-bounds : (ts vs : List ℕ) (z h : ℕ) (bounds : List ℕ) (c : ℕ) (bounds′ : List ℕ) (e : Estimate) → AtMost max-u16 vs
       → ExportedWindow ts vs z h bounds c bounds′ → code-refusal c ≡ none → PublishedRow ts vs z h e
       → (c ≡ 0) × (bounds′ ≡ e .left ∷ e .right ∷ [])
   pub exported-rows : (ts vs zs hs rs : List ℕ) (c : ℕ) (rs′ : List ℕ) → AtMost max-u16 vs
       → ExportedSmooth ts vs zs hs rs c rs′ → code-refusal c ≡ none
-      → (length rs′ ≡ 5 * length zs)
-      × ((k : ℕ) → k < length zs → PublishedRow ts vs (getD zs k 0) (getD hs k 0) (row-at rs′ k))
+      → (length rs′ ≡ row-width * length zs)
+      × ((k : ℕ) → k < length zs → PublishedRow ts vs (getD zs k 0) (getD hs k 0) (stored-row rs′ k))
 
 -- ---------------------------------------------------------------------------------------------------------------------------------------
 -- Demand 3
@@ -204,7 +205,7 @@ pub record Demand2 : Type 0 where
 -- the record that the caller holds after a step: the new one, or the old one where the step was refused
 abbrev pub held : RunningSums → Advance → RunningSums
 held r (Moved r′) = r′
-held r (Stayed e) = r
+held r (Advance.Refused e) = r
 
 -- calls of `advance` for the steps ms over the same readings, each with the record held after the one before: from the record r to r′
 pub data Steps (ts vs : List ℕ) : RunningSums → List Move → RunningSums → Type 0 where
@@ -240,7 +241,7 @@ pub record Demand3 : Type 0 where
   -- after each step of a list of calls, whatever stands before and after it: the claim of the answer, and of the records held before and after
   pub each-step : (ts vs : List ℕ) (ms before rest : List Move) (m : Move) (r : RunningSums) (a : Advance) → OrderedSteps ts vs ms
       → ms ≡ before ++ m ∷ rest → Steps ts vs fresh before r → AdvanceCall r ts vs (m .point) (m .bandwidth) a
-      → StepHolds ts vs before m (refusal (told-advance a)) r (held r a)
+      → StepHolds ts vs before m (refusal (advance-answer a)) r (held r a)
   -- no reading is inserted twice, none is evicted twice, and none is evicted that was not inserted
   pub each-once : (ts vs : List ℕ) (ms : List Move) (r : RunningSums) → OrderedSteps ts vs ms → Steps ts vs fresh ms r → LogMatches ts vs ms r
   -- what the log refuses a step with, and so by each-step the call, is 8, 6 or 9 at place 0
@@ -263,16 +264,16 @@ pub record Demand3 : Type 0 where
   -- an accepted sweep gives what one step a mark gives: the five numbers of mark k are the row of the record after k + 1 steps from fresh
   pub smooth-steps : (ts vs zs hs rs : List ℕ) (n : ℕ) (rs′ : List ℕ) (k : ℕ) → AtMost max-u16 ts → AtMost max-u16 vs
       → SmoothCall ts vs zs hs rs (Passes n) rs′ → k < length zs
-      → row-at rs′ k ≡ record-row (after ts vs fresh (moves (take (suc k) zs) (take (suc k) hs))) (getD zs k 0) (getD hs k 0)
+      → stored-row rs′ k ≡ record-row (after ts vs fresh (moves (take (suc k) zs) (take (suc k) hs))) (getD zs k 0) (getD hs k 0)
   -- its passes are the insertions plus evictions of an event log of its lists, at most two for each reading
   pub smooth-passes : (ts vs zs hs rs : List ℕ) (n : ℕ) (rs′ : List ℕ) → AtMost max-u16 ts → AtMost max-u16 vs
       → SmoothCall ts vs zs hs rs (Passes n) rs′ → (n ≡ log-passes ts vs (moves zs hs)) × (n ≤ 2 * length ts)
-  -- the same of the call for C and Rust, whose answer is 16 × passes
+  -- the same of the call for C and Rust, whose answer is the passes in units of its detail
   pub exported-smooth-steps : (ts vs zs hs rs : List ℕ) (c : ℕ) (rs′ : List ℕ) (k : ℕ) → AtMost max-u16 ts → AtMost max-u16 vs
       → ExportedSmooth ts vs zs hs rs c rs′ → code-refusal c ≡ none → k < length zs
-      → row-at rs′ k ≡ record-row (after ts vs fresh (moves (take (suc k) zs) (take (suc k) hs))) (getD zs k 0) (getD hs k 0)
+      → stored-row rs′ k ≡ record-row (after ts vs fresh (moves (take (suc k) zs) (take (suc k) hs))) (getD zs k 0) (getD hs k 0)
   pub exported-smooth-passes : (ts vs zs hs rs : List ℕ) (c : ℕ) (rs′ : List ℕ) → AtMost max-u16 ts → AtMost max-u16 vs
-      → ExportedSmooth ts vs zs hs rs c rs′ → code-refusal c ≡ none → (c ≡ 16 * log-passes ts vs (moves zs hs)) × (c ≤ 16 * (2 * length ts))
+      → ExportedSmooth ts vs zs hs rs c rs′ → code-refusal c ≡ none → (c ≡ detail-unit * log-passes ts vs (moves zs hs)) × (c ≤ detail-unit * (2 * length ts))
 
 -- ---------------------------------------------------------------------------------------------------------------------------------------
 -- What the calls beside rows and steps give where they are accepted
@@ -309,9 +310,9 @@ pub record OtherCalls : Type 0 where
       → ExportedRead s ts vs zs hs ns c ts′ vs′ zs′ hs′ ns′ → code-refusal c ≡ none
       → (c ≡ 0) × ((d : Contents) × ((ns′ ≡ length (d .minutes) ∷ length (d .points) ∷ []) × SheetRead s d ts vs zs hs ts′ vs′ zs′ hs′))
   pub exported-text-writes : (s out : List ℕ) (c : ℕ) (out′ : List ℕ) → ExportedText s out c out′ → code-refusal c ≡ none
-      → (c ≡ 16 * length (program s)) × (out′ ≡ program s ++ drop (length (program s)) out)
+      → (c ≡ detail-unit * length (program s)) × (out′ ≡ program s ++ drop (length (program s)) out)
   pub exported-refusal-text-writes : (n p : ℕ) (out : List ℕ) (c : ℕ) (out′ : List ℕ) → ExportedRefusalText n p out c out′ → code-refusal c ≡ none
-      → (c ≡ 16 * length (refusal-text (record { number = n; place = p })))
+      → (c ≡ detail-unit * length (refusal-text (record { number = n; place = p })))
       × (out′ ≡ refusal-text (record { number = n; place = p }) ++ drop (length (refusal-text (record { number = n; place = p }))) out)
 
 -- ---------------------------------------------------------------------------------------------------------------------------------------

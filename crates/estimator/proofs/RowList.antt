@@ -11,10 +11,11 @@ use lib.Seq.{sets, sets-eq, take-at, drop-append-add, drop-drop}
 use Rattle.meanings.specs.declared.Estimate.{Estimate}
 use Rattle.meanings.specs.declared.PowerSums.{PowerSums}
 use Rattle.meanings.specs.declared.RunningSums.{RunningSums}
+use Rattle.meanings.specs.Limits.{row-width}
 use Rattle.meanings.specs.Estimate.{estimate, fields, rows}
 use Rattle.meanings.specs.Moves.{moves}
 use Rattle.meanings.specs.Running.{six, fresh, moved, passes}
-use Rattle.meanings.proofs.Checks.{StepAccepted}
+use Rattle.meanings.proofs.Checks.{AdvanceAccepted}
 use Rattle.meanings.proofs.Steps.{Small}
 use Rattle.meanings.proofs.SmoothRows.{rows-length}
 use Rattle.meanings.proofs.SmoothSteps.{SmoothAccepted, running-at, step-lands, running-within, passes-are-edges}
@@ -38,14 +39,14 @@ pub record SmoothedTo (ts vs zs hs R₀ : List ℕ) (k : ℕ) (R : List ℕ) (r 
   pub small : Small ts vs
   pub accepted : SmoothAccepted ts vs zs hs (length R₀)
   pub upto : k ≤ length zs
-  pub stored : R ≡ rows ts vs zs hs k ++ drop (5 * k) R₀
+  pub stored : R ≡ rows ts vs zs hs k ++ drop (row-width * k) R₀
   pub running : r ≡ running-at ts vs zs hs k
 
 pub smoothed-begins : {ts vs zs hs R₀ : List ℕ} {q : PowerSums} → SmoothAccepted ts vs zs hs (length R₀)
     → ((i : ℕ) → Fits w16 (getD ts i 0)) → ((i : ℕ) → Fits w16 (getD vs i 0)) → q ≡ six (λ p q. 0)
     → SmoothedTo ts vs zs hs R₀ 0 R₀ (record { left = 0; right = 0; sums = q })
 smoothed-begins a t v e = record {
-  small = of-16-bits (a .even) (a .few) t v;
+  small = of-16-bits (a .lists .even) (a .lists .few) t v;
   accepted = a;
   upto = zero-le;
   stored = refl;
@@ -56,23 +57,23 @@ module _ {ts vs zs hs R₀ : List ℕ} {k : ℕ} {R : List ℕ} {r : RunningSums
   pub stored-length : length R ≡ length R₀
   stored-length =
       ap length (w .stored)
-      ∙ length-append (rows ts vs zs hs k) (drop (5 * k) R₀)
-      ∙ omega (arith, rows-length ts vs zs hs k, length-drop (5 * k) R₀, w .upto, w .accepted .rows-five)
+      ∙ length-append (rows ts vs zs hs k) (drop (row-width * k) R₀)
+      ∙ omega (arith, rows-length ts vs zs hs k, length-drop (row-width * k) R₀, w .upto, w .accepted .rows-fit)
 
   -- the record's edges lie within the readings
   edges-within : (r .left ≤ r .right) × (r .right ≤ length ts)
-  edges-within = rw (w .running) (running-within ts vs zs hs (length R₀) (w .small) (w .accepted) k)
+  edges-within = rw (w .running) (running-within ts vs zs hs (w .small) (w .accepted .lists) k)
 
-  pub can-move : k < length zs → StepAccepted ts vs (r .left) (r .right) (getD hs k 0)
+  pub can-move : k < length zs → AdvanceAccepted ts vs (r .left) (r .right) (getD hs k 0)
   can-move l =
-      let h = w .accepted .bandwidths k l in
+      let h = w .accepted .lists .bandwidths k l in
       record { even = w .small .even; few = w .small .few; edges = edges-within .0; inside = edges-within .1; positive = h .0; bandwidth = h .1 }
 
   pub passes-fit : r .right + r .left < 2 ^ 64
   passes-fit = omega (arith, edges-within, w .small .few)
 
-  pub row-has-room : k < length zs → 5 * k + 5 ≤ length R
-  row-has-room l = omega (arith, stored-length, w .accepted .rows-five)
+  pub row-has-room : k < length zs → row-width * k + row-width ≤ length R
+  row-has-room l = omega (arith, stored-length, w .accepted .rows-fit)
 
   module _ {r′ : RunningSums} (l : k < length zs) (m : r′ ≡ moved ts vs r (getD zs k 0) (getD hs k 0)) where
     -- the step's record is the next window's
@@ -80,22 +81,22 @@ module _ {ts vs zs hs R₀ : List ℕ} {k : ℕ} {R : List ℕ} {r : RunningSums
     next-running =
         m
         ∙ ap (λ (q : RunningSums). moved ts vs q (getD zs k 0) (getD hs k 0)) (w .running)
-        ∙ step-lands ts vs zs hs (length R₀) (w .small) (w .accepted) k l
+        ∙ step-lands ts vs zs hs (w .small) (w .accepted .lists) k l
 
     -- of which a row can be had
     pub next-fits : SumsFit (r′ .sums) (getD zs k 0) (getD hs k 0)
     next-fits =
         rw next-running
-        (window-sums-fit ts vs (getD zs k 0) (getD hs k 0) (w .accepted .ordered) (w .small) (w .accepted .bandwidths k l .1))
+        (window-sums-fit ts vs (getD zs k 0) (getD hs k 0) (w .accepted .lists .ordered) (w .small) (w .accepted .lists .bandwidths k l .1))
 
     -- which is the mark's, and stored it stands behind those before
     pub smoothed-goes-on : {e : Estimate} {R′ : List ℕ} → RowOf (r′ .left) (r′ .right) (r′ .sums) (getD zs k 0) (getD hs k 0) e
-        → R′ ≡ sets R (5 * k) (fields e) → SmoothedTo ts vs zs hs R₀ (k + 1) R′ r′
+        → R′ ≡ sets R (row-width * k) (fields e) → SmoothedTo ts vs zs hs R₀ (k + 1) R′ r′
     smoothed-goes-on {e} {R′} o t = rw (add-one k) (record {
       small = w .small;
       accepted = w .accepted;
       upto = l;
-      stored = t ∙ rw (w .stored, row) (store-behind M R₀ (fields mark) (5 * k) (rows-length ts vs zs hs k) room ∙ ap front five);
+      stored = t ∙ rw (w .stored, row) (store-behind M R₀ (fields mark) (row-width * k) (rows-length ts vs zs hs k) room ∙ ap front one-more);
       running = next-running;
     })
       where
@@ -109,13 +110,13 @@ module _ {ts vs zs hs R₀ : List ℕ} {k : ℕ} {R : List ℕ} {r : RunningSums
         front n = (M ++ fields mark) ++ drop n R₀
 
         row : e ≡ mark
-        row = row-of-window ts vs (getD zs k 0) (getD hs k 0) (w .accepted .ordered) e (rw next-running at o)
+        row = row-of-window ts vs (getD zs k 0) (getD hs k 0) (w .accepted .lists .ordered) e (rw next-running at o)
 
-        room : 5 * k + 5 ≤ length R₀
-        room = omega (arith, w .accepted .rows-five)
+        room : row-width * k + row-width ≤ length R₀
+        room = omega (arith, w .accepted .rows-fit)
 
-        five : 5 * k + 5 ≡ 5 * suc k
-        five = omega arith
+        one-more : row-width * k + row-width ≡ row-width * suc k
+        one-more = omega arith
 
   module _ (l : length zs ≤ k) where
     last : k ≡ length zs
@@ -124,9 +125,9 @@ module _ {ts vs zs hs R₀ : List ℕ} {k : ℕ} {R : List ℕ} {r : RunningSums
     pub rows-are-stored : R ≡ rows ts vs zs hs (length zs)
     rows-are-stored =
         w .stored
-        ∙ rw (last, drop-of-length-le R₀ {i = 5 * length zs} (omega (arith, w .accepted .rows-five))) (append-nil (rows ts vs zs hs (length zs)))
+        ∙ rw (last, drop-of-length-le R₀ {i = row-width * length zs} (omega (arith, w .accepted .rows-fit))) (append-nil (rows ts vs zs hs (length zs)))
 
     pub edges-are-passes : r .right + r .left ≡ passes ts vs fresh (moves zs hs)
     edges-are-passes =
         ap (λ (q : RunningSums). q .right + q .left) (w .running ∙ ap (running-at ts vs zs hs) last)
-        ∙ sym (passes-are-edges ts vs zs hs (length R₀) (w .small) (w .accepted))
+        ∙ sym (passes-are-edges ts vs zs hs (w .small) (w .accepted .lists))

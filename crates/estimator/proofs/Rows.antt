@@ -13,7 +13,7 @@ use Rattle.meanings.specs.Lists.{Ordered}
 use Rattle.meanings.specs.Limits.{full, max-bandwidth}
 use Rattle.meanings.specs.Estimate.{left-of, right-of, weight-of, sum-of, value-of, estimate}
 use Rattle.meanings.specs.Running.{six, sum-at, plus, power-sum, window-sum, window-sums}
-use Rattle.meanings.proofs.Checks.{Accepted}
+use Rattle.meanings.proofs.Checks.{EvaluateAccepted}
 use Rattle.meanings.proofs.Moments.{weight-formula, sum-formula}
 use Rattle.meanings.proofs.Steps.{Small, power-sum-at-most, power-sum-bound, six-agree, six-at}
 use Rattle.meanings.proofs.Window.{left-at-most-right, right-at-most-length}
@@ -85,7 +85,7 @@ module _ (ts vs : List ℕ) (z h : ℕ) (o : Ordered ts) where
       sum-same = omega (arith, r .sum-is, sum-formula ts vs z h o)
 
 -- the row at one mark: the sums over the span, taken in from zero, are the window's
-module _ {ts vs : List ℕ} {z h : ℕ} {s : Span} (a : Accepted ts vs h) (i : IsSpan ts z h s) where
+module _ {ts vs : List ℕ} {z h : ℕ} {s : Span} (a : EvaluateAccepted ts vs h) (i : IsSpan ts z h s) where
   pub span-run-within : RunWithin ts vs (s .left) (s .right)
   span-run-within =
       let l : s .left ≤ s .right = omega (arith, i .left-is, i .right-is, left-at-most-right ts z h) in

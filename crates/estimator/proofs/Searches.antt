@@ -12,7 +12,7 @@ use lib.ListN.{length, getD}
 use Rattle.meanings.specs.Lists.{first, Ordered}
 use Rattle.meanings.specs.Estimate.{right-of}
 use Rattle.meanings.specs.Running.{new-right, new-left}
-use Rattle.meanings.proofs.Checks.{StepAccepted}
+use Rattle.meanings.proofs.Checks.{AdvanceAccepted}
 use Rattle.meanings.proofs.Search.{first-is-first}
 use Rattle.meanings.proofs.Steps.{right-found, left-found}
 use Rattle.estimator.specs.Rows.{Within, RunWithin, FoundFrom, IsSpan}
@@ -56,7 +56,7 @@ span-found {ts} {z} {h} {right} o f e g = record {
     here = right-is-new z h f ∙ right-found ts z h o 0 zero-le
 
 -- a step's runs lie within the readings, whatever record came in
-module _ {ts vs : List ℕ} {l₀ r₀ h m right : ℕ} (a : StepAccepted ts vs l₀ r₀ h) (f : FoundFrom ts r₀ (length ts) m right) where
+module _ {ts vs : List ℕ} {l₀ r₀ h m right : ℕ} (a : AdvanceAccepted ts vs l₀ r₀ h) (f : FoundFrom ts r₀ (length ts) m right) where
   inserted : (r₀ ≤ right) × (right ≤ length ts)
   inserted = found-within f (a .inside)
 

@@ -1,4 +1,4 @@
--- What a check of the code finds at the full limits is what the call is refused for; where it finds nothing the lists are accepted, and
+-- What a check of the code finds is what the call is refused for; where it finds nothing the lists are accepted, and
 -- what the code then makes is the call's answer.
 use Prim.Native.Nat.{ℕ, _+_, _-_, _*_, _^_, _≤_, _<_}
 use mathlib.Core.Path.{_≡_, sym, ap, _∙_}
@@ -11,39 +11,39 @@ use Rattle.meanings.specs.declared.Refusal.{Refusal}
 use Rattle.meanings.specs.declared.RunningSums.{RunningSums}
 use Rattle.meanings.specs.declared.Verdict.{Verdict}
 use Rattle.meanings.specs.declared.Verdict.the-variants.{Fit, Faulty}
-use Rattle.meanings.specs.Limits.{full}
+use Rattle.meanings.specs.Limits.{full, LimitsWithin}
 use Rattle.meanings.specs.Lists.{Ordered}
-use Rattle.meanings.specs.Reports.{Check, given, refused, told, told-verdict, first-of, evaluate-checks, advance-checks, smooth-checks}
+use Rattle.meanings.specs.Reports.{Check, Answer, given, refused, fault-of, verdict-fault, first-of, evaluate-checks, advance-checks, smooth-checks}
 use Rattle.meanings.specs.Estimate.{estimate, rows}
 use Rattle.meanings.specs.Moves.{moves}
 use Rattle.meanings.specs.Running.{fresh, moved, advance, passes}
 use Rattle.meanings.specs.Calls.{evaluate, window, window-start, smooth, smooth-rows}
-use Rattle.meanings.proofs.Checks.{Accepted, StepAccepted, evaluate-accepts, advance-accepts}
+use Rattle.meanings.proofs.Checks.{same-limits, EvaluateAccepted, AdvanceAccepted, evaluate-accepts, advance-accepts}
 use Rattle.meanings.proofs.SmoothSteps.{SmoothAccepted, smooth-accepts}
 use Rattle.meanings.proofs.Window.{left-at-most-right, right-at-most-length}
 use Rattle.estimator.specs.declared.point.Span.{Span}
 use Rattle.estimator.specs.Rows.{Judged, IsSpan}
 
 -- the call's refusal, by what the check found
-found : (checks : Limits → List Check) {L : Limits} {v w : Verdict} → L ≡ full → told-verdict v ≡ first-of (checks L) → v ≡ w
-    → first-of (checks full) ≡ told-verdict w
-found checks l f q = sym (ap told-verdict (sym q) ∙ f ∙ ap (λ (M : Limits). first-of (checks M)) l)
+found : (checks : Limits → List Check) {L : Limits} {v w : Verdict} → L ≡ full → verdict-fault v ≡ first-of (checks L) → v ≡ w
+    → first-of (checks full) ≡ verdict-fault w
+found checks l f q = sym (ap verdict-fault (sym q) ∙ f ∙ ap (λ (M : Limits). first-of (checks M)) l)
 
-pub judged-so : (ts vs : List ℕ) (h : ℕ) {L : Limits} {v : Verdict} → L ≡ full → told-verdict v ≡ first-of (evaluate-checks L ts vs h)
+pub judged-so : (ts vs : List ℕ) (h : ℕ) {L : Limits} {v : Verdict} → L ≡ full → verdict-fault v ≡ first-of (evaluate-checks L ts vs h)
     → Judged ts vs h v
 judged-so ts vs h l f = record { refusal = f ∙ ap (λ (M : Limits). first-of (evaluate-checks M ts vs h)) l }
 
 module _ {ts vs : List ℕ} {h : ℕ} {v : Verdict} (j : Judged ts vs h v) where
-  refusal-is : {w : Verdict} → v ≡ w → first-of (evaluate-checks full ts vs h) ≡ told-verdict w
-  refusal-is q = sym (ap told-verdict (sym q) ∙ j .refusal)
+  refusal-is : {w : Verdict} → v ≡ w → first-of (evaluate-checks full ts vs h) ≡ verdict-fault w
+  refusal-is q = sym (ap verdict-fault (sym q) ∙ j .refusal)
 
-  pub evaluate-accepted : v ≡ Fit → Accepted ts vs h
-  evaluate-accepted q = evaluate-accepts ts vs h (refusal-is q)
+  pub evaluate-accepted : v ≡ Fit → EvaluateAccepted ts vs h
+  evaluate-accepted q = evaluate-accepts full (same-limits full) ts vs h (refusal-is q)
 
   pub accepted-ordered : v ≡ Fit → Ordered ts
   accepted-ordered q = evaluate-accepted q .ordered
 
-  pub evaluate-refused : (z : ℕ) {e : Refusal} → v ≡ Faulty e → refused (told e) ≡ evaluate full ts vs z h
+  pub evaluate-refused : (z : ℕ) {e : Refusal} → v ≡ Faulty e → refused (fault-of e) ≡ evaluate full ts vs z h
   unfolding evaluate
   evaluate-refused z q = rw (refusal-is q)
 
@@ -78,14 +78,14 @@ module _ {ts vs : List ℕ} {h : ℕ} {v : Verdict} (j : Judged ts vs h v) where
     start-given p = rw (refusal-is q, i .left-is) (omega arith)
 
 module _ (ts vs : List ℕ) (r : RunningSums) (h : ℕ) {L : Limits} {v : Verdict} (l : L ≡ full)
-    (f : told-verdict v ≡ first-of (advance-checks L ts vs (r .left) (r .right) h)) where
-  of-advance : {w : Verdict} → v ≡ w → first-of (advance-checks full ts vs (r .left) (r .right) h) ≡ told-verdict w
+    (f : verdict-fault v ≡ first-of (advance-checks L ts vs (r .left) (r .right) h)) where
+  of-advance : {w : Verdict} → v ≡ w → first-of (advance-checks full ts vs (r .left) (r .right) h) ≡ verdict-fault w
   of-advance = found (λ M. advance-checks M ts vs (r .left) (r .right) h) l f
 
-  pub step-accepted : v ≡ Fit → StepAccepted ts vs (r .left) (r .right) h
-  step-accepted q = advance-accepts ts vs (r .left) (r .right) h (of-advance q)
+  pub step-accepted : v ≡ Fit → AdvanceAccepted ts vs (r .left) (r .right) h
+  step-accepted q = advance-accepts full (same-limits full) ts vs (r .left) (r .right) h (of-advance q)
 
-  pub advance-refused : (z : ℕ) {e : Refusal} → v ≡ Faulty e → refused (told e) ≡ advance ts vs r z h
+  pub advance-refused : (z : ℕ) {e : Refusal} → v ≡ Faulty e → refused (fault-of e) ≡ advance ts vs r z h
   unfolding advance
   advance-refused z q = rw (of-advance q)
 
@@ -93,26 +93,38 @@ module _ (ts vs : List ℕ) (r : RunningSums) (h : ℕ) {L : Limits} {v : Verdic
   unfolding advance
   advance-given z q e = rw (of-advance q) (ap given e)
 
-module _ (ts vs zs hs R : List ℕ) {L : Limits} {v : Verdict} (l : L ≡ full)
-    (f : told-verdict v ≡ first-of (smooth-checks L ts vs zs hs (length R))) where
-  of-smooth : {w : Verdict} → v ≡ w → first-of (smooth-checks full ts vs zs hs (length R)) ≡ told-verdict w
-  of-smooth = found (λ M. smooth-checks M ts vs zs hs (length R)) l f
+-- the sweep under limits at most the full ones
+module _ (L : Limits) (ts vs zs hs R : List ℕ) {v : Verdict} (f : verdict-fault v ≡ first-of (smooth-checks L ts vs zs hs (length R))) where
+  of-smooth : {w : Verdict} → v ≡ w → first-of (smooth-checks L ts vs zs hs (length R)) ≡ verdict-fault w
+  of-smooth q = sym (ap verdict-fault (sym q) ∙ f)
 
-  pub smooth-accepted : v ≡ Fit → SmoothAccepted ts vs zs hs (length R)
-  smooth-accepted q = smooth-accepts ts vs zs hs (length R) (of-smooth q)
+  pub smooth-accepted : LimitsWithin L full → v ≡ Fit → SmoothAccepted ts vs zs hs (length R)
+  smooth-accepted w q = smooth-accepts L w ts vs zs hs (length R) (of-smooth q)
 
-  pub smooth-refused : {e : Refusal} → v ≡ Faulty e → refused (told e) ≡ smooth full ts vs zs hs R
+  pub smooth-refused : {e : Refusal} → v ≡ Faulty e → refused (fault-of e) ≡ smooth L ts vs zs hs R
   unfolding smooth
   smooth-refused q = rw (of-smooth q)
 
-  pub rows-kept : {e : Refusal} → v ≡ Faulty e → R ≡ smooth-rows full ts vs zs hs R
+  pub rows-kept : {e : Refusal} → v ≡ Faulty e → R ≡ smooth-rows L ts vs zs hs R
   unfolding smooth-rows
   rows-kept q = rw (of-smooth q)
 
-  pub smooth-given : {n : ℕ} → v ≡ Fit → n ≡ passes ts vs fresh (moves zs hs) → given n ≡ smooth full ts vs zs hs R
+  pub smooth-given : {n : ℕ} → v ≡ Fit → n ≡ passes ts vs fresh (moves zs hs) → given n ≡ smooth L ts vs zs hs R
   unfolding smooth
   smooth-given q e = rw (of-smooth q) (ap given e)
 
-  pub rows-given : {R′ : List ℕ} → v ≡ Fit → R′ ≡ rows ts vs zs hs (length zs) → R′ ≡ smooth-rows full ts vs zs hs R
+  pub rows-given : {R′ : List ℕ} → v ≡ Fit → R′ ≡ rows ts vs zs hs (length zs) → R′ ≡ smooth-rows L ts vs zs hs R
   unfolding smooth-rows
   rows-given q e = rw (of-smooth q) e
+
+-- and under the full ones
+module _ {L : Limits} (l : L ≡ full) where
+  pub full-is-within : LimitsWithin L full
+  full-is-within = rw l (same-limits full)
+
+  module _ (ts vs zs hs R : List ℕ) where
+    pub smooth-at-full : {a : Answer ℕ} → a ≡ smooth L ts vs zs hs R → a ≡ smooth full ts vs zs hs R
+    smooth-at-full e = e ∙ ap (λ (M : Limits). smooth M ts vs zs hs R) l
+
+    pub rows-at-full : {R′ : List ℕ} → R′ ≡ smooth-rows L ts vs zs hs R → R′ ≡ smooth-rows full ts vs zs hs R
+    rows-at-full e = e ∙ ap (λ (M : Limits). smooth-rows M ts vs zs hs R) l

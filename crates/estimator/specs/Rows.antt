@@ -9,7 +9,7 @@ use Rattle.meanings.specs.declared.Estimate.{Estimate}
 use Rattle.meanings.specs.declared.Verdict.{Verdict}
 use Rattle.meanings.specs.Limits.{full, max-bandwidth}
 use Rattle.meanings.specs.Lists.{first}
-use Rattle.meanings.specs.Reports.{told-verdict}
+use Rattle.meanings.specs.Reports.{verdict-fault}
 use Rattle.meanings.specs.Running.{six, sum-at, power-sum}
 use Rattle.meanings.specs.Calls.{evaluate-refusal}
 use Rattle.meanings.specs.Estimate.{left-of, right-of, value-of}
@@ -17,7 +17,7 @@ use Rattle.estimator.specs.declared.point.Span.{Span}
 
 -- v is what the question at one mark is refused for
 pub record Judged (ts vs : List ℕ) (h : ℕ) (v : Verdict) : Type 0 where
-  pub refusal : told-verdict v ≡ evaluate-refusal full ts vs h
+  pub refusal : verdict-fault v ≡ evaluate-refusal full ts vs h
 
 -- positions from a up to b of one list, or of two
 pub record Within (ts : List ℕ) (a b : ℕ) : Type 0 where

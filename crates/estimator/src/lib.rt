@@ -7,20 +7,19 @@ mod step;
 mod sums;
 
 use checks::full;
+use checks_point::advance_fault;
+use checks_point::evaluate_fault;
 use meanings::Advance;
 use meanings::Evaluation;
 use meanings::RunningSums;
 use meanings::Smoothing;
 use meanings::Verdict;
-use point_checks::advance_fault;
-use point_checks::evaluate_fault;
-use smooth_checks::smooth_fault;
 ghost use mathlib.Core.Path.{_≡_};
 ghost use Prim.Native.Nat.{_+_, _*_};
 ghost use denote.Ref.{ptr};
 ghost use Rattle.meanings.specs.Limits.{full as full-limits};
 ghost use Rattle.meanings.specs.Running.{advance as advance-meaning};
-ghost use Rattle.meanings.specs.Calls.{told-evaluation, told-advance, told-smoothing, evaluate as evaluate-meaning, window as window-meaning, window-start, smooth as smooth-meaning, smooth-rows};
+ghost use Rattle.meanings.specs.Calls.{evaluation-answer, advance-answer, smoothing-answer, evaluate as evaluate-meaning, window as window-meaning, window-start, smooth as smooth-meaning, smooth-rows};
 ghost use Rattle.estimator.specs.Rows.{Judged};
 
 // What the question at one mark is refused for, at the full limits.
@@ -32,11 +31,11 @@ fn judged(minutes: &[u16], values: &[u16], bandwidth: u32) -> Verdict
 
 // The question at one mark: the row, or the report.
 pub fn evaluate(minutes: &[u16], values: &[u16], point: u16, bandwidth: u32) -> Evaluation
-    ensures { λ r. ⌜ told-evaluation r ≡ evaluate-meaning full-limits (now (minutes .entry)) (now (values .entry)) point bandwidth ⌝ }
+    ensures { λ r. ⌜ evaluation-answer r ≡ evaluate-meaning full-limits (now (minutes .entry)) (now (values .entry)) point bandwidth ⌝ }
 {
     match judged(minutes, values, bandwidth) {
-        Verdict::Faulty(refusal) => Evaluation::Unfit(refusal),
-        Verdict::Fit => Evaluation::Row(point::row_at(minutes, values, point, bandwidth)),
+        Verdict::Faulty(refusal) => Evaluation::Refused(refusal),
+        Verdict::Fit => Evaluation::Row(point::estimate_at(minutes, values, point, bandwidth)),
     }
 }
 
@@ -64,7 +63,7 @@ pub fn advance(
     point: u16,
     bandwidth: u32,
 ) -> Advance
-    ensures { λ r. ⌜ told-advance r ≡ advance-meaning (now (minutes .entry)) (now (values .entry)) running point bandwidth ⌝ }
+    ensures { λ r. ⌜ advance-answer r ≡ advance-meaning (now (minutes .entry)) (now (values .entry)) running point bandwidth ⌝ }
 {
     match advance_fault(
         minutes,
@@ -74,7 +73,7 @@ pub fn advance(
         bandwidth,
         full(),
     ) {
-        Verdict::Faulty(refusal) => Advance::Stayed(refusal),
+        Verdict::Faulty(refusal) => Advance::Refused(refusal),
         Verdict::Fit => Advance::Moved(step::moved(running, minutes, values, point, bandwidth)),
     }
 }
@@ -87,17 +86,8 @@ pub fn smooth(
     bandwidths: &[u32],
     rows: &mut [u64],
 ) -> Smoothing
-    ensures { λ r. ⌜ told-smoothing r ≡ smooth-meaning full-limits (now (minutes .entry)) (now (values .entry)) (now (points .entry)) (now (bandwidths .entry)) (now (rows .entry)) ⌝ }
+    ensures { λ r. ⌜ smoothing-answer r ≡ smooth-meaning full-limits (now (minutes .entry)) (now (values .entry)) (now (points .entry)) (now (bandwidths .entry)) (now (rows .entry)) ⌝ }
     ensures { λ _. ⌜ now (rows .exit) ≡ smooth-rows full-limits (now (minutes .entry)) (now (values .entry)) (now (points .entry)) (now (bandwidths .entry)) (now (rows .entry)) ⌝ }
 {
-    match smooth_fault(minutes, values, points, bandwidths, rows.len(), full()) {
-        Verdict::Faulty(refusal) => Smoothing::Unswept(refusal),
-        Verdict::Fit => Smoothing::Passes(smoothing::smooth_rows(
-            minutes,
-            values,
-            points,
-            bandwidths,
-            rows,
-        )),
-    }
+    smoothing::smooth_under(minutes, values, points, bandwidths, rows, full())
 }

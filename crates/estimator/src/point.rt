@@ -8,7 +8,7 @@ use meanings::Estimate;
 ghost use mathlib.Core.Path.{_≡_};
 ghost use Rattle.meanings.specs.Lists.{Ordered};
 ghost use Rattle.meanings.specs.Estimate.{estimate};
-ghost use Rattle.meanings.proofs.Checks.{Accepted};
+ghost use Rattle.meanings.proofs.Checks.{EvaluateAccepted};
 ghost use Rattle.estimator.specs.Rows.{IsSpan};
 
 // A window's run: positions left up to but without right.
@@ -28,8 +28,8 @@ pub(crate) fn span_at(minutes: &[u16], point: u16, bandwidth: u32) -> Span
     Span { left, right }
 }
 
-pub(crate) fn row_at(minutes: &[u16], values: &[u16], point: u16, bandwidth: u32) -> Estimate
-    requires { ⌜ Accepted (now minutes) (now values) bandwidth ⌝ }
+pub(crate) fn estimate_at(minutes: &[u16], values: &[u16], point: u16, bandwidth: u32) -> Estimate
+    requires { ⌜ EvaluateAccepted (now minutes) (now values) bandwidth ⌝ }
     ensures { λ r. ⌜ r ≡ estimate (now (minutes .entry)) (now (values .entry)) point bandwidth ⌝ }
 {
     let span = span_at(minutes, point, bandwidth);

@@ -2,12 +2,19 @@
 use crate::row::row_of;
 use crate::step::moved;
 use arithmetic::zero_sums;
+use checks_smooth::smooth_fault;
 use meanings::Estimate;
+use meanings::Limits;
+use meanings::ROW_WIDTH;
 use meanings::RunningSums;
+use meanings::Smoothing;
+use meanings::Verdict;
 ghost use mathlib.Core.Path.{_≡_};
 ghost use Prim.Native.Nat.{_+_, _*_, _≤_};
 ghost use lib.ListN.{length};
 ghost use lib.Seq.{sets};
+ghost use Rattle.meanings.specs.Limits.{full as full-limits, LimitsWithin, row-width};
+ghost use Rattle.meanings.specs.Calls.{smoothing-answer, smooth as smooth-meaning, smooth-rows};
 ghost use Rattle.meanings.specs.Estimate.{fields, rows as rows-meaning};
 ghost use Rattle.meanings.specs.Moves.{moves};
 ghost use Rattle.meanings.specs.Running.{fresh, passes};
@@ -15,10 +22,10 @@ ghost use Rattle.meanings.proofs.SmoothSteps.{SmoothAccepted};
 
 // Stores the row of mark k.
 pub(crate) fn put_row(rows: &mut [u64], k: usize, e: Estimate)
-    requires { ⌜ 5 * k + 5 ≤ length (now rows) ⌝ }
-    ensures { λ _. ⌜ now (rows .exit) ≡ sets (now (rows .entry)) (5 * k) (fields e) ⌝ }
+    requires { ⌜ row-width * k + row-width ≤ length (now rows) ⌝ }
+    ensures { λ _. ⌜ now (rows .exit) ≡ sets (now (rows .entry)) (row-width * k) (fields e) ⌝ }
 {
-    let at = 5 * k;
+    let at = ROW_WIDTH * k;
     rows[at] = e.left;
     rows[at + 1] = e.right;
     rows[at + 2] = e.weight;
@@ -56,4 +63,23 @@ pub(crate) fn smooth_rows(
         k += 1;
     }
     running.right as u64 + running.left as u64
+}
+
+// The sweep under limits at most the full ones: every check is made before the first row is stored.
+pub(crate) fn smooth_under(
+    minutes: &[u16],
+    values: &[u16],
+    points: &[u16],
+    bandwidths: &[u32],
+    rows: &mut [u64],
+    limits: Limits,
+) -> Smoothing
+    requires { ⌜ LimitsWithin limits full-limits ⌝ }
+    ensures { λ r. ⌜ smoothing-answer r ≡ smooth-meaning limits (now (minutes .entry)) (now (values .entry)) (now (points .entry)) (now (bandwidths .entry)) (now (rows .entry)) ⌝ }
+    ensures { λ _. ⌜ now (rows .exit) ≡ smooth-rows limits (now (minutes .entry)) (now (values .entry)) (now (points .entry)) (now (bandwidths .entry)) (now (rows .entry)) ⌝ }
+{
+    match smooth_fault(minutes, values, points, bandwidths, rows.len(), limits) {
+        Verdict::Faulty(refusal) => Smoothing::Refused(refusal),
+        Verdict::Fit => Smoothing::Passes(smooth_rows(minutes, values, points, bandwidths, rows)),
+    }
 }

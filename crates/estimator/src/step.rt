@@ -6,7 +6,7 @@ use arithmetic::lowest_minute;
 use meanings::RunningSums;
 ghost use mathlib.Core.Path.{_≡_};
 ghost use Rattle.meanings.specs.Running.{moved as moved-meaning};
-ghost use Rattle.meanings.proofs.Checks.{StepAccepted};
+ghost use Rattle.meanings.proofs.Checks.{AdvanceAccepted};
 
 pub(crate) fn moved(
     running: RunningSums,
@@ -15,7 +15,7 @@ pub(crate) fn moved(
     point: u16,
     bandwidth: u32,
 ) -> RunningSums
-    requires { ⌜ StepAccepted (now minutes) (now values) (running .left) (running .right) bandwidth ⌝ }
+    requires { ⌜ AdvanceAccepted (now minutes) (now values) (running .left) (running .right) bandwidth ⌝ }
     ensures { λ r. ⌜ r ≡ moved-meaning (now (minutes .entry)) (now (values .entry)) running point bandwidth ⌝ }
 {
     let over = point as u64 + bandwidth as u64 + 1;

@@ -1,2 +1,2 @@
-pub mod Accepted
+pub mod FillVerdicts
 pub mod Fills

@@ -1,5 +1,6 @@
 // The bandwidth presets, "the knob", and the evaluation grid, which "the mark filler" fills.
-use grid_checks::fill_fault;
+use checks::full;
+use checks_grid::fill_fault;
 use meanings::Filling;
 use meanings::Verdict;
 ghost use mathlib.Core.Path.{_≡_};
@@ -7,7 +8,7 @@ ghost use Prim.Native.Nat.{_+_, _-_, _*_, _≤_, _<_};
 ghost use lib.ListN.{length, getD, replicate};
 ghost use Rattle.meanings.specs.Limits.{full as full-limits, max-u16};
 ghost use Rattle.meanings.specs.Grid.{presets, grid};
-ghost use Rattle.meanings.specs.Calls.{told-filling, fill, fill-points, fill-bandwidths};
+ghost use Rattle.meanings.specs.Calls.{filling-answer, fill, fill-points, fill-bandwidths};
 
 // The bandwidth presets, by position.
 const PRESETS: [u32; 12] = [30, 45, 60, 90, 120, 180, 240, 360, 480, 720, 1080, 1440];
@@ -51,12 +52,19 @@ pub fn fill_grid(
     points: &mut [u16],
     bandwidths: &mut [u32],
 ) -> Filling
-    ensures { λ r. ⌜ told-filling r ≡ fill full-limits first spacing preset (now (points .entry)) (now (bandwidths .entry)) ⌝ }
+    ensures { λ r. ⌜ filling-answer r ≡ fill full-limits first spacing preset (now (points .entry)) (now (bandwidths .entry)) ⌝ }
     ensures { λ _. ⌜ now (points .exit) ≡ fill-points full-limits first spacing preset (now (points .entry)) (now (bandwidths .entry)) ⌝ }
     ensures { λ _. ⌜ now (bandwidths .exit) ≡ fill-bandwidths full-limits first spacing preset (now (points .entry)) (now (bandwidths .entry)) ⌝ }
 {
-    match fill_fault(first, spacing, preset, points.len(), bandwidths.len()) {
-        Verdict::Faulty(refusal) => Filling::Unfilled(refusal),
+    match fill_fault(
+        first,
+        spacing,
+        preset,
+        points.len(),
+        bandwidths.len(),
+        full(),
+    ) {
+        Verdict::Faulty(refusal) => Filling::Refused(refusal),
         Verdict::Fit => {
             put_points(points, first, spacing);
             put_bandwidths(bandwidths, preset_bandwidth(preset));

@@ -10,17 +10,23 @@ use Rattle.meanings.specs.declared.Estimate.{Estimate}
 use Rattle.meanings.specs.declared.RunningSums.{RunningSums}
 use Rattle.meanings.specs.declared.Verdict.the-variants.{Fit, Faulty}
 use Rattle.meanings.specs.declared.Found.the-variants.{At, Nothing}
-use Rattle.meanings.specs.declared.Evaluation.the-variants.{Row, Unfit}
-use Rattle.meanings.specs.declared.Advance.the-variants.{Moved, Stayed}
-use Rattle.meanings.specs.declared.Smoothing.the-variants.{Passes, Unswept}
-use Rattle.meanings.specs.declared.Filling.the-variants.{Filled, Unfilled}
-use Rattle.meanings.specs.declared.Reading.the-variants.{Used, Unread}
-use Rattle.meanings.specs.declared.Writing.the-variants.{Written, Unwritten}
-use Rattle.meanings.specs.Reports.{number, told-verdict, told-found, given, refused, first-of, buffer-checks}
+use Rattle.meanings.specs.declared.Evaluation.{Evaluation}
+use Rattle.meanings.specs.declared.Evaluation.the-variants.{Row}
+use Rattle.meanings.specs.declared.Advance.{Advance}
+use Rattle.meanings.specs.declared.Advance.the-variants.{Moved}
+use Rattle.meanings.specs.declared.Smoothing.{Smoothing}
+use Rattle.meanings.specs.declared.Smoothing.the-variants.{Passes}
+use Rattle.meanings.specs.declared.Filling.{Filling}
+use Rattle.meanings.specs.declared.Filling.the-variants.{Filled}
+use Rattle.meanings.specs.declared.Parsing.{Parsing}
+use Rattle.meanings.specs.declared.Parsing.the-variants.{Used}
+use Rattle.meanings.specs.declared.Writing.{Writing}
+use Rattle.meanings.specs.declared.Writing.the-variants.{Written}
+use Rattle.meanings.specs.Reports.{number, verdict-fault, found-position, given, refused, first-of, buffer-checks}
 use Rattle.meanings.specs.EventLog.{insertion-count, eviction-count}
 use Rattle.meanings.specs.Output.{program, outcome-text}
 use Rattle.meanings.specs.Sheet.{read-sheet}
-use Rattle.meanings.specs.Calls.{told-evaluation, told-advance, told-smoothing, told-filling, told-reading, told-writing}
+use Rattle.meanings.specs.Calls.{evaluation-answer, advance-answer, smoothing-answer, filling-answer, parsing-answer, writing-answer}
 
 -- "overlong", "heading", "torn line", "early reading", "early mark", "crowded", "no marks", "uneven", "half width",
 -- "edge back", "foreign record", "knob", "past the clock"
@@ -47,28 +53,28 @@ reports-are-numbered = refl
 abbrev too-many : Refusal
 too-many = record { report = TooMany; place = 7 }
 
-pub refusals-are-told :
-    (told-verdict (Faulty too-many) ≡ some (record { number = 6; place = 7 }))
-    × (told-evaluation (Unfit too-many) ≡ refused (record { number = 6; place = 7 }))
-    × (told-advance (Stayed too-many) ≡ refused (record { number = 6; place = 7 }))
-    × (told-smoothing (Unswept too-many) ≡ refused (record { number = 6; place = 7 }))
-    × (told-filling (Unfilled too-many) ≡ refused (record { number = 6; place = 7 }))
-    × (told-reading (Unread too-many) ≡ refused (record { number = 6; place = 7 }))
-    × (told-writing (Unwritten too-many) ≡ refused (record { number = 6; place = 7 }))
-refusals-are-told = (refl, refl, refl, refl, refl, refl, refl)
+pub refusals-are-answered :
+    (verdict-fault (Faulty too-many) ≡ some (record { number = 6; place = 7 }))
+    × (evaluation-answer (Evaluation.Refused too-many) ≡ refused (record { number = 6; place = 7 }))
+    × (advance-answer (Advance.Refused too-many) ≡ refused (record { number = 6; place = 7 }))
+    × (smoothing-answer (Smoothing.Refused too-many) ≡ refused (record { number = 6; place = 7 }))
+    × (filling-answer (Filling.Refused too-many) ≡ refused (record { number = 6; place = 7 }))
+    × (parsing-answer (Parsing.Refused too-many) ≡ refused (record { number = 6; place = 7 }))
+    × (writing-answer (Writing.Refused too-many) ≡ refused (record { number = 6; place = 7 }))
+refusals-are-answered = (refl, refl, refl, refl, refl, refl, refl)
 
 -- and what each gives
-pub values-are-told : (e : Estimate) (r : RunningSums) (n m : ℕ)
-    → (told-verdict Fit ≡ none)
-    × (told-found Nothing ≡ none)
-    × (told-found (At n) ≡ some n)
-    × (told-evaluation (Row e) ≡ given e)
-    × (told-advance (Moved r) ≡ given r)
-    × (told-smoothing (Passes n) ≡ given n)
-    × (told-filling Filled ≡ given tt)
-    × (told-reading (Used n m) ≡ given (record { samples = n; points = m }))
-    × (told-writing (Written n) ≡ given n)
-values-are-told e r n m = (refl, refl, refl, refl, refl, refl, refl, refl, refl)
+pub values-are-answered : (e : Estimate) (r : RunningSums) (n m : ℕ)
+    → (verdict-fault Fit ≡ none)
+    × (found-position Nothing ≡ none)
+    × (found-position (At n) ≡ some n)
+    × (evaluation-answer (Row e) ≡ given e)
+    × (advance-answer (Moved r) ≡ given r)
+    × (smoothing-answer (Passes n) ≡ given n)
+    × (filling-answer Filled ≡ given tt)
+    × (parsing-answer (Used n m) ≡ given (record { samples = n; points = m }))
+    × (writing-answer (Written n) ≡ given n)
+values-are-answered e r n m = (refl, refl, refl, refl, refl, refl, refl, refl, refl)
 
 -- the book's insertions and evictions are counted by its two lists
 pub log-is-counted : (insertion-count (record { inserted = 0 ∷ 1 ∷ []; evicted = 0 ∷ [] }) ≡ 2)

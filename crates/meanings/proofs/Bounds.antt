@@ -10,7 +10,7 @@ use native.Mathlib.Omega.{arith}
 use lib.ListN.{length}
 use Rattle.meanings.specs.Lists.{total, AtMost}
 use Rattle.meanings.specs.Limits.{max-u16, max-bandwidth, full}
-use Rattle.meanings.specs.Estimate.{kernel, left-of, right-of, weight-of, sum-of, value-of, estimate, missing, Fit}
+use Rattle.meanings.specs.Estimate.{kernel, left-of, right-of, weight-of, sum-of, value-of, estimate, missing, WithinLimits}
 use Rattle.meanings.proofs.Kernel.{kernel-at-most}
 use Rattle.meanings.proofs.Rounding.{rounded-at-most, value-present, value-missing}
 use Rattle.meanings.proofs.Window.{right-at-most-length}
@@ -42,14 +42,14 @@ module _ (ts vs : List ℕ) (z h : ℕ) where
       (λ i (l : i < right-of ts z h - left-of ts z h).
       mul-le-mul-left (kernel z h _) (m (left-of ts z h + i) (let r = right-at-most-length ts z h in omega arith)))
 
-  pub sum-bound : Fit ts vs h → sum-of ts vs z h ≤ 2 ^ 58 - 2 ^ 42
+  pub sum-bound : WithinLimits ts vs h → sum-of ts vs z h ≤ 2 ^ 58 - 2 ^ 42
   sum-bound f = let w = weight-bound (f .few) (f .bandwidth) in let s = sum-at-most-times (f .even) (f .values) in omega arith
 
-  pub value-bound : Fit ts vs h → 0 < weight-of ts z h → value-of (sum-of ts vs z h) (weight-of ts z h) ≤ max-u16
+  pub value-bound : WithinLimits ts vs h → 0 < weight-of ts z h → value-of (sum-of ts vs z h) (weight-of ts z h) ≤ max-u16
   value-bound f p = rw (value-present _ _ p) (rounded-at-most _ _ max-u16 p (sum-at-most-times (f .even) (f .values)))
 
   -- the value is missing exactly if the weight is 0
-  pub missing-exactly : Fit ts vs h → (estimate ts vs z h .value ≡ missing) ↔ (weight-of ts z h ≡ 0)
+  pub missing-exactly : WithinLimits ts vs h → (estimate ts vs z h .value ≡ missing) ↔ (weight-of ts z h ≡ 0)
   unfolding estimate
   missing-exactly f = (λ e. by (ℕ-discrete (weight-of ts z h) 0) e, λ e. rw e (value-missing _))
     where
@@ -58,5 +58,5 @@ module _ (ts vs : List ℕ) (z h : ℕ) where
       by (no q) e = let v = value-bound f (omega arith) in omega arith
 
   -- and then the sum is 0 too: of a row's five fields only the value can be 65,536 for being missing
-  pub missing-alone : Fit ts vs h → weight-of ts z h ≡ 0 → sum-of ts vs z h ≡ 0
+  pub missing-alone : WithinLimits ts vs h → weight-of ts z h ≡ 0 → sum-of ts vs z h ≡ 0
   missing-alone f e = let s = sum-at-most-times (f .even) (f .values) in omega arith

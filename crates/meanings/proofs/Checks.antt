@@ -1,5 +1,5 @@
 -- What an accepted call has shown: no check of its list holds, so minutes and marks are ordered, half widths are in range, and no edge falls.
-use Prim.Native.Nat.{ℕ, zero, suc, _-_, _*_, _≤_, _<_}
+use Prim.Native.Nat.{ℕ, zero, suc, _-_, _≤_, _<_}
 use mathlib.Core.Path.{_≡_, refl, sym, ap, _∙_}
 use mathlib.Core.Logic.{_⊎_, inl, inr}
 use mathlib.Core.Bool.{Bool, true, false, _||_}
@@ -15,12 +15,12 @@ use Rattle.meanings.specs.declared.Refusal.{Refusal}
 use Rattle.meanings.specs.declared.Verdict.{Verdict}
 use Rattle.meanings.specs.declared.Verdict.the-variants.{Faulty}
 use Rattle.meanings.specs.Lists.{lowest, Ordered}
-use Rattle.meanings.specs.Limits.{full, max-bandwidth}
-use Rattle.meanings.specs.Reports.{Fault, told, told-verdict, given, refused, unless}
-use Rattle.meanings.specs.Reports.{Check, at, or-later, first-of, differ, decreases, bad-bandwidth}
-use Rattle.meanings.specs.Reports.{edge-below, edge-decreases, uneven-samples, smooth-size-checks, evaluate-checks, advance-checks, log-checks}
-use Rattle.meanings.specs.Estimate.{Fit}
-use Rattle.meanings.specs.Calls.{evaluate, evaluate-refusal}
+use Rattle.meanings.specs.Limits.{full, LimitsWithin, max-bandwidth}
+use Rattle.meanings.specs.Reports.{Fault, fault-of, verdict-fault, given, unless}
+use Rattle.meanings.specs.Reports.{Check, at, fault-or, first-of, differ, decreases, bad-bandwidth}
+use Rattle.meanings.specs.Reports.{edge-below, edge-decreases, uneven-samples, uneven-points, size-checks, sample-order-checks, series-checks}
+use Rattle.meanings.specs.Reports.{record-checks, bandwidth-checks, curve-size-checks, advance-checks, log-checks}
+use Rattle.meanings.specs.Calls.{evaluate-refusal}
 use Rattle.meanings.proofs.Search.{lowest-none}
 
 -- no check of the list holds
@@ -32,7 +32,7 @@ pub none-holds : (cs : List Check) → first-of cs ≡ none → NoneHolds cs
 none-holds [] e = tt
 none-holds (c ∷ cs) e = by (c .place) refl e (none-holds cs)
   where
-    by : (p : Option ℕ) → c .place ≡ p → or-later (c .report) p (first-of cs) ≡ none → (first-of cs ≡ none → NoneHolds cs)
+    by : (p : Option ℕ) → c .place ≡ p → fault-or (c .number) p (first-of cs) ≡ none → (first-of cs ≡ none → NoneHolds cs)
         → (c .place ≡ none) × NoneHolds cs
     by none q e k = (q, k e)
     by (some n) q e k = let z : _≡_ {A = ℕ} 0 1 = cc in absurd (omega arith)
@@ -42,8 +42,8 @@ pub first-of-front : (cs ds : List Check) (e : Fault) → first-of cs ≡ some e
 first-of-front [] ds e q = let z : _≡_ {A = ℕ} 0 1 = cc in absurd (omega arith)
 first-of-front (c ∷ cs) ds e q = by (c .place) q (first-of-front cs ds e)
   where
-    by : (p : Option ℕ) → or-later (c .report) p (first-of cs) ≡ some e → (first-of cs ≡ some e → first-of (cs ++ ds) ≡ some e)
-        → or-later (c .report) p (first-of (cs ++ ds)) ≡ some e
+    by : (p : Option ℕ) → fault-or (c .number) p (first-of cs) ≡ some e → (first-of cs ≡ some e → first-of (cs ++ ds) ≡ some e)
+        → fault-or (c .number) p (first-of (cs ++ ds)) ≡ some e
     by none q k = k q
     by (some n) q k = q
 
@@ -51,8 +51,8 @@ pub first-of-rest : (cs ds : List Check) → first-of cs ≡ none → first-of (
 first-of-rest [] ds q = refl
 first-of-rest (c ∷ cs) ds q = by (c .place) q (first-of-rest cs ds)
   where
-    by : (p : Option ℕ) → or-later (c .report) p (first-of cs) ≡ none → (first-of cs ≡ none → first-of (cs ++ ds) ≡ first-of ds)
-        → or-later (c .report) p (first-of (cs ++ ds)) ≡ first-of ds
+    by : (p : Option ℕ) → fault-or (c .number) p (first-of cs) ≡ none → (first-of cs ≡ none → first-of (cs ++ ds) ≡ first-of ds)
+        → fault-or (c .number) p (first-of (cs ++ ds)) ≡ first-of ds
     by none q k = k q
     by (some n) q k = let z : _≡_ {A = ℕ} 0 1 = cc in absurd (omega arith)
 
@@ -64,12 +64,17 @@ none-of-both cs ds q = by (first-of cs) refl
     by (some f) e = let t = first-of-front cs ds f e in let z : _≡_ {A = ℕ} 0 1 = cc in absurd (omega arith)
 
 -- the same of what a check of the code found
-pub found-in-front : (cs ds : List Check) (v : Verdict) (r : Refusal) → told-verdict v ≡ first-of cs → v ≡ Faulty r
-    → some (told r) ≡ first-of (cs ++ ds)
-found-in-front cs ds v r e q = sym (first-of-front cs ds (told r) (sym e ∙ ap told-verdict q))
+pub found-in-front : (cs ds : List Check) (v : Verdict) (r : Refusal) → verdict-fault v ≡ first-of cs → v ≡ Faulty r
+    → some (fault-of r) ≡ first-of (cs ++ ds)
+found-in-front cs ds v r e q = sym (first-of-front cs ds (fault-of r) (sym e ∙ ap verdict-fault q))
 
-pub found-none-in-front : (cs ds : List Check) (v : Verdict) → told-verdict v ≡ first-of cs → v ≡ Verdict.Fit → first-of (cs ++ ds) ≡ first-of ds
-found-none-in-front cs ds v e q = first-of-rest cs ds (sym e ∙ ap told-verdict q)
+pub found-none-in-front : (cs ds : List Check) (v : Verdict) → verdict-fault v ≡ first-of cs → v ≡ Verdict.Fit → first-of (cs ++ ds) ≡ first-of ds
+found-none-in-front cs ds v e q = first-of-rest cs ds (sym e ∙ ap verdict-fault q)
+
+-- checks behind others decide where the code has found nothing of those
+pub found-behind : (cs ds : List Check) (v : Verdict) (o : Option Fault) → verdict-fault v ≡ first-of cs → v ≡ Verdict.Fit → o ≡ first-of ds
+    → o ≡ first-of (cs ++ ds)
+found-behind cs ds v o e q f = f ∙ sym (found-none-in-front cs ds v e q)
 
 pub at-none : (p : ℕ) (b : Bool) → at p b ≡ none → b ≡ false
 at-none p true e = let z : _≡_ {A = ℕ} 0 1 = cc in absurd (omega arith)
@@ -125,28 +130,58 @@ pub no-decrease-ordered : (xs : List ℕ) → lowest (decreases xs) (length xs) 
 no-decrease-ordered xs e =
     steps-ordered xs (λ k l. ltb-false (getD xs (suc k) 0) (getD xs k 0) (lowest-none (decreases xs) (length xs) e (suc k) l))
 
--- what the question at one mark accepts
-pub record Accepted (ts vs : List ℕ) (h : ℕ) : Type 0 where
+-- limits allow no more than themselves
+pub same-limits : (L : Limits) → LimitsWithin L L
+same-limits L = record { samples = le-refl _; points = le-refl _ }
+
+-- readings that pass 8 and 6
+pub record SizeAccepted (L : Limits) (ts vs : List ℕ) : Type 0 where
+  pub even : length ts ≡ length vs
+  pub few : length ts ≤ L .samples
+
+pub size-accepts : (L : Limits) (ts vs : List ℕ) → first-of (size-checks L ts vs) ≡ none → SizeAccepted L ts vs
+size-accepts L ts vs e =
+    let a = none-holds (size-checks L ts vs) e in
+    record {
+      even = differ-false (length ts) (length vs) (at-none 0 (uneven-samples ts vs) (a .0));
+      few = ltb-false (L .samples) (length ts) (at-none 0 _ (a .1 .0));
+    }
+
+pub sample-order-accepts : (ts : List ℕ) → first-of (sample-order-checks ts) ≡ none → Ordered ts
+sample-order-accepts ts e = no-decrease-ordered ts (none-holds (sample-order-checks ts) e .0)
+
+pub record-accepts : (n left right : ℕ) → first-of (record-checks n left right) ≡ none → (left ≤ right) × (right ≤ n)
+record-accepts n left right e =
+    let o = or-false (ltb right left) (ltb n right) (at-none 0 _ (none-holds (record-checks n left right) e .0)) in
+    (ltb-false right left (o .0), ltb-false n right (o .1))
+
+pub bandwidth-accepts : (h : ℕ) → first-of (bandwidth-checks h) ≡ none → (0 < h) × (h ≤ max-bandwidth)
+bandwidth-accepts h e = bandwidth-in-range h (at-none 0 (bad-bandwidth h) (none-holds (bandwidth-checks h) e .0))
+
+-- what the question at one mark accepts under limits at most the full ones
+pub record EvaluateAccepted (ts vs : List ℕ) (h : ℕ) : Type 0 where
   pub even : length ts ≡ length vs
   pub few : length ts ≤ full .samples
   pub ordered : Ordered ts
   pub positive : 0 < h
   pub bandwidth : h ≤ max-bandwidth
 
-pub evaluate-accepts : (ts vs : List ℕ) (h : ℕ) → evaluate-refusal full ts vs h ≡ none → Accepted ts vs h
-evaluate-accepts ts vs h e =
-    let a = none-holds (evaluate-checks full ts vs h) e in
-    let r = bandwidth-in-range h (at-none 0 (bad-bandwidth h) (a .1 .1 .1 .0)) in
+pub evaluate-accepts : (L : Limits) → LimitsWithin L full → (ts vs : List ℕ) (h : ℕ) → evaluate-refusal L ts vs h ≡ none → EvaluateAccepted ts vs h
+evaluate-accepts L w ts vs h e =
+    let a = none-of-both (series-checks L ts vs) (bandwidth-checks h) e in
+    let b = none-of-both (size-checks L ts vs) (sample-order-checks ts) (a .0) in
+    let s = size-accepts L ts vs (b .0) in
+    let r = bandwidth-accepts h (a .1) in
     record {
-      even = differ-false (length ts) (length vs) (at-none 0 (uneven-samples ts vs) (a .0));
-      few = ltb-false (full .samples) (length ts) (at-none 0 _ (a .1 .0));
-      ordered = no-decrease-ordered ts (a .1 .1 .0);
+      even = s .even;
+      few = le-trans (s .few) (w .samples);
+      ordered = sample-order-accepts ts (b .1);
       positive = r .0;
       bandwidth = r .1;
     }
 
--- what a step accepts, of a record with these edges
-pub record StepAccepted (ts vs : List ℕ) (left right h : ℕ) : Type 0 where
+-- what a step accepts under such limits, of a record with these edges
+pub record AdvanceAccepted (ts vs : List ℕ) (left right h : ℕ) : Type 0 where
   pub even : length ts ≡ length vs
   pub few : length ts ≤ full .samples
   pub edges : left ≤ right
@@ -154,42 +189,44 @@ pub record StepAccepted (ts vs : List ℕ) (left right h : ℕ) : Type 0 where
   pub positive : 0 < h
   pub bandwidth : h ≤ max-bandwidth
 
-pub advance-accepts : (ts vs : List ℕ) (left right h : ℕ) → first-of (advance-checks full ts vs left right h) ≡ none
-    → StepAccepted ts vs left right h
-advance-accepts ts vs left right h e =
-    let a = none-holds (advance-checks full ts vs left right h) e in
-    let o = or-false (ltb right left) (ltb (length ts) right) (at-none 0 _ (a .1 .1 .0)) in
-    let r = bandwidth-in-range h (at-none 0 (bad-bandwidth h) (a .1 .1 .1 .0)) in
+pub advance-accepts : (L : Limits) → LimitsWithin L full → (ts vs : List ℕ) (left right h : ℕ)
+    → first-of (advance-checks L ts vs left right h) ≡ none → AdvanceAccepted ts vs left right h
+advance-accepts L w ts vs left right h e =
+    let a = none-of-both (size-checks L ts vs) (record-checks (length ts) left right ++ bandwidth-checks h) e in
+    let b = none-of-both (record-checks (length ts) left right) (bandwidth-checks h) (a .1) in
+    let s = size-accepts L ts vs (a .0) in
+    let o = record-accepts (length ts) left right (b .0) in
+    let r = bandwidth-accepts h (b .1) in
     record {
-      even = differ-false (length ts) (length vs) (at-none 0 (uneven-samples ts vs) (a .0));
-      few = ltb-false (full .samples) (length ts) (at-none 0 _ (a .1 .0));
-      edges = ltb-false right left (o .0);
-      inside = ltb-false (length ts) right (o .1);
+      even = s .even;
+      few = le-trans (s .few) (w .samples);
+      edges = o .0;
+      inside = o .1;
       positive = r .0;
       bandwidth = r .1;
     }
 
--- what the lengths of a sweep's lists have to be
-pub record SizesAccepted (L : Limits) (ts vs zs hs : List ℕ) (rows : ℕ) : Type 0 where
+-- what the lengths of readings and marks have to be, and that no further list is uneven
+pub record CurveSizes (L : Limits) (ts vs zs hs : List ℕ) (more : Bool) : Type 0 where
   pub even : length ts ≡ length vs
   pub even-points : length zs ≡ length hs
-  pub rows-five : rows ≡ 5 * length zs
+  pub no-more : more ≡ false
   pub few : length ts ≤ L .samples
   pub few-points : length zs ≤ L .points
   pub some-point : 0 < length zs
 
-pub smooth-sizes-accept : (L : Limits) (ts vs zs hs : List ℕ) (rows : ℕ) → first-of (smooth-size-checks L ts vs zs hs rows) ≡ none
-    → SizesAccepted L ts vs zs hs rows
-smooth-sizes-accept L ts vs zs hs rows e =
-    let a = none-holds (smooth-size-checks L ts vs zs hs rows) e in
-    let o = or-false (uneven-samples ts vs || differ (length zs) (length hs)) (differ rows (5 * length zs)) (at-none 0 _ (a .0)) in
-    let u = or-false (uneven-samples ts vs) (differ (length zs) (length hs)) (o .0) in
+pub curve-sizes-accept : (L : Limits) (ts vs zs hs : List ℕ) (more : Bool) → first-of (curve-size-checks L ts vs zs hs more) ≡ none
+    → CurveSizes L ts vs zs hs more
+curve-sizes-accept L ts vs zs hs more e =
+    let a = none-holds (curve-size-checks L ts vs zs hs more) e in
+    let o = or-false (uneven-samples ts vs || uneven-points zs hs) more (at-none 0 _ (a .0)) in
+    let u = or-false (uneven-samples ts vs) (uneven-points zs hs) (o .0) in
     let f = or-false (ltb (L .samples) (length ts)) (ltb (L .points) (length zs)) (at-none 0 _ (a .1 .0)) in
     let n : length zs ≡ 0 → ⊥ = eqb-false (length zs) 0 (at-none 0 _ (a .1 .1 .0)) in
     record {
       even = differ-false (length ts) (length vs) (u .0);
       even-points = differ-false (length zs) (length hs) (u .1);
-      rows-five = differ-false rows (5 * length zs) (o .1);
+      no-more = o .1;
       few = ltb-false (L .samples) (length ts) (f .0);
       few-points = ltb-false (L .points) (length zs) (f .1);
       some-point = omega arith;

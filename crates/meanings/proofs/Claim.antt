@@ -15,9 +15,9 @@ use Rattle.meanings.specs.declared.RunningSums.{RunningSums}
 use Rattle.meanings.specs.Lists.{lowest, Ordered, AtMost}
 use Rattle.meanings.specs.Limits.{full, max-u16}
 use Rattle.meanings.specs.Moves.{Move, moves}
-use Rattle.meanings.specs.Reports.{Fault, unless, accepted-or, report, at, first-of, bad-bandwidth, uneven-samples, log-checks}
+use Rattle.meanings.specs.Reports.{Fault, unless, accepted-or, check, at, first-of, bad-bandwidth, uneven-samples, log-checks}
 use Rattle.meanings.specs.Estimate.{left-of, right-of}
-use Rattle.meanings.specs.Running.{power-sum, six, fresh, moved, advance, settled, after-step, after}
+use Rattle.meanings.specs.Running.{power-sum, six, fresh, moved, advance, next-record, after-step, after}
 use Rattle.meanings.specs.EventLog.{EventLog, listed, insertions, with-insertions, evictions}
 use Rattle.meanings.specs.EventLog.{log-refusal, log-step, log-after, insertion-count, eviction-count}
 use Rattle.meanings.specs.Claim.{accepted-next, accepted-after, NotBelow, last-accepted, NoEdgeBackAfter, NoEdgeBack, between}
@@ -144,7 +144,7 @@ module _ (ts vs : List ℕ) (minutes : AtMost max-u16 ts) (values : AtMost max-u
       (by (log-refusal ts vs m) refl)
     where
       by : (f : Option Fault) → log-refusal ts vs m ≡ f
-          → settled (record-at ts vs o) (unless f (moved ts vs (record-at ts vs o) (m .point) (m .bandwidth))) ≡ record-at ts vs (accepted-or f (some m) o)
+          → next-record (record-at ts vs o) (unless f (moved ts vs (record-at ts vs o) (m .point) (m .bandwidth))) ≡ record-at ts vs (accepted-or f (some m) o)
       by none q =
           let w = record-at-onward ts vs o m (e q) in
           moved-lands ts vs (accepted-small m q) ordered (m .point) (m .bandwidth) (record-at ts vs o) (record-at-within ts vs o .edges)
@@ -225,7 +225,7 @@ refused-with-8-6-or-9 ts vs m e = by (uneven-samples ts vs) (ltb (full .samples)
         → ((e .number ≡ 8) ⊎ (e .number ≡ 6) ⊎ (e .number ≡ 9)) × (e .place ≡ 0)
     known n o q = let r : record { number = n; place = 0 } ≡ e = cc in rw (← r) (o, refl)
 
-    by : (a b c : Bool) → first-of (report 8 (at 0 a) ∷ report 6 (at 0 b) ∷ report 9 (at 0 c) ∷ []) ≡ some e
+    by : (a b c : Bool) → first-of (check 8 (at 0 a) ∷ check 6 (at 0 b) ∷ check 9 (at 0 c) ∷ []) ≡ some e
         → ((e .number ≡ 8) ⊎ (e .number ≡ 6) ⊎ (e .number ≡ 9)) × (e .place ≡ 0)
     by true b c q = known 8 (inl refl) q
     by false true c q = known 6 (inr (inl refl)) q

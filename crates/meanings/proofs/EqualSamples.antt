@@ -7,7 +7,7 @@ use mathlib.Core.Option.{none}
 use native.Mathlib.Nat.{le-refl, sub-zero}
 use native.Mathlib.Omega.{arith}
 use borrow.Author.Tests.{le-ltb, le-leb, ne-eqb}
-use lib.ListN.{length, getD, replicate, length-replicate, getD-replicate}
+use lib.ListN.{getD, replicate, length-replicate, getD-replicate}
 use Rattle.meanings.specs.Lists.{count, total}
 use Rattle.meanings.specs.Limits.{full, max-bandwidth}
 use Rattle.meanings.specs.Reports.{given, decreases}

@@ -1,7 +1,7 @@
 -- Filled marks rise or stay, and share one half width of the table, so neither they nor an edge can fall: a sweep over them is refused for
 -- its readings alone.
 use Prim.Native.Nat.{ℕ, zero, suc, _+_, _-_, _*_, _≤_, _<_}
-use mathlib.Core.Path.{_≡_, refl, sym, ap, _∙_}
+use mathlib.Core.Path.{_≡_, refl, sym, _∙_}
 use mathlib.Core.Logic.{_⊎_, inl, inr}
 use mathlib.Core.Bool.{false, or-false}
 use mathlib.Core.Option.{none}
@@ -12,10 +12,10 @@ use borrow.Author.Tests.{ltb-false, leb-false, eqb-false, le-ltb, ne-eqb}
 use lib.Dec.{ltb}
 use lib.ListN.{length, getD, replicate, length-append, length-replicate, getD-replicate, List·getD-append}
 use lib.Seq.{getD-at}
-use Rattle.meanings.specs.Lists.{lowest}
-use Rattle.meanings.specs.Limits.{full, max-u16, max-bandwidth}
-use Rattle.meanings.specs.Reports.{given, report, at, first-of, decreases, bad-bandwidth}
-use Rattle.meanings.specs.Reports.{edge-decreases, uneven-samples, size-checks, fill-checks, smooth-checks}
+use Rattle.meanings.specs.declared.Limits.{Limits}
+use Rattle.meanings.specs.Limits.{max-u16, max-bandwidth, row-width}
+use Rattle.meanings.specs.Reports.{given, first-of, decreases, bad-bandwidth}
+use Rattle.meanings.specs.Reports.{edge-decreases, uneven-samples, series-checks, fill-checks, smooth-checks}
 use Rattle.meanings.specs.Grid.{presets, grid}
 use Rattle.meanings.specs.Calls.{fill-refusal, fill, fill-points, fill-bandwidths, smooth-refusal}
 use Rattle.meanings.proofs.Checks.{none-holds, at-none, differ-false, differ-same, given-accepted}
@@ -23,21 +23,22 @@ use Rattle.meanings.proofs.Presets.{presets-rise}
 use Rattle.meanings.proofs.Search.{none-lowest}
 
 -- what the filler accepts
-pub record FillAccepted (z d preset n m : ℕ) : Type 0 where
+pub record FillAccepted (L : Limits) (z d preset n m : ℕ) : Type 0 where
   pub even : n ≡ m
   pub some-point : 0 < n
-  pub few-points : n ≤ full .points
+  pub few-points : n ≤ L .points
   pub known : preset < length presets
   pub last : z + (n - 1) * d ≤ max-u16
 
-pub fill-accepts : (z d preset n m : ℕ) → first-of (fill-checks full (length presets) z d preset n m) ≡ none → FillAccepted z d preset n m
-fill-accepts z d preset n m e =
-    let a = none-holds (fill-checks full (length presets) z d preset n m) e in
+pub fill-accepts : (L : Limits) (z d preset n m : ℕ) → first-of (fill-checks L (length presets) z d preset n m) ≡ none
+    → FillAccepted L z d preset n m
+fill-accepts L z d preset n m e =
+    let a = none-holds (fill-checks L (length presets) z d preset n m) e in
     let o : n ≡ 0 → ⊥ = eqb-false n 0 (at-none 0 _ (a .1 .0)) in
     record {
       even = differ-false n m (at-none 0 _ (a .0));
       some-point = omega arith;
-      few-points = ltb-false (full .points) n (at-none 0 _ (a .1 .1 .0));
+      few-points = ltb-false (L .points) n (at-none 0 _ (a .1 .1 .0));
       known = leb-false (length presets) preset (at-none 0 _ (a .1 .1 .1 .0));
       last = ltb-false max-u16 (z + (n - 1) * d) (at-none 0 _ (a .1 .1 .1 .1 .0));
     }
@@ -74,20 +75,19 @@ module _ (z d n h : ℕ) where
       )
 
 -- a sweep over filled lists, with rows of five times their length, is refused exactly with 8, 6 or 4 of the readings
-pub filled-grid-by-samples : (ts vs : List ℕ) (z d preset n m : ℕ) → FillAccepted z d preset n m
-    → first-of (smooth-checks full ts vs (grid z d n) (replicate m (getD presets preset 0)) (5 * n))
-    ≡ first-of (size-checks full ts vs ++ report 4 (lowest (decreases ts) (length ts)) ∷ [])
-filled-grid-by-samples ts vs z d preset n m a =
+pub filled-grid-by-samples : (L : Limits) (ts vs : List ℕ) (z d preset n m : ℕ) → FillAccepted L z d preset n m
+    → first-of (smooth-checks L ts vs (grid z d n) (replicate m (getD presets preset 0)) (row-width * n)) ≡ first-of (series-checks L ts vs)
+filled-grid-by-samples L ts vs z d preset n m a =
     rw (
       sym (a .even),
       grid-length z d n,
       length-replicate n h,
       differ-same n n refl,
-      differ-same (5 * n) (5 * n) refl,
+      differ-same (row-width * n) (row-width * n) refl,
       or-false (uneven-samples ts vs),
       or-false (uneven-samples ts vs),
-      le-ltb (full .points) n (a .few-points),
-      or-false (ltb (full .samples) (length ts)),
+      le-ltb (L .points) n (a .few-points),
+      or-false (ltb (L .samples) (length ts)),
       ne-eqb n 0 (λ (e : n ≡ 0). let p = a .some-point in omega arith),
       none-lowest (decreases (grid z d n)) n (no-point-decrease z d n h),
       none-lowest (λ k. bad-bandwidth (getD (replicate n h) k 0)) n in-range,
@@ -104,11 +104,10 @@ filled-grid-by-samples ts vs z d preset n m a =
         rw (getD-replicate n k h 0 l, ne-eqb h 0 (λ (e : h ≡ 0). omega arith), le-ltb max-bandwidth h high)
 
 -- the same of the lists that an accepted filling leaves
-pub fill-then-smooth-by-samples : (ts vs : List ℕ) (z d preset : ℕ) (zs hs rs : List ℕ) → fill full z d preset zs hs ≡ given tt
-    → length rs ≡ 5 * length zs
-    → smooth-refusal full ts vs (fill-points full z d preset zs hs) (fill-bandwidths full z d preset zs hs) rs
-    ≡ first-of (size-checks full ts vs ++ report 4 (lowest (decreases ts) (length ts)) ∷ [])
+pub fill-then-smooth-by-samples : (L : Limits) (ts vs : List ℕ) (z d preset : ℕ) (zs hs rs : List ℕ) → fill L z d preset zs hs ≡ given tt
+    → length rs ≡ row-width * length zs
+    → smooth-refusal L ts vs (fill-points L z d preset zs hs) (fill-bandwidths L z d preset zs hs) rs ≡ first-of (series-checks L ts vs)
 unfolding fill fill-points fill-bandwidths
-fill-then-smooth-by-samples ts vs z d preset zs hs rs e q =
-    let a = given-accepted (fill-refusal full z d preset zs hs) tt tt e .0 in
-    rw (a, q) (filled-grid-by-samples ts vs z d preset (length zs) (length hs) (fill-accepts z d preset (length zs) (length hs) a))
+fill-then-smooth-by-samples L ts vs z d preset zs hs rs e q =
+    let a = given-accepted (fill-refusal L z d preset zs hs) tt tt e .0 in
+    rw (a, q) (filled-grid-by-samples L ts vs z d preset (length zs) (length hs) (fill-accepts L z d preset (length zs) (length hs) a))

@@ -1,10 +1,10 @@
-pub mod Accepted
 pub mod Agreement
 pub mod Answers
 pub mod Bounds
 pub mod Cases
 pub mod Checks
 pub mod Claim
+pub mod Codes
 pub mod EqualSamples
 pub mod Grids
 pub mod Kernel
@@ -14,6 +14,7 @@ pub mod Passes
 pub mod Positions
 pub mod Presets
 pub mod Published
+pub mod PublishedRows
 pub mod Rounding
 pub mod Search
 pub mod SmoothLog

@@ -5,8 +5,8 @@ use mathlib.Core.Path.{_≡_, ap, _∙_}
 use mathlib.Core.List.{List}
 use native.Mathlib.Nat.{pow-zero, pow-suc, one-mul}
 use native.Mathlib.Omega.{arith}
-use lib.ListN.{length, getD}
-use Rattle.meanings.specs.Lists.{total, distance, Ordered}
+use lib.ListN.{getD}
+use Rattle.meanings.specs.Lists.{total, Ordered}
 use Rattle.meanings.specs.Estimate.{Inside, kernel, left-of, right-of, weight-of, sum-of}
 use Rattle.meanings.specs.Running.{window-sum}
 use Rattle.meanings.proofs.Kernel.{distance-square, kernel-exact}

@@ -12,7 +12,7 @@ use Rattle.meanings.specs.declared.RunningSums.{RunningSums}
 use Rattle.meanings.specs.Limits.{full}
 use Rattle.meanings.specs.Moves.{Move}
 use Rattle.meanings.specs.Reports.{Fault, unless, first-of, advance-checks}
-use Rattle.meanings.specs.Running.{new-right, moved-to, moved, advance, settled, after-step, after, fresh, passes}
+use Rattle.meanings.specs.Running.{new-right, moved-to, moved, advance, next-record, after-step, after, fresh, passes}
 use Rattle.meanings.specs.EventLog.{EventLog, log-step, log-after}
 use Rattle.meanings.proofs.Search.{IsFirst, first-is-first}
 
@@ -47,7 +47,7 @@ module _ (ts vs : List ℕ) where
   unfolding advance
   step-onward r m w = by (first-of (advance-checks full ts vs (r .left) (r .right) (m .bandwidth)))
     where
-      by : (f : Option Fault) → Onward ts r (settled r (unless f (moved ts vs r (m .point) (m .bandwidth))))
+      by : (f : Option Fault) → Onward ts r (next-record r (unless f (moved ts vs r (m .point) (m .bandwidth))))
       by none = moved-onward ts vs r (m .point) (m .bandwidth) w
       by (some e) = record { left-stays-or-rises = le-refl _; right-stays-or-rises = le-refl _; within = w }
 

@@ -7,7 +7,7 @@ use native.Mathlib.Nat.{div-add-mod', mod-lt, mul-le-mul-right}
 use native.Mathlib.Decide.{decLe}
 use native.Mathlib.Omega.{arith}
 use borrow.Author.Tests.{leb-true, leb-false, ne-eqb}
-use lib.Dec.{leb, eqb}
+use lib.Dec.{leb}
 use Rattle.meanings.specs.Lists.{pick}
 use Rattle.meanings.specs.PublishedRow.{Nearest}
 use Rattle.meanings.specs.Estimate.{rounded, value-of, missing}

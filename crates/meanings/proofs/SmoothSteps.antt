@@ -2,23 +2,27 @@
 -- the record has passed the next window's.
 use Prim.Native.Nat.{ℕ, zero, suc, _+_, _-_, _*_, _≤_, _<_, zero-le}
 use mathlib.Core.Path.{_≡_, refl, ap, _∙_}
-use mathlib.Core.Bool.{true, false}
+use mathlib.Core.Bool.{Bool, false}
 use mathlib.Core.Option.{none}
-use mathlib.Core.List.{List}
+use mathlib.Core.List.{List, _++_}
+use native.Mathlib.Nat.{le-trans}
 use native.Mathlib.Omega.{arith}
 use borrow.Author.Tests.{ltb-true, lt-ltb, leb-true, le-leb, le-ltb, ltb-false, ne-eqb}
 use lib.Dec.{ltb, leb}
 use lib.ListN.{length, getD, drop, drop-of-length-le}
 use lib.Seq.{drop-cons}
+use Rattle.meanings.specs.declared.Limits.{Limits}
 use Rattle.meanings.specs.declared.RunningSums.{RunningSums}
 use Rattle.meanings.specs.Lists.{lowest, Ordered}
-use Rattle.meanings.specs.Limits.{full, max-bandwidth}
+use Rattle.meanings.specs.Limits.{full, LimitsWithin, max-bandwidth, row-width}
 use Rattle.meanings.specs.Moves.{moves}
 use Rattle.meanings.specs.Reports.{Answer, given, first-of, bad-bandwidth, edge-decreases, left-edge-below}
-use Rattle.meanings.specs.Reports.{right-edge-below, smooth-checks, smooth-size-checks, smooth-order-checks}
+use Rattle.meanings.specs.Reports.{right-edge-below, uneven-rows, curve-size-checks, sample-order-checks, point-order-checks}
+use Rattle.meanings.specs.Reports.{order-checks, windows-checks, curve-checks, smooth-checks}
 use Rattle.meanings.specs.Estimate.{left-of, right-of}
-use Rattle.meanings.specs.Running.{fresh, moved, advance, settled, after, passes}
-use Rattle.meanings.proofs.Checks.{none-holds, none-of-both, or-false, bandwidth-in-range, no-decrease-ordered, smooth-sizes-accept, differ-same}
+use Rattle.meanings.specs.Running.{fresh, moved, advance, next-record, after, passes}
+use Rattle.meanings.proofs.Checks.{none-holds, none-of-both, or-false, bandwidth-in-range, sample-order-accepts, curve-sizes-accept}
+use Rattle.meanings.proofs.Checks.{differ-false, differ-same}
 use Rattle.meanings.proofs.Passes.{passes-are-last-edges}
 use Rattle.meanings.proofs.Search.{lowest-none}
 use Rattle.meanings.proofs.Steps.{Small, at-window, moved-lands, fresh-lands}
@@ -35,11 +39,18 @@ unfolding right-of
 right-grows ts z h z′ h′ l =
     count-grows (λ t. leb t (z + h)) (λ t. leb t (z′ + h′)) (λ t e. le-leb t (z′ + h′) (let m = leb-true t (z + h) e in omega arith)) ts
 
--- what an accepted sweep has found of its lists
-pub record SmoothAccepted (ts vs zs hs : List ℕ) (rows : ℕ) : Type 0 where
+-- lengths, order and windows: each part finds nothing where all together do
+pub none-of-three : (L : Limits) (ts vs zs hs : List ℕ) (more : Bool) → first-of (curve-checks L ts vs zs hs more) ≡ none
+    → (first-of (curve-size-checks L ts vs zs hs more) ≡ none) × (first-of (order-checks ts zs) ≡ none) × (first-of (windows-checks zs hs) ≡ none)
+none-of-three L ts vs zs hs more e =
+    let a = none-of-both (curve-size-checks L ts vs zs hs more) (order-checks ts zs ++ windows-checks zs hs) e in
+    let b = none-of-both (order-checks ts zs) (windows-checks zs hs) (a .1) in
+    (a .0, b .0, b .1)
+
+-- what the checks of readings and marks have found of them, under limits at most the full ones
+pub record CurveAccepted (ts vs zs hs : List ℕ) : Type 0 where
   pub even : length ts ≡ length vs
   pub even-points : length zs ≡ length hs
-  pub rows-five : rows ≡ 5 * length zs
   pub few : length ts ≤ full .samples
   pub few-points : length zs ≤ full .points
   pub ordered : Ordered ts
@@ -48,37 +59,56 @@ pub record SmoothAccepted (ts vs zs hs : List ℕ) (rows : ℕ) : Type 0 where
   pub left-edges : (k : ℕ) → suc k < length zs → getD zs k 0 + getD hs (suc k) 0 ≤ getD zs (suc k) 0 + getD hs k 0
   pub right-edges : (k : ℕ) → suc k < length zs → getD zs k 0 + getD hs k 0 ≤ getD zs (suc k) 0 + getD hs (suc k) 0
 
-pub smooth-accepts : (ts vs zs hs : List ℕ) (rows : ℕ) → first-of (smooth-checks full ts vs zs hs rows) ≡ none
-    → SmoothAccepted ts vs zs hs rows
-smooth-accepts ts vs zs hs rows e =
-    let both = none-of-both (smooth-size-checks full ts vs zs hs rows) (smooth-order-checks ts zs hs) e in
-    let sizes = smooth-sizes-accept full ts vs zs hs rows (both .0) in
-    let orders = none-holds (smooth-order-checks ts zs hs) (both .1) in
-    record {
-      even = sizes .even;
-      even-points = sizes .even-points;
-      rows-five = sizes .rows-five;
-      few = sizes .few;
-      few-points = sizes .few-points;
-      ordered = no-decrease-ordered ts (orders .0);
-      bandwidths = λ k l.
-          bandwidth-in-range (getD hs k 0)
-          (lowest-none (λ k. bad-bandwidth (getD hs k 0)) (length hs) (orders .1 .1 .0) k (let q = sizes .even-points in omega arith));
-      left-edges = λ k l. ltb-false _ _ (falls (orders .1 .1 .1 .0) k l .0);
-      right-edges = λ k l. ltb-false _ _ (falls (orders .1 .1 .1 .0) k l .1);
-    }
-  where
-    falls : lowest (edge-decreases zs hs) (length zs) ≡ none → (k : ℕ) → suc k < length zs
-        → (left-edge-below (getD zs (suc k) 0) (getD hs (suc k) 0) (getD zs k 0) (getD hs k 0) ≡ false)
-        × (right-edge-below (getD zs (suc k) 0) (getD hs (suc k) 0) (getD zs k 0) (getD hs k 0) ≡ false)
-    falls q k l = or-false _ _ (lowest-none (edge-decreases zs hs) (length zs) q (suc k) l)
+-- of an accepted sweep, with so many numbers in its rows
+pub record SmoothAccepted (ts vs zs hs : List ℕ) (rows : ℕ) : Type 0 where
+  pub lists : CurveAccepted ts vs zs hs
+  pub rows-fit : rows ≡ row-width * length zs
+
+module _ (L : Limits) (within : LimitsWithin L full) (ts vs zs hs : List ℕ) where
+  -- the three parts of the checks, each of which finds nothing
+  pub parts-accept : (more : Bool) → first-of (curve-size-checks L ts vs zs hs more) ≡ none → first-of (sample-order-checks ts) ≡ none
+      → first-of (windows-checks zs hs) ≡ none → CurveAccepted ts vs zs hs
+  parts-accept more s o w =
+      let sizes = curve-sizes-accept L ts vs zs hs more s in
+      let windows = none-holds (windows-checks zs hs) w in
+      record {
+        even = sizes .even;
+        even-points = sizes .even-points;
+        few = le-trans (sizes .few) (within .samples);
+        few-points = le-trans (sizes .few-points) (within .points);
+        ordered = sample-order-accepts ts o;
+        bandwidths = λ k l.
+            bandwidth-in-range (getD hs k 0)
+            (lowest-none (λ k. bad-bandwidth (getD hs k 0)) (length hs) (windows .0) k (let q = sizes .even-points in omega arith));
+        left-edges = λ k l. ltb-false _ _ (falls (windows .1 .0) k l .0);
+        right-edges = λ k l. ltb-false _ _ (falls (windows .1 .0) k l .1);
+      }
+    where
+      falls : lowest (edge-decreases zs hs) (length zs) ≡ none → (k : ℕ) → suc k < length zs
+          → (left-edge-below (getD zs (suc k) 0) (getD hs (suc k) 0) (getD zs k 0) (getD hs k 0) ≡ false)
+          × (right-edge-below (getD zs (suc k) 0) (getD hs (suc k) 0) (getD zs k 0) (getD hs k 0) ≡ false)
+      falls q k l = or-false _ _ (lowest-none (edge-decreases zs hs) (length zs) q (suc k) l)
+
+  pub curve-accepts : (more : Bool) → first-of (curve-checks L ts vs zs hs more) ≡ none → CurveAccepted ts vs zs hs
+  curve-accepts more e =
+      let a = none-of-three L ts vs zs hs more e in
+      parts-accept more (a .0) (none-of-both (sample-order-checks ts) (point-order-checks zs) (a .1) .0) (a .2)
+
+  pub smooth-accepts : (rows : ℕ) → first-of (smooth-checks L ts vs zs hs rows) ≡ none → SmoothAccepted ts vs zs hs rows
+  smooth-accepts rows e =
+      let more = uneven-rows row-width rows (length zs) in
+      let a = none-of-three L ts vs zs hs more e in
+      record {
+        lists = curve-accepts more e;
+        rows-fit = differ-false rows (row-width * length zs) (curve-sizes-accept L ts vs zs hs more (a .0) .no-more);
+      }
 
 -- the record after k steps of such a sweep
 abbrev pub running-at : List ℕ → List ℕ → List ℕ → List ℕ → ℕ → RunningSums
 running-at ts vs zs hs zero = fresh
 running-at ts vs zs hs (suc k) = at-window ts vs (getD zs k 0) (getD hs k 0)
 
-module _ (ts vs zs hs : List ℕ) (rows : ℕ) (s : Small ts vs) (a : SmoothAccepted ts vs zs hs rows) where
+module _ (ts vs zs hs : List ℕ) (s : Small ts vs) (a : CurveAccepted ts vs zs hs) where
   pub step-lands : (k : ℕ) → k < length zs → moved ts vs (running-at ts vs zs hs k) (getD zs k 0) (getD hs k 0) ≡ running-at ts vs zs hs (suc k)
   step-lands zero l = fresh-lands ts vs s (a .ordered) (getD zs 0 0) (getD hs 0 0)
   step-lands (suc k) l =
@@ -121,7 +151,7 @@ module _ (ts vs zs hs : List ℕ) (rows : ℕ) (s : Small ts vs) (a : SmoothAcce
       let m : k < length hs = omega (arith, a .even-points) in
       rw (drop-cons zs k 0 l, drop-cons hs k 0 m)
       (ap
-      (λ (x : Answer RunningSums). after ts vs (settled (running-at ts vs zs hs k) x) (moves (drop (suc k) zs) (drop (suc k) hs)))
+      (λ (x : Answer RunningSums). after ts vs (next-record (running-at ts vs zs hs k) x) (moves (drop (suc k) zs) (drop (suc k) hs)))
       (step-accepted k l)
       ∙ rest-lands n (suc k) (omega arith))
 

@@ -6,15 +6,14 @@ use mathlib.Core.List.{List}
 use native.Mathlib.Nat.{mod-eq-of-lt, add-mod-right, le-trans, mul-le-mul, mul-le-mul-left, mul-le-mul-right, pow-le-pow-left, pow-le-pow-right}
 use native.Mathlib.Omega.{arith}
 use borrow.Author.Tests.{lt-ltb, le-ltb, le-leb, lt-leb}
-use lib.Dec.{ltb, leb}
 use lib.ListN.{length, getD}
 use Rattle.meanings.specs.declared.PowerSums.{PowerSums}
 use Rattle.meanings.specs.declared.RunningSums.{RunningSums}
-use Rattle.meanings.specs.Lists.{first, total, Ordered, AtMost}
+use Rattle.meanings.specs.Lists.{total, Ordered, AtMost}
 use Rattle.meanings.specs.Limits.{full, max-u16}
 use Rattle.meanings.specs.Estimate.{left-of, right-of}
 use Rattle.meanings.specs.Running.{term, power-sum, six, sum-at, plus, minus, new-right}
-use Rattle.meanings.specs.Running.{new-left, new-sums, moved, window-sum, window-sums, fresh}
+use Rattle.meanings.specs.Running.{new-left, new-sums, moved, window-sums, fresh}
 use Rattle.meanings.proofs.Bounds.{total-at-most}
 use Rattle.meanings.proofs.Search.{first-is-first, first-unique}
 use Rattle.meanings.proofs.Totals.{total-split}

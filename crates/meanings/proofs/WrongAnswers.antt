@@ -50,9 +50,9 @@ unfolding window left-of right-of
 no-run-one-short e = let n : _≡_ {A = ℕ} 2 1 = ap length e in omega arith
 
 -- one number of a sweep's answer: its passes or the report's number
-told-number : Answer ℕ → ℕ
-told-number (given n) = n
-told-number (refused f) = f .number
+answer-number : Answer ℕ → ℕ
+answer-number (given n) = n
+answer-number (refused f) = f .number
 
 -- a sweep that leaves its rows as they were
 pub no-rows-untouched : ¬ ((ts vs zs hs rs : List ℕ) → smooth-rows full ts vs zs hs rs ≡ rs)
@@ -74,8 +74,8 @@ no-value-from-the-row-before e = let n : _≡_ {A = ℕ} 65536 50 = ap (λ (r : 
 -- report 5 looked at before report 4
 pub five-not-before-four : ¬ (smooth full (5 ∷ 4 ∷ []) (1 ∷ 2 ∷ []) (1 ∷ 0 ∷ []) (1 ∷ 1 ∷ []) (7 ∷ 7 ∷ 7 ∷ 7 ∷ 7 ∷ 7 ∷ 7 ∷ 7 ∷ 7 ∷ 7 ∷ [])
     ≡ refused (record { number = 5; place = 1 }))
-unfolding smooth told-number
-five-not-before-four e = let n : _≡_ {A = ℕ} 4 5 = ap told-number e in omega arith
+unfolding smooth answer-number
+five-not-before-four e = let n : _≡_ {A = ℕ} 4 5 = ap answer-number e in omega arith
 
 -- a refusal that has filled the first mark
 pub no-point-filled-on-refusal : ¬ (fill-points full 65535 1 0 (7 ∷ 7 ∷ []) (7 ∷ 7 ∷ []) ≡ 65535 ∷ 7 ∷ [])

@@ -12,6 +12,13 @@ ascii (c then t) = code c ∷ ascii t
 abbrev pub line-feed : ℕ
 line-feed = 10
 
+-- what ends a line of the sheet: one line feed
+pub data LineEnding : Type 0 where
+  feed : LineEnding
+
+abbrev pub ending-bytes : LineEnding → List ℕ
+ending-bytes feed = line-feed ∷ []
+
 abbrev pub comma : ℕ
 comma = code ","
 

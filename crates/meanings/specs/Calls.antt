@@ -7,21 +7,21 @@ use lib.ListN.{length, getD, drop, replicate}
 use Rattle.meanings.specs.declared.Estimate.{Estimate}
 use Rattle.meanings.specs.declared.RunningSums.{RunningSums}
 use Rattle.meanings.specs.declared.Evaluation.{Evaluation}
-use Rattle.meanings.specs.declared.Evaluation.the-variants.{Row, Unfit}
+use Rattle.meanings.specs.declared.Evaluation.the-variants.{Row}
 use Rattle.meanings.specs.declared.Advance.{Advance}
-use Rattle.meanings.specs.declared.Advance.the-variants.{Moved, Stayed}
+use Rattle.meanings.specs.declared.Advance.the-variants.{Moved}
 use Rattle.meanings.specs.declared.Smoothing.{Smoothing}
-use Rattle.meanings.specs.declared.Smoothing.the-variants.{Passes, Unswept}
+use Rattle.meanings.specs.declared.Smoothing.the-variants.{Passes}
 use Rattle.meanings.specs.declared.Filling.{Filling}
-use Rattle.meanings.specs.declared.Filling.the-variants.{Filled, Unfilled}
-use Rattle.meanings.specs.declared.Reading.{Reading}
-use Rattle.meanings.specs.declared.Reading.the-variants.{Used, Unread}
+use Rattle.meanings.specs.declared.Filling.the-variants.{Filled}
+use Rattle.meanings.specs.declared.Parsing.{Parsing}
+use Rattle.meanings.specs.declared.Parsing.the-variants.{Used}
 use Rattle.meanings.specs.declared.Writing.{Writing}
-use Rattle.meanings.specs.declared.Writing.the-variants.{Written, Unwritten}
+use Rattle.meanings.specs.declared.Writing.the-variants.{Written}
 use Rattle.meanings.specs.declared.Limits.{Limits}
 use Rattle.meanings.specs.Limits.{full}
 use Rattle.meanings.specs.Moves.{moves}
-use Rattle.meanings.specs.Reports.{Fault, Answer, given, refused, unless, accepted-or, told}
+use Rattle.meanings.specs.Reports.{Fault, Answer, given, refused, unless, accepted-or, fault-of}
 use Rattle.meanings.specs.Reports.{first-of, evaluate-checks, smooth-checks, fill-checks, read-checks, buffer-checks}
 use Rattle.meanings.specs.Estimate.{estimate, left-of, run-of, rows}
 use Rattle.meanings.specs.Running.{fresh, passes}
@@ -30,9 +30,9 @@ use Rattle.meanings.specs.Sheet.{Contents, Outcome, or-next, read-sheet}
 use Rattle.meanings.specs.Output.{curve-text, refusal-text}
 
 -- the question at one mark, first call: the row or the report
-abbrev pub told-evaluation : Evaluation → Answer Estimate
-told-evaluation (Row e) = given e
-told-evaluation (Unfit r) = refused (told r)
+abbrev pub evaluation-answer : Evaluation → Answer Estimate
+evaluation-answer (Row e) = given e
+evaluation-answer (Evaluation.Refused r) = refused (fault-of r)
 
 abbrev pub evaluate-refusal : Limits → List ℕ → List ℕ → ℕ → Option Fault
 evaluate-refusal L ts vs h = first-of (evaluate-checks L ts vs h)
@@ -49,14 +49,14 @@ unfoldable pub window-start : Limits → List ℕ → List ℕ → ℕ → ℕ �
 window-start L ts vs z h = accepted-or (evaluate-refusal L ts vs h) (left-of ts z h) 0
 
 -- the step: its meaning is advance of specs/Running.antt
-abbrev pub told-advance : Advance → Answer RunningSums
-told-advance (Moved r) = given r
-told-advance (Stayed r) = refused (told r)
+abbrev pub advance-answer : Advance → Answer RunningSums
+advance-answer (Moved r) = given r
+advance-answer (Advance.Refused r) = refused (fault-of r)
 
 -- the whole sweep, under limits at most the full ones: its passes or the report
-abbrev pub told-smoothing : Smoothing → Answer ℕ
-told-smoothing (Passes n) = given n
-told-smoothing (Unswept r) = refused (told r)
+abbrev pub smoothing-answer : Smoothing → Answer ℕ
+smoothing-answer (Passes n) = given n
+smoothing-answer (Smoothing.Refused r) = refused (fault-of r)
 
 abbrev pub smooth-refusal : Limits → List ℕ → List ℕ → List ℕ → List ℕ → List ℕ → Option Fault
 smooth-refusal L ts vs zs hs rs = first-of (smooth-checks L ts vs zs hs (length rs))
@@ -69,9 +69,9 @@ unfoldable pub smooth-rows : Limits → List ℕ → List ℕ → List ℕ → L
 smooth-rows L ts vs zs hs rs = accepted-or (smooth-refusal L ts vs zs hs rs) (rows ts vs zs hs (length zs)) rs
 
 -- the mark filler, with the lists zs of marks and hs of half widths
-abbrev pub told-filling : Filling → Answer Unit
-told-filling Filled = given tt
-told-filling (Unfilled r) = refused (told r)
+abbrev pub filling-answer : Filling → Answer Unit
+filling-answer Filled = given tt
+filling-answer (Filling.Refused r) = refused (fault-of r)
 
 abbrev pub fill-refusal : Limits → ℕ → ℕ → ℕ → List ℕ → List ℕ → Option Fault
 fill-refusal L z₀ spacing preset zs hs = first-of (fill-checks L (length presets) z₀ spacing preset (length zs) (length hs))
@@ -93,9 +93,9 @@ pub record Counts : Type 0 where
   pub samples : ℕ
   pub points : ℕ
 
-abbrev pub told-reading : Reading → Answer Counts
-told-reading (Used n m) = given (record { samples = n; points = m })
-told-reading (Unread r) = refused (told r)
+abbrev pub parsing-answer : Parsing → Answer Counts
+parsing-answer (Used n m) = given (record { samples = n; points = m })
+parsing-answer (Parsing.Refused r) = refused (fault-of r)
 
 -- what the reader makes of a sheet with four lent lists
 unfoldable pub read : Limits → List ℕ → List ℕ → List ℕ → List ℕ → List ℕ → Outcome
@@ -124,9 +124,9 @@ abbrev pub read-bandwidths : Outcome → List ℕ → List ℕ
 read-bandwidths o hs = filled-front o (λ c. c .bandwidths) hs
 
 -- both writers of a text: how many bytes they have written into the lent buffer, or the report
-abbrev pub told-writing : Writing → Answer ℕ
-told-writing (Written n) = given n
-told-writing (Unwritten r) = refused (told r)
+abbrev pub writing-answer : Writing → Answer ℕ
+writing-answer (Written n) = given n
+writing-answer (Writing.Refused r) = refused (fault-of r)
 
 -- what is looked at before all else: a buffer of another length
 abbrev pub buffer-refusal : List ℕ → Option Fault

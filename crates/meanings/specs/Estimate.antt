@@ -10,7 +10,7 @@ use Rattle.meanings.specs.Lists.{pick, count, total, distance, AtMost}
 use Rattle.meanings.specs.Limits.{full, max-u16, max-bandwidth}
 
 -- readings and a half width within their ranges and limits
-pub record Fit (ts vs : List ℕ) (h : ℕ) : Type 0 where
+pub record WithinLimits (ts vs : List ℕ) (h : ℕ) : Type 0 where
   pub even : length ts ≡ length vs
   pub few : length ts ≤ full .samples
   pub values : AtMost max-u16 vs

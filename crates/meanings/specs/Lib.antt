@@ -2,6 +2,7 @@ pub mod Bytes
 pub mod Calls
 pub mod Cases
 pub mod Claim
+pub mod Codes
 pub mod Document
 pub mod Estimate
 pub mod EventLog

@@ -1,5 +1,5 @@
 -- SPECIFICATION, "Readings and marks": the ranges and limits.
-use Prim.Native.Nat.{ℕ}
+use Prim.Native.Nat.{ℕ, _≤_}
 use Rattle.meanings.specs.declared.Limits.{Limits}
 
 -- the greatest minute, value, mark and spacing, and the greatest count of injections
@@ -14,10 +14,19 @@ max-bandwidth = 65536
 abbrev pub full : Limits
 full = record { samples = 1024; points = 512 }
 
+-- limits that allow no more than others do
+pub record LimitsWithin (L M : Limits) : Type 0 where
+  pub samples : L .samples ≤ M .samples
+  pub points : L .points ≤ M .points
+
+-- how many numbers a row takes in the list of rows
+abbrev pub row-width : ℕ
+row-width = 5
+
 -- the greatest length of a sheet, in bytes
 abbrev pub max-sheet : ℕ
 max-sheet = 32768
 
--- the length of the buffer that a text is written into: none is longer, by the laws program-fits and any-refusal-fits of crates/output_laws
+-- the length of the buffer that a text is written into: none is longer, by the laws program-fits and any-refusal-fits of crates/laws_output
 abbrev pub max-output : ℕ
 max-output = 31291

@@ -82,13 +82,13 @@ unfoldable pub advance : List ℕ → List ℕ → RunningSums → ℕ → ℕ �
 advance ts vs r z h = unless (first-of (advance-checks full ts vs (r .left) (r .right) h)) (moved ts vs r z h)
 
 -- the record after a step: the new one, or the old one where it was refused
-abbrev pub settled : RunningSums → Answer RunningSums → RunningSums
-settled r (given r′) = r′
-settled r (refused e) = r
+abbrev pub next-record : RunningSums → Answer RunningSums → RunningSums
+next-record r (given r′) = r′
+next-record r (refused e) = r
 
 -- the record after a step of a list
 abbrev pub after-step : List ℕ → List ℕ → RunningSums → Move → RunningSums
-after-step ts vs r m = settled r (advance ts vs r (m .point) (m .bandwidth))
+after-step ts vs r m = next-record r (advance ts vs r (m .point) (m .bandwidth))
 
 -- the record after a list of steps over the same readings, refused ones included
 abbrev pub after : List ℕ → List ℕ → RunningSums → List Move → RunningSums

@@ -1,6 +1,6 @@
 -- SPECIFICATION, "The sheet": lines, numbers, names lines, and the reader as a function from any list of bytes to a report with its
 -- place or the four lists.
-use Prim.Native.Nat.{ℕ, zero, _+_, _-_, _*_}
+use Prim.Native.Nat.{ℕ, _+_, _-_, _*_}
 use mathlib.Core.Bool.{Bool, true, false, not, _&&_}
 use mathlib.Core.List.{List, [], _∷_, _++_}
 use mathlib.Core.Option.{Option, none, some}
@@ -9,26 +9,29 @@ use lib.ListN.{length}
 use Rattle.meanings.specs.Lists.{pick}
 use Rattle.meanings.specs.declared.Limits.{Limits}
 use Rattle.meanings.specs.Limits.{max-u16, max-sheet}
-use Rattle.meanings.specs.Moves.{Move}
-use Rattle.meanings.specs.Bytes.{line-feed, comma, zero-digit, nine-digit, point-header, sample-header}
-use Rattle.meanings.specs.Reports.{Fault, Answer, given, refused, Check, report, at, first-of, decreases, bad-bandwidth, edge-decreases}
+use Rattle.meanings.specs.Bytes.{line-feed, LineEnding, feed, ending-bytes, comma, zero-digit, nine-digit, point-header, sample-header}
+use Rattle.meanings.specs.Reports.{Fault, Answer, given, refused, Check, check, at, first-of, decreases, bad-bandwidth, edge-decreases}
 
--- bytes as lines: each text up to a line feed, and at the end nothing or a text without its line feed
+-- bytes as lines: each text with the line ending behind it, and at the end nothing or a text without one
 pub data Lines : Type 0 where
   end : Lines
   unended : List ℕ → Lines
-  line : List ℕ → Lines → Lines
+  line : List ℕ → LineEnding → Lines → Lines
 
 -- one byte more in front: the line feed that ends an empty text, or the first byte of the text that follows
 abbrev pub with-byte : Bool → ℕ → Lines → Lines
-with-byte true b ls = line [] ls
+with-byte true b ls = line [] feed ls
 with-byte false b end = unended (b ∷ [])
 with-byte false b (unended t) = unended (b ∷ t)
-with-byte false b (line t ls) = line (b ∷ t) ls
+with-byte false b (line t e ls) = line (b ∷ t) e ls
 
 abbrev pub lines : List ℕ → Lines
 lines [] = end
 lines (b ∷ bs) = with-byte (eqb b line-feed) b (lines bs)
+
+-- where the line behind a line begins: that line begins at byte p and has the text t and the ending e
+abbrev pub next-place : ℕ → List ℕ → LineEnding → ℕ
+next-place p t e = p + length t + length (ending-bytes e)
 
 -- a text as the parts between its commas
 abbrev pub with-part-byte : Bool → ℕ → List (List ℕ) → List (List ℕ)
@@ -48,9 +51,9 @@ digits [] = true
 digits (b ∷ bs) = digit b && digits bs
 
 -- the number that the digits say, after those that say n
-abbrev pub said : ℕ → List ℕ → ℕ
-said n [] = n
-said n (b ∷ bs) = said (n * 10 + (b - zero-digit)) bs
+abbrev pub digits-value : ℕ → List ℕ → ℕ
+digits-value n [] = n
+digits-value n (b ∷ bs) = digits-value (n * 10 + (b - zero-digit)) bs
 
 -- a digit 0 in front stands alone
 abbrev pub plain-front : ℕ → List ℕ → Bool
@@ -63,21 +66,26 @@ number-form [] = false
 number-form (b ∷ bs) = digits (b ∷ bs) && leb (length (b ∷ bs)) 5 && plain-front b bs
 
 abbrev pub parsed : List ℕ → Option ℕ
-parsed t = pick (number-form t) (some (said 0 t)) none
+parsed t = pick (number-form t) (some (digits-value 0 t)) none
 
--- a mark line's values; its half width has no range here
-abbrev pub ranged-point : Option ℕ → Option ℕ → Option Move
+-- a mark line's values
+pub record EvaluationPoint : Type 0 where
+  pub point : ℕ
+  pub bandwidth : ℕ
+
+-- the half width has no range here
+abbrev pub ranged-point : Option ℕ → Option ℕ → Option EvaluationPoint
 ranged-point none h = none
 ranged-point (some z) none = none
 ranged-point (some z) (some h) = pick (leb z max-u16) (some (record { point = z; bandwidth = h })) none
 
-abbrev pub two-parts : List (List ℕ) → Option Move
+abbrev pub two-parts : List (List ℕ) → Option EvaluationPoint
 two-parts [] = none
 two-parts (a ∷ []) = none
 two-parts (a ∷ b ∷ []) = ranged-point (parsed a) (parsed b)
 two-parts (a ∷ b ∷ c ∷ r) = none
 
-abbrev pub point-line : List ℕ → Option Move
+abbrev pub point-line : List ℕ → Option EvaluationPoint
 point-line t = two-parts (parts t)
 
 -- a reading line's values: minute, inj, vdk
@@ -129,23 +137,23 @@ or-next none o = o
 or-next (some e) o = refused e
 
 -- a mark line at byte p, after those with the marks zs and half widths hs: 5, 9, 10, 6
-abbrev pub point-checks : Limits → ℕ → List ℕ → List ℕ → Move → List Check
+abbrev pub point-checks : Limits → ℕ → List ℕ → List ℕ → EvaluationPoint → List Check
 point-checks L p zs hs m =
-    report 5 (at p (decreases (zs ++ m .point ∷ []) (length zs)))
-    ∷ report 9 (at p (bad-bandwidth (m .bandwidth)))
-    ∷ report 10 (at p (edge-decreases (zs ++ m .point ∷ []) (hs ++ m .bandwidth ∷ []) (length zs)))
-    ∷ report 6 (at p (leb (L .points) (length zs)))
+    check 5 (at p (decreases (zs ++ m .point ∷ []) (length zs)))
+    ∷ check 9 (at p (bad-bandwidth (m .bandwidth)))
+    ∷ check 10 (at p (edge-decreases (zs ++ m .point ∷ []) (hs ++ m .bandwidth ∷ []) (length zs)))
+    ∷ check 6 (at p (leb (L .points) (length zs)))
     ∷ []
 
 -- a reading line at byte p, after lines with the minutes all, of which n are kept: 4, 6
 abbrev pub sample-checks : Limits → ℕ → List ℕ → ℕ → Injection → List Check
 sample-checks L p all n j =
-    report 4 (at p (decreases (all ++ j .minute ∷ []) (length all)))
-    ∷ report 6 (at p (kept j && leb (L .samples) n))
+    check 4 (at p (decreases (all ++ j .minute ∷ []) (length all)))
+    ∷ check 6 (at p (kept j && leb (L .samples) n))
     ∷ []
 
 -- a line that is no value line is refused with 3; else the first that holds; else what comes next
-abbrev pub with-point : Limits → ℕ → List ℕ → List ℕ → Option Move → (List ℕ → List ℕ → Outcome) → Outcome
+abbrev pub with-point : Limits → ℕ → List ℕ → List ℕ → Option EvaluationPoint → (List ℕ → List ℕ → Outcome) → Outcome
 with-point L p zs hs none next = refused-at p 3
 with-point L p zs hs (some m) next =
     or-next (first-of (point-checks L p zs hs m)) (next (zs ++ m .point ∷ []) (hs ++ m .bandwidth ∷ []))
@@ -163,8 +171,8 @@ with-sample L p all ts vs (some j) next =
 abbrev pub read-samples : Limits → List ℕ → List ℕ → ℕ → List ℕ → List ℕ → List ℕ → Lines → Outcome
 read-samples L zs hs p all ts vs end = given (record { minutes = ts; values = vs; points = zs; bandwidths = hs })
 read-samples L zs hs p all ts vs (unended t) = refused-at p 3
-read-samples L zs hs p all ts vs (line t ls) =
-    with-sample L p all ts vs (sample-line t) (λ all′ ts′ vs′. read-samples L zs hs (p + length t + 1) all′ ts′ vs′ ls)
+read-samples L zs hs p all ts vs (line t e ls) =
+    with-sample L p all ts vs (sample-line t) (λ all′ ts′ vs′. read-samples L zs hs (next-place p t e) all′ ts′ vs′ ls)
 
 abbrev pub same : List ℕ → List ℕ → Bool
 same [] [] = true
@@ -176,21 +184,21 @@ same (x ∷ xs) (y ∷ ys) = eqb x y && same xs ys
 abbrev pub header : List ℕ → ℕ → Lines → (ℕ → Lines → Outcome) → Outcome
 header names p end next = refused-at p 2
 header names p (unended t) next = refused-at p 2
-header names p (line t ls) next = pick (same t names) (next (p + length t + 1) ls) (refused-at p 2)
+header names p (line t e ls) next = pick (same t names) (next (next-place p t e) ls) (refused-at p 2)
 
--- the empty line at byte p, and what follows it
-abbrev pub after-points : Limits → ℕ → List ℕ → List ℕ → Lines → Outcome
-after-points L p zs hs ls =
+-- the empty line at byte p, with the ending e, and what follows it
+abbrev pub after-points : Limits → ℕ → List ℕ → List ℕ → LineEnding → Lines → Outcome
+after-points L p zs hs e ls =
     pick (eqb (length zs) 0) (refused-at p 7)
-    (header sample-header (p + 1) ls (λ q rest. read-samples L zs hs q [] [] [] rest))
+    (header sample-header (next-place p [] e) ls (λ q rest. read-samples L zs hs q [] [] [] rest))
 
 -- the mark lines from byte p on, to the empty line
 abbrev pub read-points : Limits → ℕ → List ℕ → List ℕ → Lines → Outcome
 read-points L p zs hs end = refused-at p 3
 read-points L p zs hs (unended t) = refused-at p 3
-read-points L p zs hs (line [] ls) = after-points L p zs hs ls
-read-points L p zs hs (line (b ∷ t) ls) =
-    with-point L p zs hs (point-line (b ∷ t)) (λ zs′ hs′. read-points L (p + length (b ∷ t) + 1) zs′ hs′ ls)
+read-points L p zs hs (line [] e ls) = after-points L p zs hs e ls
+read-points L p zs hs (line (b ∷ t) e ls) =
+    with-point L p zs hs (point-line (b ∷ t)) (λ zs′ hs′. read-points L (next-place p (b ∷ t) e) zs′ hs′ ls)
 
 -- the reader's meaning
 unfoldable pub read-sheet : Limits → List ℕ → Outcome

@@ -1,6 +1,6 @@
 -- A second reading of the tank sheet, which parses nothing: a sheet of given lists is what they print to, and a refusal says which lines
 -- stand before its place and what is wrong with the line there. That it agrees with the reader's meaning of specs/Sheet.antt is proved in
--- crates/sheet_laws.
+-- crates/laws_sheet.
 use Prim.Native.Nat.{ℕ, _+_, _≤_, _<_}
 use mathlib.Core.Path.{_≡_}
 use mathlib.Core.Logic.{_⊎_}
@@ -10,37 +10,62 @@ use lib.ListN.{length}
 use Rattle.meanings.specs.Lists.{pick}
 use Rattle.meanings.specs.declared.Limits.{Limits}
 use Rattle.meanings.specs.Limits.{max-u16, max-bandwidth, max-sheet}
-use Rattle.meanings.specs.Bytes.{line-feed, point-header, sample-header}
-use Rattle.meanings.specs.Moves.{Move}
+use Rattle.meanings.specs.Bytes.{LineEnding, ending-bytes, comma, point-header, sample-header}
+use Rattle.meanings.specs.Sheet.{EvaluationPoint}
 use Rattle.meanings.specs.Sheet.{Injection, Contents}
-use Rattle.meanings.specs.Output.{decimal, text-line}
+use Rattle.meanings.specs.Output.{decimal}
 
--- the line of a mark and its half width
-abbrev pub print-point : Move → List ℕ
-print-point m = text-line (decimal (m .point)) (decimal (m .bandwidth) ∷ [])
+-- a line: what its text says, and its line ending
+pub record Ended (A : Type 0) : Type 0 where
+  pub says : A
+  pub ending : LineEnding
 
-abbrev pub print-points : List Move → List ℕ
+-- what lines say, without their endings
+abbrev pub said-by : {A : Type 0} → List (Ended A) → List A
+said-by ls = map (λ l. l .says) ls
+
+-- the text of a mark and its half width, and its line
+abbrev pub point-text : EvaluationPoint → List ℕ
+point-text m = decimal (m .point) ++ comma ∷ decimal (m .bandwidth)
+
+abbrev pub print-point : Ended EvaluationPoint → List ℕ
+print-point l = point-text (l .says) ++ ending-bytes (l .ending)
+
+abbrev pub print-points : List (Ended EvaluationPoint) → List ℕ
 print-points [] = []
-print-points (m ∷ ms) = print-point m ++ print-points ms
+print-points (l ∷ ls) = print-point l ++ print-points ls
 
--- the line of a reading
-abbrev pub print-sample : Injection → List ℕ
-print-sample j = text-line (decimal (j .minute)) (decimal (j .injection) ∷ decimal (j .value) ∷ [])
+-- the text of a reading, and its line
+abbrev pub sample-text : Injection → List ℕ
+sample-text j = decimal (j .minute) ++ comma ∷ (decimal (j .injection) ++ comma ∷ decimal (j .value))
 
-abbrev pub print-samples : List Injection → List ℕ
+abbrev pub print-sample : Ended Injection → List ℕ
+print-sample l = sample-text (l .says) ++ ending-bytes (l .ending)
+
+abbrev pub print-samples : List (Ended Injection) → List ℕ
 print-samples [] = []
-print-samples (j ∷ js) = print-sample j ++ print-samples js
+print-samples (l ∷ ls) = print-sample l ++ print-samples ls
 
--- what stands before the mark lines, and what stands before the reading lines
-abbrev pub point-head : List ℕ
-point-head = text-line point-header []
+-- the header line with the ending e, and the mark lines behind it
+abbrev pub point-head : LineEnding → List ℕ
+point-head e = point-header ++ ending-bytes e
 
-abbrev pub sample-head : List Move → List ℕ
-sample-head ms = point-head ++ print-points ms ++ line-feed ∷ text-line sample-header []
+abbrev pub print-front : LineEnding → List (Ended EvaluationPoint) → List ℕ
+print-front e ms = point-head e ++ print-points ms
+
+-- then the empty line, which is the ending d, and then the second header line with the ending f
+abbrev pub empty-front : LineEnding → List (Ended EvaluationPoint) → LineEnding → List ℕ
+empty-front e ms d = print-front e ms ++ ending-bytes d
+
+abbrev pub sample-head : LineEnding → List ℕ
+sample-head f = sample-header ++ ending-bytes f
+
+abbrev pub sample-front : LineEnding → List (Ended EvaluationPoint) → LineEnding → LineEnding → List ℕ
+sample-front e ms d f = empty-front e ms d ++ sample-head f
 
 -- the sheet of mark lines and reading lines, dropped ones included
-abbrev pub print-sheet : List Move → List Injection → List ℕ
-print-sheet ms js = sample-head ms ++ print-samples js
+abbrev pub print-sheet : LineEnding → List (Ended EvaluationPoint) → LineEnding → LineEnding → List (Ended Injection) → List ℕ
+print-sheet e ms d f js = sample-front e ms d f ++ print-samples js
 
 -- the readings that are kept: those with an inj over 2
 abbrev pub kept-of : List Injection → List Injection
@@ -48,7 +73,7 @@ kept-of [] = []
 kept-of (j ∷ js) = pick (ltb 2 (j .injection)) (j ∷ kept-of js) (kept-of js)
 
 -- a mark line of right form and range; its half width may be out of range
-pub record PointForm (m : Move) : Type 0 where
+pub record PointForm (m : EvaluationPoint) : Type 0 where
   pub point-range : m .point ≤ max-u16
   pub bandwidth-digits : m .bandwidth < 100000
 
@@ -60,7 +85,7 @@ pub record SampleForm (j : Injection) : Type 0 where
   pub value-range : j .value ≤ max-u16
 
 -- mark m′ may follow mark m: neither it nor an edge falls
-pub record Follows (m m′ : Move) : Type 0 where
+pub record Follows (m m′ : EvaluationPoint) : Type 0 where
   pub point-order : m .point ≤ m′ .point
   pub left-edge : m .point + m′ .bandwidth ≤ m′ .point + m .bandwidth
   pub right-edge : m .point + m .bandwidth ≤ m′ .point + m′ .bandwidth
@@ -76,12 +101,12 @@ Each P [] = Unit {0}
 Each P (a ∷ r) = P a × Each P r
 
 -- a half width that is allowed
-pub record BandwidthRange (m : Move) : Type 0 where
+pub record BandwidthRange (m : EvaluationPoint) : Type 0 where
   pub low : 1 ≤ m .bandwidth
   pub high : m .bandwidth ≤ max-bandwidth
 
 -- mark lines without a fault
-pub record FitPoints (L : Limits) (ms : List Move) : Type 0 where
+pub record FitPoints (L : Limits) (ms : List EvaluationPoint) : Type 0 where
   pub forms : Each PointForm ms
   pub ranges : Each BandwidthRange ms
   pub order : Neighbours Follows ms
@@ -98,28 +123,31 @@ pub record FitSamples (L : Limits) (js : List Injection) : Type 0 where
 
 -- s is the sheet of these lists
 pub record IsSheet (L : Limits) (s : List ℕ) (c : Contents) : Type 0 where
-  pub point-lines : List Move
-  pub sample-lines : List Injection
-  pub printed : s ≡ print-sheet point-lines sample-lines
+  pub header-ending : LineEnding
+  pub point-lines : List (Ended EvaluationPoint)
+  pub empty-line-ending : LineEnding
+  pub sample-header-ending : LineEnding
+  pub sample-lines : List (Ended Injection)
+  pub printed : s ≡ print-sheet header-ending point-lines empty-line-ending sample-header-ending sample-lines
   pub short : length s ≤ max-sheet
-  pub some-point : 1 ≤ length point-lines
-  pub fit-points : FitPoints L point-lines
-  pub fit-samples : FitSamples L sample-lines
-  pub points : c .points ≡ map (λ (m : Move). m .point) point-lines
-  pub bandwidths : c .bandwidths ≡ map (λ (m : Move). m .bandwidth) point-lines
-  pub minutes : c .minutes ≡ map (λ (j : Injection). j .minute) (kept-of sample-lines)
-  pub values : c .values ≡ map (λ (j : Injection). j .value) (kept-of sample-lines)
+  pub some-point : 1 ≤ length (said-by point-lines)
+  pub fit-points : FitPoints L (said-by point-lines)
+  pub fit-samples : FitSamples L (said-by sample-lines)
+  pub points : c .points ≡ map (λ (m : EvaluationPoint). m .point) (said-by point-lines)
+  pub bandwidths : c .bandwidths ≡ map (λ (m : EvaluationPoint). m .bandwidth) (said-by point-lines)
+  pub minutes : c .minutes ≡ map (λ (j : Injection). j .minute) (kept-of (said-by sample-lines))
+  pub values : c .values ≡ map (λ (j : Injection). j .value) (kept-of (said-by sample-lines))
 
 -- the bytes begin with p
 abbrev pub Begins : List ℕ → List ℕ → Type 0
 Begins p s = (rest : List ℕ) × (s ≡ p ++ rest)
 
 -- what is wrong with a mark line m after the faultless lines ms, in the order in which it is looked at
-pub data PointFault (L : Limits) (ms : List Move) (m : Move) : ℕ → Type 0 where
-  out-of-order : (before : List Move) (m₀ : Move) → ms ≡ before ++ m₀ ∷ [] → m .point < m₀ .point → PointFault L ms m 5
-  bandwidth : Neighbours (λ (a b : Move). a .point ≤ b .point) (ms ++ m ∷ []) → (m .bandwidth ≡ 0) ⊎ (max-bandwidth < m .bandwidth)
+pub data PointFault (L : Limits) (ms : List EvaluationPoint) (m : EvaluationPoint) : ℕ → Type 0 where
+  out-of-order : (before : List EvaluationPoint) (m₀ : EvaluationPoint) → ms ≡ before ++ m₀ ∷ [] → m .point < m₀ .point → PointFault L ms m 5
+  bandwidth : Neighbours (λ (a b : EvaluationPoint). a .point ≤ b .point) (ms ++ m ∷ []) → (m .bandwidth ≡ 0) ⊎ (max-bandwidth < m .bandwidth)
       → PointFault L ms m 9
-  edge : Neighbours (λ (a b : Move). a .point ≤ b .point) (ms ++ m ∷ []) → BandwidthRange m → ¬ (Neighbours Follows (ms ++ m ∷ []))
+  edge : Neighbours (λ (a b : EvaluationPoint). a .point ≤ b .point) (ms ++ m ∷ []) → BandwidthRange m → ¬ (Neighbours Follows (ms ++ m ∷ []))
       → PointFault L ms m 10
   too-many : Neighbours Follows (ms ++ m ∷ []) → BandwidthRange m → L .points ≤ length ms → PointFault L ms m 6
 
@@ -132,24 +160,25 @@ pub data SampleFault (L : Limits) (js : List Injection) (j : Injection) : ℕ �
 -- and no earlier one
 pub data Refused (L : Limits) (s : List ℕ) : ℕ → ℕ → Type 0 where
   too-long : max-sheet < length s → Refused L s 1 max-sheet
-  no-point-header : length s ≤ max-sheet → ¬ Begins point-head s → Refused L s 2 0
-  no-empty-line : length s ≤ max-sheet → (ms : List Move) → FitPoints L ms → s ≡ point-head ++ print-points ms
+  no-point-header : length s ≤ max-sheet → ((e : LineEnding) → ¬ Begins (point-head e) s) → Refused L s 2 0
+  no-empty-line : length s ≤ max-sheet → (e : LineEnding) (ms : List (Ended EvaluationPoint)) → FitPoints L (said-by ms) → s ≡ print-front e ms
       → Refused L s 3 (length s)
-  malformed-point : length s ≤ max-sheet → (ms : List Move) → FitPoints L ms → (b : ℕ) (rest : List ℕ)
-      → s ≡ (point-head ++ print-points ms) ++ b ∷ rest → ¬ (b ≡ line-feed)
-      → ((m : Move) → PointForm m → ¬ Begins (print-point m) (b ∷ rest))
-      → Refused L s 3 (length (point-head ++ print-points ms))
-  faulty-point : length s ≤ max-sheet → (ms : List Move) → FitPoints L ms → (m : Move) → PointForm m
-      → Begins ((point-head ++ print-points ms) ++ print-point m) s → {r : ℕ} → PointFault L ms m r
-      → Refused L s r (length (point-head ++ print-points ms))
-  no-point : length s ≤ max-sheet → Begins (point-head ++ line-feed ∷ []) s → Refused L s 7 (length point-head)
-  no-sample-header : length s ≤ max-sheet → (ms : List Move) → FitPoints L ms → 1 ≤ length ms → (rest : List ℕ)
-      → s ≡ (point-head ++ print-points ms ++ line-feed ∷ []) ++ rest → ¬ Begins (text-line sample-header []) rest
-      → Refused L s 2 (length (point-head ++ print-points ms ++ line-feed ∷ []))
-  malformed-sample : length s ≤ max-sheet → (ms : List Move) → FitPoints L ms → 1 ≤ length ms → (js : List Injection) → FitSamples L js
-      → (b : ℕ) (rest : List ℕ) → s ≡ (sample-head ms ++ print-samples js) ++ b ∷ rest
-      → ((j : Injection) → SampleForm j → ¬ Begins (print-sample j) (b ∷ rest))
-      → Refused L s 3 (length (sample-head ms ++ print-samples js))
-  faulty-sample : length s ≤ max-sheet → (ms : List Move) → FitPoints L ms → 1 ≤ length ms → (js : List Injection) → FitSamples L js
-      → (j : Injection) → SampleForm j → Begins ((sample-head ms ++ print-samples js) ++ print-sample j) s
-      → {r : ℕ} → SampleFault L js j r → Refused L s r (length (sample-head ms ++ print-samples js))
+  malformed-point : length s ≤ max-sheet → (e : LineEnding) (ms : List (Ended EvaluationPoint)) → FitPoints L (said-by ms) → (b : ℕ) (rest : List ℕ)
+      → s ≡ print-front e ms ++ b ∷ rest → ((d : LineEnding) → ¬ Begins (ending-bytes d) (b ∷ rest))
+      → ((m : Ended EvaluationPoint) → PointForm (m .says) → ¬ Begins (print-point m) (b ∷ rest))
+      → Refused L s 3 (length (print-front e ms))
+  faulty-point : length s ≤ max-sheet → (e : LineEnding) (ms : List (Ended EvaluationPoint)) → FitPoints L (said-by ms) → (m : Ended EvaluationPoint)
+      → PointForm (m .says) → Begins (print-front e ms ++ print-point m) s → {r : ℕ} → PointFault L (said-by ms) (m .says) r
+      → Refused L s r (length (print-front e ms))
+  no-point : length s ≤ max-sheet → (e d : LineEnding) → Begins (point-head e ++ ending-bytes d) s → Refused L s 7 (length (point-head e))
+  no-sample-header : length s ≤ max-sheet → (e : LineEnding) (ms : List (Ended EvaluationPoint)) → FitPoints L (said-by ms) → 1 ≤ length (said-by ms)
+      → (d : LineEnding) (rest : List ℕ) → s ≡ empty-front e ms d ++ rest → ((f : LineEnding) → ¬ Begins (sample-head f) rest)
+      → Refused L s 2 (length (empty-front e ms d))
+  malformed-sample : length s ≤ max-sheet → (e : LineEnding) (ms : List (Ended EvaluationPoint)) → FitPoints L (said-by ms) → 1 ≤ length (said-by ms)
+      → (d f : LineEnding) (js : List (Ended Injection)) → FitSamples L (said-by js) → (b : ℕ) (rest : List ℕ)
+      → s ≡ print-sheet e ms d f js ++ b ∷ rest → ((j : Ended Injection) → SampleForm (j .says) → ¬ Begins (print-sample j) (b ∷ rest))
+      → Refused L s 3 (length (print-sheet e ms d f js))
+  faulty-sample : length s ≤ max-sheet → (e : LineEnding) (ms : List (Ended EvaluationPoint)) → FitPoints L (said-by ms) → 1 ≤ length (said-by ms)
+      → (d f : LineEnding) (js : List (Ended Injection)) → FitSamples L (said-by js) → (j : Ended Injection) → SampleForm (j .says)
+      → Begins (print-sheet e ms d f js ++ print-sample j) s → {r : ℕ} → SampleFault L (said-by js) (j .says) r
+      → Refused L s r (length (print-sheet e ms d f js))

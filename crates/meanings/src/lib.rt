@@ -1,6 +1,12 @@
 // The types that calls take and give, named by the field's terms. Each comment gives the brewery's word.
 // What each value has to be is defined in specs/.
 
+// The length of the buffer that a text is written into: max-output of specs/Limits.antt.
+pub const MAX_OUTPUT: usize = 31291;
+
+// How many numbers a row has: row-width of specs/Limits.antt.
+pub const ROW_WIDTH: usize = 5;
+
 // SPECIFICATION, "Reports": the thirteen reports. `number` of specs/Reports.antt gives each its number.
 pub enum Report {
     TooLong, // 1, "overlong"
@@ -71,35 +77,35 @@ pub struct RunningSums {
 // What the question at one mark gives: the row or the report.
 pub enum Evaluation {
     Row(Estimate),
-    Unfit(Refusal),
+    Refused(Refusal),
 }
 
 // What a step gives: the new record or the report.
 pub enum Advance {
     Moved(RunningSums),
-    Stayed(Refusal),
+    Refused(Refusal),
 }
 
 // What a sweep gives: its passes or the report.
 pub enum Smoothing {
     Passes(u64),
-    Unswept(Refusal),
+    Refused(Refusal),
 }
 
 // What the mark filler gives.
 pub enum Filling {
     Filled,
-    Unfilled(Refusal),
+    Refused(Refusal),
 }
 
 // What the reader gives: how many readings are kept and how many marks there are, or the report.
-pub enum Reading {
+pub enum Parsing {
     Used { samples: usize, points: usize },
-    Unread(Refusal),
+    Refused(Refusal),
 }
 
 // What a writer of a text gives: how many bytes it has written into the lent buffer, or the report.
 pub enum Writing {
     Written(usize),
-    Unwritten(Refusal),
+    Refused(Refusal),
 }

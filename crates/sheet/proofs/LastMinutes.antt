@@ -1,5 +1,5 @@
 -- Of the lines before, only the last one's minute decides what the reading lines give; before the first line it may stand as 0.
-use Prim.Native.Nat.{ℕ, _+_}
+use Prim.Native.Nat.{ℕ}
 use mathlib.Core.Path.{_≡_, refl, sym, _∙_}
 use mathlib.Core.List.{List, [], _∷_, _++_}
 use mathlib.Core.Option.{Option, none, some}
@@ -9,7 +9,7 @@ use lib.Dec.{ltb}
 use lib.ListN.{length}
 use Rattle.meanings.specs.declared.Limits.{Limits}
 use Rattle.meanings.specs.Reports.{decreases}
-use Rattle.meanings.specs.Sheet.{Lines, end, unended, line, Injection, kept, add-kept, sample-line, with-sample, read-samples}
+use Rattle.meanings.specs.Sheet.{Lines, end, unended, line, next-place, Injection, kept, add-kept, sample-line, with-sample, read-samples}
 
 -- two lists of minutes that any next minute falls below alike
 abbrev Alike : List ℕ → List ℕ → Type 0
@@ -24,11 +24,11 @@ alike-lines : (L : Limits) (zs hs : List ℕ) (p : ℕ) (a b ts vs : List ℕ) (
     → read-samples L zs hs p a ts vs ls ≡ read-samples L zs hs p b ts vs ls
 alike-lines L zs hs p a b ts vs end e = refl
 alike-lines L zs hs p a b ts vs (unended t) e = refl
-alike-lines L zs hs p a b ts vs (line t ls) e =
+alike-lines L zs hs p a b ts vs (line t d ls) e =
     by (sample-line t) (λ m ts′ vs′. alike-lines L zs hs q (a ++ m ∷ []) (b ++ m ∷ []) ts′ vs′ ls (λ y. last-decides a m y ∙ sym (last-decides b m y)))
   where
     q : ℕ
-    q = p + length t + 1
+    q = next-place p t d
 
     by : (o : Option Injection)
         → ((m : ℕ) (ts′ vs′ : List ℕ) → read-samples L zs hs q (a ++ m ∷ []) ts′ vs′ ls ≡ read-samples L zs hs q (b ++ m ∷ []) ts′ vs′ ls)

@@ -12,7 +12,7 @@ use Rattle.meanings.specs.declared.Report.the-variants.{PointOutOfOrder, Bandwi
 use Rattle.meanings.specs.declared.Verdict.{Verdict}
 use Rattle.meanings.specs.declared.Verdict.the-variants.{Fit, Faulty}
 use Rattle.meanings.specs.Limits.{full}
-use Rattle.meanings.specs.Reports.{told-verdict, bad-bandwidth, edge-below}
+use Rattle.meanings.specs.Reports.{verdict-fault, bad-bandwidth, edge-below}
 use Rattle.meanings.specs.Sheet.{point-checks}
 use Rattle.meanings.proofs.Checks.{none-holds, at-none, decreases-at, edge-decreases-at}
 use Rattle.sheet.specs.Stages.{below-last, edge-below-last, PointChecked}
@@ -82,7 +82,7 @@ pub point-room : {p : ℕ} {zs hs : List ℕ} {n z h : ℕ} {v : Verdict} → Po
     → n < 512
 point-room {p} {zs} {hs} {n} {z} {h} o e s l =
     let k = length-take-le n zs (omega arith) in
-    let f = none-holds (point-checks full p (take n zs) (take n hs) (record { point = z; bandwidth = h })) (sym (o .found) ∙ ap told-verdict e) in
+    let f = none-holds (point-checks full p (take n zs) (take n hs) (record { point = z; bandwidth = h })) (sym (o .found) ∙ ap verdict-fault e) in
     let r = leb-false 512 (length (take n zs)) (at-none p (leb 512 (length (take n zs))) (f .1 .1 .1 .0)) in
     omega arith
 

@@ -12,11 +12,12 @@ use Rattle.meanings.specs.declared.Verdict.{Verdict}
 use Rattle.meanings.specs.declared.Verdict.the-variants.{Fit, Faulty}
 use Rattle.meanings.specs.Limits.{full}
 use Rattle.meanings.specs.Sheet.{lines, read-points}
-use Rattle.lines.specs.declared.Line.{Line}
-use Rattle.lines.specs.declared.Line.the-variants.{Ended, Unended}
-use Rattle.lines.specs.Lines.{told-line, line-at}
-use Rattle.lines.proofs.LineEnds.{line-told, no-line-told, no-line-at-end}
-use Rattle.sheet.specs.declared.points.PointsRead.the-variants.{Points, Unfit}
+use Rattle.sheet_lines.specs.declared.Line.{Line}
+use Rattle.sheet_lines.specs.declared.Line.the-variants.{Ended, Unended}
+use Rattle.sheet_lines.specs.Lines.{line-bounds, line-at}
+use Rattle.sheet_lines.proofs.LineEnds.{ended-line, unended-line, no-line-at-end}
+use Rattle.sheet.specs.declared.points.PointsRead.{PointsRead}
+use Rattle.sheet.specs.declared.points.PointsRead.the-variants.{Points}
 use Rattle.sheet.specs.Stages.{PointTried, PointsFound}
 use Rattle.sheet.proofs.LineSteps.{points-without-line, points-at-empty-line, points-at-line}
 
@@ -34,34 +35,33 @@ points-begin l m =
     record { point-list = l; bandwidth-list = m; points-lent = refl; bandwidths-lent = refl; few = omega arith; left = refl }
 
 module _ {s : List ℕ} {from : ℕ} {zs₀ hs₀ zs hs : List ℕ} {p count : ℕ} (w : PointsSoFar s from zs₀ hs₀ zs hs p count) where
-  pub sheet-ends-in-points : length s ≤ p → PointsFound s from (Unfit (record { report = MalformedLine; place = p })) zs hs
+  pub sheet-ends-in-points : length s ≤ p → PointsFound s from (PointsRead.Refused (record { report = MalformedLine; place = p })) zs hs
   sheet-ends-in-points l = record { outcome = w .left ∙ points-without-line full s _ _ p (no-line-at-end s p l); within = tt }
 
-  pub point-line-unended : {l : Line} → told-line l ≡ line-at s p → l ≡ Unended
-      → PointsFound s from (Unfit (record { report = MalformedLine; place = p })) zs hs
-  point-line-unended t u = record { outcome = w .left ∙ points-without-line full s _ _ p (no-line-told _ _ t u); within = tt }
+  pub point-line-unended : {l : Line} → line-bounds l ≡ line-at s p → l ≡ Unended
+      → PointsFound s from (PointsRead.Refused (record { report = MalformedLine; place = p })) zs hs
+  point-line-unended t u = record { outcome = w .left ∙ points-without-line full s _ _ p (unended-line _ _ t u); within = tt }
 
-  pub no-points : {l : Line} {e n : ℕ} → told-line l ≡ line-at s p → l ≡ Ended e n → e ≡ p → count ≡ 0
-      → PointsFound s from (Unfit (record { report = NoPoints; place = p })) zs hs
-  no-points t f h z = record { outcome = w .left ∙ points-at-empty-line full s _ _ p _ _ (line-told t f) h ∙ rw z; within = tt }
+  pub no-points : {l : Line} {e n : ℕ} → line-bounds l ≡ line-at s p → l ≡ Ended e n → e ≡ p → count ≡ 0
+      → PointsFound s from (PointsRead.Refused (record { report = NoPoints; place = p })) zs hs
+  no-points t f h z = record { outcome = w .left ∙ points-at-empty-line full s _ _ p _ _ (ended-line t f) h ∙ rw z; within = tt }
 
-  pub points-end : {l : Line} {e n : ℕ} → told-line l ≡ line-at s p → l ≡ Ended e n → e ≡ p → ¬ (count ≡ 0)
+  pub points-end : {l : Line} {e n : ℕ} → line-bounds l ≡ line-at s p → l ≡ Ended e n → e ≡ p → ¬ (count ≡ 0)
       → PointsFound s from (Points count n) zs hs
-  points-end {n = n} t f h z =
-      let o = line-told t f in
+  points-end t f h z =
+      let o = ended-line t f in
       let k = length-take-le count zs (omega arith) in
-      let m : p + 1 ≡ n = omega arith in
       record {
-        outcome = w .left ∙ points-at-empty-line full s _ _ p _ _ o h ∙ rw (k, ne-eqb count 0 z, m);
+        outcome = w .left ∙ points-at-empty-line full s _ _ p _ _ o h ∙ rw (k, ne-eqb count 0 z);
         within = (w .few, o .within);
       }
 
   -- a line of values, tried
-  module _ {l : Line} {e n : ℕ} {v : Verdict} {zs′ hs′ : List ℕ} (t : told-line l ≡ line-at s p) (f : l ≡ Ended e n) (h : ¬ (e ≡ p))
+  module _ {l : Line} {e n : ℕ} {v : Verdict} {zs′ hs′ : List ℕ} (t : line-bounds l ≡ line-at s p) (f : l ≡ Ended e n) (h : ¬ (e ≡ p))
       (tried : PointTried (take (e - p) (drop p s)) p zs hs count v zs′ hs′) where
-    pub point-line-refused : {r : Refusal} → v ≡ Faulty r → PointsFound s from (Unfit r) zs′ hs′
+    pub point-line-refused : {r : Refusal} → v ≡ Faulty r → PointsFound s from (PointsRead.Refused r) zs′ hs′
     point-line-refused u =
-        record { outcome = w .left ∙ points-at-line full s _ _ p e n (line-told t f) h ∙ tried .goes-on _ ∙ rw u; within = tt }
+        record { outcome = w .left ∙ points-at-line full s _ _ p e n (ended-line t f) h ∙ tried .goes-on _ ∙ rw u; within = tt }
 
     pub points-go-on : v ≡ Fit → length zs′ ≡ length zs → length hs′ ≡ length hs → PointsSoFar s from zs₀ hs₀ zs′ hs′ n (count + 1)
     points-go-on u a b =
@@ -71,5 +71,5 @@ module _ {s : List ℕ} {from : ℕ} {zs₀ hs₀ zs hs : List ℕ} {p count : �
           points-lent = a ∙ w .points-lent;
           bandwidths-lent = b ∙ w .bandwidths-lent;
           few = rw u at (tried .room);
-          left = w .left ∙ points-at-line full s _ _ p e n (line-told t f) h ∙ tried .goes-on _ ∙ rw u;
+          left = w .left ∙ points-at-line full s _ _ p e n (ended-line t f) h ∙ tried .goes-on _ ∙ rw u;
         }

@@ -11,14 +11,14 @@ use Rattle.meanings.specs.declared.Found.the-variants.{At, Nothing}
 use Rattle.meanings.specs.Limits.{full}
 use Rattle.meanings.specs.Bytes.{sample-header}
 use Rattle.meanings.specs.Sheet.{lines, read-samples}
-use Rattle.lines.specs.declared.Line.{Line}
-use Rattle.lines.specs.declared.Line.the-variants.{Ended, Unended}
-use Rattle.lines.specs.Lines.{told-line, line-at}
-use Rattle.lines.proofs.LineEnds.{line-told, no-line-told}
+use Rattle.sheet_lines.specs.declared.Line.{Line}
+use Rattle.sheet_lines.specs.declared.Line.the-variants.{Ended, Unended}
+use Rattle.sheet_lines.specs.Lines.{line-bounds, line-at}
+use Rattle.sheet_lines.proofs.LineEnds.{ended-line, unended-line}
 use Rattle.sheet.specs.declared.samples.SampleStored.{SampleStored}
-use Rattle.sheet.specs.declared.samples.SampleStored.the-variants.{Stored, Refused}
+use Rattle.sheet.specs.declared.samples.SampleStored.the-variants.{Stored}
 use Rattle.sheet.specs.declared.samples.SamplesRead.{SamplesRead}
-use Rattle.sheet.specs.declared.samples.SamplesRead.the-variants.{Kept, Unfit}
+use Rattle.sheet.specs.declared.samples.SamplesRead.the-variants.{Kept}
 use Rattle.sheet.specs.Stages.{HeaderTried, SampleTried, SamplesFound, SamplesFromHeader}
 use Rattle.sheet.proofs.LineSteps.{samples-without-line, samples-at-line}
 use Rattle.sheet.proofs.LastMinutes.{first-minute, last-minute}
@@ -49,18 +49,18 @@ module _ {s : List ℕ} {from : ℕ} {ts₀ vs₀ ts vs : List ℕ} {p count las
   pub samples-end : length s ≤ p → SamplesFound s from (Kept count) ts vs
   samples-end l = record { outcome = λ zs hs. w .left zs hs ∙ rw (drop-of-length-le s l); within = w .few }
 
-  pub sample-line-unended : {l : Line} → p < length s → told-line l ≡ line-at s p → l ≡ Unended
-      → SamplesFound s from (Unfit (record { report = MalformedLine; place = p })) ts vs
+  pub sample-line-unended : {l : Line} → p < length s → line-bounds l ≡ line-at s p → l ≡ Unended
+      → SamplesFound s from (SamplesRead.Refused (record { report = MalformedLine; place = p })) ts vs
   sample-line-unended l t u =
-      record { outcome = λ zs hs. w .left zs hs ∙ samples-without-line full s zs hs p _ _ _ l (no-line-told _ _ t u); within = tt }
+      record { outcome = λ zs hs. w .left zs hs ∙ samples-without-line full s zs hs p _ _ _ l (unended-line _ _ t u); within = tt }
 
   -- a line, tried
-  module _ {l : Line} {e n : ℕ} {r : SampleStored} {ts′ vs′ : List ℕ} (t : told-line l ≡ line-at s p) (f : l ≡ Ended e n)
+  module _ {l : Line} {e n : ℕ} {r : SampleStored} {ts′ vs′ : List ℕ} (t : line-bounds l ≡ line-at s p) (f : l ≡ Ended e n)
       (tried : SampleTried (take (e - p) (drop p s)) p ts vs count last r ts′ vs′) where
-    pub sample-line-refused : {x : Refusal} → r ≡ Refused x → SamplesFound s from (Unfit x) ts′ vs′
+    pub sample-line-refused : {x : Refusal} → r ≡ SampleStored.Refused x → SamplesFound s from (SamplesRead.Refused x) ts′ vs′
     sample-line-refused u =
         record {
-          outcome = λ zs hs. w .left zs hs ∙ samples-at-line full s zs hs p e n _ _ _ (line-told t f) ∙ tried .goes-on _ ∙ rw u;
+          outcome = λ zs hs. w .left zs hs ∙ samples-at-line full s zs hs p e n _ _ _ (ended-line t f) ∙ tried .goes-on _ ∙ rw u;
           within = tt;
         }
 
@@ -74,13 +74,13 @@ module _ {s : List ℕ} {from : ℕ} {ts₀ vs₀ ts vs : List ℕ} {p count las
           values-lent = b ∙ w .values-lent;
           few = rw u at (tried .within);
           left = λ zs hs.
-              w .left zs hs ∙ samples-at-line full s zs hs p e n _ _ _ (line-told t f) ∙ tried .goes-on _
+              w .left zs hs ∙ samples-at-line full s zs hs p e n _ _ _ (ended-line t f) ∙ tried .goes-on _
               ∙ rw u (last-minute full zs hs n last m (take count′ ts′) (take count′ vs′) (lines (drop n s)));
         }
 
 -- the names line before them
 module _ {s : List ℕ} {from : ℕ} {h : Found} (tried : HeaderTried sample-header s from h) where
-  pub no-sample-header : {ts vs : List ℕ} → h ≡ Nothing → SamplesFromHeader s from (Unfit (record { report = BadHeader; place = from })) ts vs
+  pub no-sample-header : {ts vs : List ℕ} → h ≡ Nothing → SamplesFromHeader s from (SamplesRead.Refused (record { report = BadHeader; place = from })) ts vs
   no-sample-header e = record { outcome = λ zs hs. tried .goes-on _ ∙ rw e; within = tt }
 
   pub samples-after-header : {p : ℕ} {r : SamplesRead} {ts vs : List ℕ} → h ≡ At p → SamplesFound s p r ts vs → SamplesFromHeader s from r ts vs

@@ -11,22 +11,22 @@ use Rattle.meanings.specs.declared.Report.the-variants.{TooLong, BadHeader}
 use Rattle.meanings.specs.declared.Refusal.{Refusal}
 use Rattle.meanings.specs.declared.Found.{Found}
 use Rattle.meanings.specs.declared.Found.the-variants.{At, Nothing}
-use Rattle.meanings.specs.declared.Reading.{Reading}
-use Rattle.meanings.specs.declared.Reading.the-variants.{Used, Unread}
+use Rattle.meanings.specs.declared.Parsing.{Parsing}
+use Rattle.meanings.specs.declared.Parsing.the-variants.{Used}
 use Rattle.meanings.specs.Limits.{full, max-sheet}
 use Rattle.meanings.specs.Bytes.{point-header}
-use Rattle.meanings.specs.Reports.{Answer, refused, told}
+use Rattle.meanings.specs.Reports.{Answer, refused, fault-of}
 use Rattle.meanings.specs.Sheet.{lines, read-points, read-sheet}
-use Rattle.meanings.specs.Calls.{Counts, told-reading, counts, read, read-minutes, read-values, read-evaluation-points, read-bandwidths}
+use Rattle.meanings.specs.Calls.{Counts, parsing-answer, counts, read, read-minutes, read-values, read-evaluation-points, read-bandwidths}
 use Rattle.meanings.proofs.Checks.{or-false, differ-false}
 use Rattle.checks.specs.ReaderLists.{uneven-lists}
 use Rattle.sheet.specs.declared.points.PointsRead.{PointsRead}
-use Rattle.sheet.specs.declared.points.PointsRead.the-variants.{Points, Unfit as UnfitPoints}
+use Rattle.sheet.specs.declared.points.PointsRead.the-variants.{Points}
 use Rattle.sheet.specs.declared.samples.SamplesRead.{SamplesRead}
-use Rattle.sheet.specs.declared.samples.SamplesRead.the-variants.{Kept, Unfit as UnfitSamples}
+use Rattle.sheet.specs.declared.samples.SamplesRead.the-variants.{Kept}
 use Rattle.sheet.specs.Stages.{HeaderTried, PointsFound, SamplesFromHeader, sheet-read, Scanned, ReadInto}
 
-pub too-long : {s ts vs zs hs : List ℕ} → max-sheet < length s → Scanned s (Unread (record { report = TooLong; place = max-sheet })) ts vs zs hs
+pub too-long : {s ts vs zs hs : List ℕ} → max-sheet < length s → Scanned s (Parsing.Refused (record { report = TooLong; place = max-sheet })) ts vs zs hs
 unfolding read-sheet
 too-long {s} l = record { outcome = rw (lt-ltb max-sheet (length s) l); within = tt }
 
@@ -34,7 +34,7 @@ pub points-end-within : {s : List ℕ} {p : ℕ} {r : PointsRead} {zs hs : List 
 points-end-within f e = (rw e at (f .within)) .1
 
 module _ {s : List ℕ} {f : Found} (short : length s ≤ max-sheet) (tried : HeaderTried point-header s 0 f) where
-  pub no-point-header : {ts vs zs hs : List ℕ} → f ≡ Nothing → Scanned s (Unread (record { report = BadHeader; place = 0 })) ts vs zs hs
+  pub no-point-header : {ts vs zs hs : List ℕ} → f ≡ Nothing → Scanned s (Parsing.Refused (record { report = BadHeader; place = 0 })) ts vs zs hs
   unfolding read-sheet
   no-point-header e = record { outcome = rw (le-ltb max-sheet (length s) short) (tried .goes-on _ ∙ rw e); within = tt }
 
@@ -43,11 +43,11 @@ module _ {s : List ℕ} {f : Found} (short : length s ≤ max-sheet) (tried : He
   after-point-header e = rw (le-ltb max-sheet (length s) short) (tried .goes-on _ ∙ rw e)
 
   module _ {p : ℕ} {r : PointsRead} {zs hs : List ℕ} (passed : f ≡ At p) (points : PointsFound s p r zs hs) where
-    pub points-refused : {ts vs : List ℕ} {x : Refusal} → r ≡ UnfitPoints x → Scanned s (Unread x) ts vs zs hs
+    pub points-refused : {ts vs : List ℕ} {x : Refusal} → r ≡ PointsRead.Refused x → Scanned s (Parsing.Refused x) ts vs zs hs
     points-refused e = record { outcome = after-point-header passed ∙ points .outcome ∙ rw e; within = tt }
 
     module _ {n q : ℕ} {k : SamplesRead} {ts vs : List ℕ} (counted : r ≡ Points n q) (samples : SamplesFromHeader s q k ts vs) where
-      pub samples-refused : {x : Refusal} → k ≡ UnfitSamples x → Scanned s (Unread x) ts vs zs hs
+      pub samples-refused : {x : Refusal} → k ≡ SamplesRead.Refused x → Scanned s (Parsing.Refused x) ts vs zs hs
       samples-refused e =
           record { outcome = after-point-header passed ∙ points .outcome ∙ rw counted (samples .outcome _ _ ∙ rw e); within = tt }
 
@@ -59,11 +59,11 @@ module _ {s : List ℕ} {f : Found} (short : length s ≤ max-sheet) (tried : He
           }
 
 -- the reader's own lists ts, vs, zs, hs, and the lent ones
-module _ {s ts vs zs hs : List ℕ} {r : Reading} (scanned : Scanned s r ts vs zs hs) where
-  pub reading-refused : {ts₀ vs₀ zs₀ hs₀ : List ℕ} {x : Refusal} → r ≡ Unread x
-      → ReadInto s ts₀ vs₀ zs₀ hs₀ (Unread x) ts₀ vs₀ zs₀ hs₀
+module _ {s ts vs zs hs : List ℕ} {r : Parsing} (scanned : Scanned s r ts vs zs hs) where
+  pub reading-refused : {ts₀ vs₀ zs₀ hs₀ : List ℕ} {x : Refusal} → r ≡ Parsing.Refused x
+      → ReadInto s ts₀ vs₀ zs₀ hs₀ (Parsing.Refused x) ts₀ vs₀ zs₀ hs₀
   reading-refused {x = x} e =
-      let o : read-sheet full s ≡ refused (told x) = scanned .outcome ∙ rw e in
+      let o : read-sheet full s ≡ refused (fault-of x) = scanned .outcome ∙ rw e in
       record { answer = rw o; minutes = rw o; values = rw o; points = rw o; bandwidths = rw o }
 
   module _ {n m : ℕ} (used : r ≡ Used n m) where
@@ -110,8 +110,8 @@ module _ (s ts vs zs hs : List ℕ) where
   unfolding read
   even-read e = rw e
 
-  pub even-answered : {r : Reading} {ts′ vs′ zs′ hs′ : List ℕ} → uneven-lists full (length ts) (length vs) (length zs) (length hs) ≡ false
-      → ReadInto s ts vs zs hs r ts′ vs′ zs′ hs′ → Answered s ts vs zs hs (told-reading r) ts′ vs′ zs′ hs′
+  pub even-answered : {r : Parsing} {ts′ vs′ zs′ hs′ : List ℕ} → uneven-lists full (length ts) (length vs) (length zs) (length hs) ≡ false
+      → ReadInto s ts vs zs hs r ts′ vs′ zs′ hs′ → Answered s ts vs zs hs (parsing-answer r) ts′ vs′ zs′ hs′
   even-answered t i =
       let e = even-read t in
       (rw e (i .answer), (rw e (i .minutes), (rw e (i .values), (rw e (i .points), rw e (i .bandwidths)))))

@@ -12,17 +12,18 @@ use Rattle.meanings.specs.declared.Refusal.{Refusal}
 use Rattle.meanings.specs.declared.Verdict.{Verdict}
 use Rattle.meanings.specs.declared.Verdict.the-variants.{Fit, Faulty}
 use Rattle.meanings.specs.Sheet.{point-line, sample-line}
-use Rattle.line_values.specs.declared.PointLine.{PointLine}
-use Rattle.line_values.specs.declared.PointLine.the-variants.{Point, NoPoint}
-use Rattle.line_values.specs.declared.SampleLine.{SampleLine}
-use Rattle.line_values.specs.declared.SampleLine.the-variants.{Sample, NoSample}
-use Rattle.line_values.specs.LineValues.{told-point, told-sample}
-use Rattle.sheet.specs.declared.samples.SampleStored.the-variants.{Stored, Refused}
+use Rattle.sheet_values.specs.declared.PointLine.{PointLine}
+use Rattle.sheet_values.specs.declared.PointLine.the-variants.{Point, NoPoint}
+use Rattle.sheet_values.specs.declared.SampleLine.{SampleLine}
+use Rattle.sheet_values.specs.declared.SampleLine.the-variants.{Sample, NoSample}
+use Rattle.sheet_values.specs.LineValues.{point-values, sample-values}
+use Rattle.sheet.specs.declared.samples.SampleStored.{SampleStored}
+use Rattle.sheet.specs.declared.samples.SampleStored.the-variants.{Stored}
 use Rattle.sheet.specs.Stages.{PointChecked, PointTried, SampleTried}
 use Rattle.sheet.proofs.Lasts.{point-room}
 
 -- a mark line
-module _ {t : List ℕ} {p : ℕ} {zs hs : List ℕ} {n : ℕ} {l : PointLine} (line : told-point l ≡ point-line t) where
+module _ {t : List ℕ} {p : ℕ} {zs hs : List ℕ} {n : ℕ} {l : PointLine} (line : point-values l ≡ point-line t) where
   pub point-malformed : l ≡ NoPoint → PointTried t p zs hs n (Faulty (record { report = MalformedLine; place = p })) zs hs
   point-malformed e = record { goes-on = λ next. rw (← line, e); room = tt }
 
@@ -40,19 +41,19 @@ module _ {t : List ℕ} {p : ℕ} {zs hs : List ℕ} {n : ℕ} {l : PointLine} (
         }
 
 -- a reading line that follows a line of minute `last`
-module _ {t : List ℕ} {p : ℕ} {ts vs : List ℕ} {n last : ℕ} {l : SampleLine} (line : told-sample l ≡ sample-line t) where
-  pub sample-malformed : l ≡ NoSample → SampleTried t p ts vs n last (Refused (record { report = MalformedLine; place = p })) ts vs
+module _ {t : List ℕ} {p : ℕ} {ts vs : List ℕ} {n last : ℕ} {l : SampleLine} (line : sample-values l ≡ sample-line t) where
+  pub sample-malformed : l ≡ NoSample → SampleTried t p ts vs n last (SampleStored.Refused (record { report = MalformedLine; place = p })) ts vs
   sample-malformed e = record { goes-on = λ next. rw (← line, e); within = tt }
 
   module _ {m j v : ℕ} (read : l ≡ Sample m j v) where
-    pub sample-falls : m < last → SampleTried t p ts vs n last (Refused (record { report = SampleOutOfOrder; place = p })) ts vs
+    pub sample-falls : m < last → SampleTried t p ts vs n last (SampleStored.Refused (record { report = SampleOutOfOrder; place = p })) ts vs
     sample-falls f = record { goes-on = λ next. rw (← line, read, lt-ltb m last f); within = tt }
 
     pub sample-dropped : last ≤ m → j ≤ 2 → n ≤ 1024 → SampleTried t p ts vs n last (Stored n m) ts vs
     sample-dropped f d few = record { goes-on = λ next. rw (← line, read, le-ltb m last f, le-ltb 2 j d); within = few }
 
     pub samples-full : last ≤ m → 2 < j → 1024 ≤ n → length ts ≡ 1024 → n ≤ 1024
-        → SampleTried t p ts vs n last (Refused (record { report = TooMany; place = p })) ts vs
+        → SampleTried t p ts vs n last (SampleStored.Refused (record { report = TooMany; place = p })) ts vs
     samples-full f k r a few =
         record {
           goes-on = λ next. rw (← line, read, le-ltb m last f, lt-ltb 2 j k, length-take-le n ts (omega arith), le-leb 1024 n r);

@@ -9,20 +9,20 @@ use Rattle.meanings.specs.declared.Verdict.{Verdict}
 use Rattle.meanings.specs.declared.Verdict.the-variants.{Fit, Faulty}
 use Rattle.meanings.specs.declared.Found.{Found}
 use Rattle.meanings.specs.declared.Found.the-variants.{At, Nothing}
-use Rattle.meanings.specs.declared.Reading.{Reading}
-use Rattle.meanings.specs.declared.Reading.the-variants.{Used, Unread}
+use Rattle.meanings.specs.declared.Parsing.{Parsing}
+use Rattle.meanings.specs.declared.Parsing.the-variants.{Used}
 use Rattle.meanings.specs.Limits.{full}
 use Rattle.meanings.specs.Bytes.{sample-header}
-use Rattle.meanings.specs.Reports.{given, refused, told, told-verdict, first-of, decreases, edge-decreases}
+use Rattle.meanings.specs.Reports.{given, refused, fault-of, verdict-fault, first-of, decreases, edge-decreases}
 use Rattle.meanings.specs.Sheet.{Lines, lines, Outcome, refused-at, or-next, header, point-line, point-checks, with-point, read-points, sample-line}
 use Rattle.meanings.specs.Sheet.{with-sample, read-samples, read-sheet}
-use Rattle.meanings.specs.Calls.{told-reading, counts, read-minutes, read-values, read-evaluation-points, read-bandwidths}
+use Rattle.meanings.specs.Calls.{parsing-answer, counts, read-minutes, read-values, read-evaluation-points, read-bandwidths}
 use Rattle.sheet.specs.declared.points.PointsRead.{PointsRead}
-use Rattle.sheet.specs.declared.points.PointsRead.the-variants.{Points, Unfit as UnfitPoints}
+use Rattle.sheet.specs.declared.points.PointsRead.the-variants.{Points}
 use Rattle.sheet.specs.declared.samples.SampleStored.{SampleStored}
-use Rattle.sheet.specs.declared.samples.SampleStored.the-variants.{Stored, Refused}
+use Rattle.sheet.specs.declared.samples.SampleStored.the-variants.{Stored}
 use Rattle.sheet.specs.declared.samples.SamplesRead.{SamplesRead}
-use Rattle.sheet.specs.declared.samples.SamplesRead.the-variants.{Kept, Unfit as UnfitSamples}
+use Rattle.sheet.specs.declared.samples.SamplesRead.the-variants.{Kept}
 
 -- after the names line at byte p
 abbrev pub after-header : Found → List ℕ → ℕ → (ℕ → Lines → Outcome) → Outcome
@@ -41,7 +41,7 @@ edge-below-last zs hs n z h = edge-decreases (take n zs ++ z ∷ []) (take n hs 
 
 -- what a mark line at byte p earns after the first n marks
 pub record PointChecked (p : ℕ) (zs hs : List ℕ) (n z h : ℕ) (v : Verdict) : Type 0 where
-  pub found : told-verdict v ≡ first-of (point-checks full p (take n zs) (take n hs) (record { point = z; bandwidth = h }))
+  pub found : verdict-fault v ≡ first-of (point-checks full p (take n zs) (take n hs) (record { point = z; bandwidth = h }))
 
 -- a mark line that is stored leaves the count within its limit
 abbrev pub room-after : Verdict → ℕ → Type 0
@@ -51,18 +51,18 @@ room-after (Faulty r) count = Unit {0}
 -- a mark line with text t at byte p, after the first n marks of zs and hs, which are zs′ and hs′ afterwards
 pub record PointTried (t : List ℕ) (p : ℕ) (zs hs : List ℕ) (n : ℕ) (v : Verdict) (zs′ hs′ : List ℕ) : Type 0 where
   pub goes-on : (next : List ℕ → List ℕ → Outcome) → with-point full p (take n zs) (take n hs) (point-line t) next
-      ≡ or-next (told-verdict v) (next (take (n + 1) zs′) (take (n + 1) hs′))
+      ≡ or-next (verdict-fault v) (next (take (n + 1) zs′) (take (n + 1) hs′))
   pub room : room-after v n
 
 -- after the mark lines and the empty line: the second names line follows
 abbrev pub points-read : PointsRead → List ℕ → List ℕ → List ℕ → Outcome
 points-read (Points n q) s zs hs =
     header sample-header q (lines (drop q s)) (λ p rest. read-samples full (take n zs) (take n hs) p [] [] [] rest)
-points-read (UnfitPoints r) s zs hs = refused (told r)
+points-read (PointsRead.Refused r) s zs hs = refused (fault-of r)
 
 abbrev pub points-within : PointsRead → ℕ → Type 0
 points-within (Points n q) size = (n ≤ 512) × (q ≤ size)
-points-within (UnfitPoints r) size = Unit {0}
+points-within (PointsRead.Refused r) size = Unit {0}
 
 pub record PointsFound (s : List ℕ) (from : ℕ) (r : PointsRead) (zs hs : List ℕ) : Type 0 where
   pub outcome : read-points full from [] [] (lines (drop from s)) ≡ points-read r s zs hs
@@ -71,11 +71,11 @@ pub record PointsFound (s : List ℕ) (from : ℕ) (r : PointsRead) (zs hs : Lis
 -- after a reading line; last is the minute of the line before it
 abbrev pub sample-stored : SampleStored → ℕ → List ℕ → List ℕ → (List ℕ → List ℕ → List ℕ → Outcome) → Outcome
 sample-stored (Stored n minute) last ts vs next = next (last ∷ minute ∷ []) (take n ts) (take n vs)
-sample-stored (Refused r) last ts vs next = refused (told r)
+sample-stored (SampleStored.Refused r) last ts vs next = refused (fault-of r)
 
 abbrev pub stored-within : SampleStored → Type 0
 stored-within (Stored n minute) = n ≤ 1024
-stored-within (Refused r) = Unit {0}
+stored-within (SampleStored.Refused r) = Unit {0}
 
 -- a reading line with text t at byte p, after the first n readings of ts and vs, which are ts′ and vs′ afterwards
 pub record SampleTried (t : List ℕ) (p : ℕ) (ts vs : List ℕ) (n last : ℕ) (r : SampleStored) (ts′ vs′ : List ℕ) : Type 0 where
@@ -86,11 +86,11 @@ pub record SampleTried (t : List ℕ) (p : ℕ) (ts vs : List ℕ) (n last : ℕ
 -- after the reading lines
 abbrev pub samples-read : SamplesRead → List ℕ → List ℕ → List ℕ → List ℕ → Outcome
 samples-read (Kept n) zs hs ts vs = given (record { minutes = take n ts; values = take n vs; points = zs; bandwidths = hs })
-samples-read (UnfitSamples r) zs hs ts vs = refused (told r)
+samples-read (SamplesRead.Refused r) zs hs ts vs = refused (fault-of r)
 
 abbrev pub samples-within : SamplesRead → Type 0
 samples-within (Kept n) = n ≤ 1024
-samples-within (UnfitSamples r) = Unit {0}
+samples-within (SamplesRead.Refused r) = Unit {0}
 
 pub record SamplesFound (s : List ℕ) (from : ℕ) (r : SamplesRead) (ts vs : List ℕ) : Type 0 where
   pub outcome : (zs hs : List ℕ) → read-samples full zs hs from [] [] [] (lines (drop from s)) ≡ samples-read r zs hs ts vs
@@ -103,22 +103,22 @@ pub record SamplesFromHeader (s : List ℕ) (from : ℕ) (r : SamplesRead) (ts v
   pub within : samples-within r
 
 -- after the whole sheet, read into lists of full length
-abbrev pub sheet-read : Reading → List ℕ → List ℕ → List ℕ → List ℕ → Outcome
+abbrev pub sheet-read : Parsing → List ℕ → List ℕ → List ℕ → List ℕ → Outcome
 sheet-read (Used n m) ts vs zs hs =
     given (record { minutes = take n ts; values = take n vs; points = take m zs; bandwidths = take m hs })
-sheet-read (Unread r) ts vs zs hs = refused (told r)
+sheet-read (Parsing.Refused r) ts vs zs hs = refused (fault-of r)
 
-abbrev pub used-within : Reading → Type 0
+abbrev pub used-within : Parsing → Type 0
 used-within (Used n m) = (n ≤ 1024) × (m ≤ 512)
-used-within (Unread r) = Unit {0}
+used-within (Parsing.Refused r) = Unit {0}
 
-pub record Scanned (s : List ℕ) (r : Reading) (ts vs zs hs : List ℕ) : Type 0 where
+pub record Scanned (s : List ℕ) (r : Parsing) (ts vs zs hs : List ℕ) : Type 0 where
   pub outcome : read-sheet full s ≡ sheet-read r ts vs zs hs
   pub within : used-within r
 
 -- the sheet read into lists of the right lengths, which hold what the meaning says afterwards
-pub record ReadInto (s ts vs zs hs : List ℕ) (r : Reading) (ts′ vs′ zs′ hs′ : List ℕ) : Type 0 where
-  pub answer : told-reading r ≡ counts (read-sheet full s)
+pub record ReadInto (s ts vs zs hs : List ℕ) (r : Parsing) (ts′ vs′ zs′ hs′ : List ℕ) : Type 0 where
+  pub answer : parsing-answer r ≡ counts (read-sheet full s)
   pub minutes : ts′ ≡ read-minutes (read-sheet full s) ts
   pub values : vs′ ≡ read-values (read-sheet full s) vs
   pub points : zs′ ≡ read-evaluation-points (read-sheet full s) zs

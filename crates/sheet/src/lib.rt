@@ -5,17 +5,17 @@ pub(crate) mod samples;
 use crate::points::PointsRead;
 use crate::samples::SamplesRead;
 use checks::uneven_lists;
-use lines::Line;
 use meanings::Found;
-use meanings::Reading;
+use meanings::Parsing;
 use meanings::Refusal;
 use meanings::Report;
+use sheet_lines::Line;
 ghost use mathlib.Core.Path.{_≡_};
 ghost use Prim.Native.Nat.{_≤_};
 ghost use mathlib.Core.List.{_++_};
 ghost use lib.ListN.{length, take, drop};
 ghost use Rattle.meanings.specs.Limits.{full};
-ghost use Rattle.meanings.specs.Calls.{told-reading, counts, read, read-minutes, read-values, read-evaluation-points, read-bandwidths};
+ghost use Rattle.meanings.specs.Calls.{parsing-answer, counts, read, read-minutes, read-values, read-evaluation-points, read-bandwidths};
 ghost use Rattle.sheet.specs.Stages.{HeaderTried, Scanned, ReadInto};
 
 // Passes the names line at byte `from`, if it is that.
@@ -23,10 +23,10 @@ pub(crate) fn skip_header(sheet: &[u8], from: usize, names: &[u8]) -> Found
     requires { ⌜ from ≤ length (now sheet) ⌝ }
     ensures { λ r. ⌜ HeaderTried (now (names .entry)) (now (sheet .entry)) from r ⌝ }
 {
-    let Line::Ended { end, next } = lines::find_line(sheet, from) else {
+    let Line::Ended { end, next } = sheet_lines::find_line(sheet, from) else {
         return Found::Nothing;
     };
-    if lines::same_text(&sheet[from..end], names) {
+    if sheet_lines::same_text(&sheet[from..end], names) {
         return Found::At(next);
     }
     Found::Nothing
@@ -39,32 +39,32 @@ pub(crate) fn scan(
     values: &mut [u16],
     points: &mut [u16],
     bandwidths: &mut [u32],
-) -> Reading
+) -> Parsing
     requires { ⌜ (length (now minutes) ≡ 1024) × (length (now values) ≡ 1024) × (length (now points) ≡ 512) × (length (now bandwidths) ≡ 512) ⌝ }
     ensures { λ r. ⌜ Scanned (now (sheet .entry)) r (now (minutes .exit)) (now (values .exit)) (now (points .exit)) (now (bandwidths .exit)) ⌝ }
 {
     if 32768 < sheet.len() {
-        return Reading::Unread(Refusal {
+        return Parsing::Refused(Refusal {
             report: Report::TooLong,
             place: 32768,
         });
     }
     let Found::At(first) = skip_header(sheet, 0, b"mark,half") else {
-        return Reading::Unread(Refusal {
+        return Parsing::Refused(Refusal {
             report: Report::BadHeader,
             place: 0,
         });
     };
     match crate::points::read_points(sheet, first, points, bandwidths) {
-        PointsRead::Unfit(refusal) => Reading::Unread(refusal),
+        PointsRead::Refused(refusal) => Parsing::Refused(refusal),
         PointsRead::Points { count, next } => match crate::samples::read_from_header(
             sheet,
             next,
             minutes,
             values,
         ) {
-            SamplesRead::Unfit(refusal) => Reading::Unread(refusal),
-            SamplesRead::Kept(kept) => Reading::Used {
+            SamplesRead::Refused(refusal) => Parsing::Refused(refusal),
+            SamplesRead::Kept(kept) => Parsing::Used {
                 samples: kept,
                 points: count,
             },
@@ -102,7 +102,7 @@ pub(crate) fn read_into(
     values: &mut [u16],
     points: &mut [u16],
     bandwidths: &mut [u32],
-) -> Reading
+) -> Parsing
     requires { ⌜ (length (now minutes) ≡ 1024) × (length (now values) ≡ 1024) × (length (now points) ≡ 512) × (length (now bandwidths) ≡ 512) ⌝ }
     ensures { λ r. ⌜ ReadInto (now (sheet .entry)) (now (minutes .entry)) (now (values .entry)) (now (points .entry)) (now (bandwidths .entry)) r (now (minutes .exit)) (now (values .exit)) (now (points .exit)) (now (bandwidths .exit)) ⌝ }
 {
@@ -111,8 +111,8 @@ pub(crate) fn read_into(
     let mut zs = [0u16; 512];
     let mut hs = [0u32; 512];
     match scan(sheet, &mut ts, &mut vs, &mut zs, &mut hs) {
-        Reading::Unread(refusal) => Reading::Unread(refusal),
-        Reading::Used {
+        Parsing::Refused(refusal) => Parsing::Refused(refusal),
+        Parsing::Used {
             samples: n,
             points: m,
         } => {
@@ -120,7 +120,7 @@ pub(crate) fn read_into(
             put_front_u16(&vs, n, values);
             put_front_u16(&zs, m, points);
             put_front_u32(&hs, m, bandwidths);
-            Reading::Used {
+            Parsing::Used {
                 samples: n,
                 points: m,
             }
@@ -135,15 +135,15 @@ pub fn read_sheet(
     values: &mut [u16],
     points: &mut [u16],
     bandwidths: &mut [u32],
-) -> Reading
-    ensures { λ r. ⌜ told-reading r ≡ counts (read full (now (sheet .entry)) (now (minutes .entry)) (now (values .entry)) (now (points .entry)) (now (bandwidths .entry))) ⌝ }
+) -> Parsing
+    ensures { λ r. ⌜ parsing-answer r ≡ counts (read full (now (sheet .entry)) (now (minutes .entry)) (now (values .entry)) (now (points .entry)) (now (bandwidths .entry))) ⌝ }
     ensures { λ _. ⌜ now (minutes .exit) ≡ read-minutes (read full (now (sheet .entry)) (now (minutes .entry)) (now (values .entry)) (now (points .entry)) (now (bandwidths .entry))) (now (minutes .entry)) ⌝ }
     ensures { λ _. ⌜ now (values .exit) ≡ read-values (read full (now (sheet .entry)) (now (minutes .entry)) (now (values .entry)) (now (points .entry)) (now (bandwidths .entry))) (now (values .entry)) ⌝ }
     ensures { λ _. ⌜ now (points .exit) ≡ read-evaluation-points (read full (now (sheet .entry)) (now (minutes .entry)) (now (values .entry)) (now (points .entry)) (now (bandwidths .entry))) (now (points .entry)) ⌝ }
     ensures { λ _. ⌜ now (bandwidths .exit) ≡ read-bandwidths (read full (now (sheet .entry)) (now (minutes .entry)) (now (values .entry)) (now (points .entry)) (now (bandwidths .entry))) (now (bandwidths .entry)) ⌝ }
 {
     if uneven_lists(minutes.len(), values.len(), points.len(), bandwidths.len()) {
-        return Reading::Unread(Refusal {
+        return Parsing::Refused(Refusal {
             report: Report::LengthMismatch,
             place: 0,
         });

@@ -1,11 +1,11 @@
 // The mark lines of the sheet.
 use checks::edge_below;
 use checks::out_of_range;
-use line_values::PointLine;
-use lines::Line;
 use meanings::Refusal;
 use meanings::Report;
 use meanings::Verdict;
+use sheet_lines::Line;
+use sheet_values::PointLine;
 ghost use mathlib.Core.Path.{_≡_};
 ghost use Prim.Native.Nat.{_≤_};
 ghost use lib.ListN.{length};
@@ -14,7 +14,7 @@ ghost use Rattle.sheet.specs.Stages.{below-last, edge-below-last, PointC
 // What the mark lines give: how many there are and where the line after the empty line begins, or the report.
 pub(crate) enum PointsRead {
     Points { count: usize, next: usize },
-    Unfit(Refusal),
+    Refused(Refusal),
 }
 
 // Whether a mark is below the last of the first `count`.
@@ -95,7 +95,7 @@ pub(crate) fn store_point(
     requires { ⌜ (length (now points) ≡ 512) × (length (now bandwidths) ≡ 512) × (count ≤ 512) ⌝ }
     ensures { λ r. ⌜ PointTried (now (text .entry)) place (now (points .entry)) (now (bandwidths .entry)) count r (now (points .exit)) (now (bandwidths .exit)) ⌝ }
 {
-    let PointLine::Point { point, bandwidth } = line_values::point_line(text) else {
+    let PointLine::Point { point, bandwidth } = sheet_values::point_line(text) else {
         return Verdict::Faulty(Refusal {
             report: Report::MalformedLine,
             place,
@@ -124,12 +124,12 @@ pub(crate) fn read_points(
     let mut at = from;
     let mut count = 0;
     while at < sheet.len() {
-        let Line::Ended { end, next } = lines::find_line(sheet, at) else {
+        let Line::Ended { end, next } = sheet_lines::find_line(sheet, at) else {
             break;
         };
         if end == at {
             if count == 0 {
-                return PointsRead::Unfit(Refusal {
+                return PointsRead::Refused(Refusal {
                     report: Report::NoPoints,
                     place: at,
                 });
@@ -137,14 +137,14 @@ pub(crate) fn read_points(
             return PointsRead::Points { count, next };
         }
         match store_point(&sheet[at..end], at, points, bandwidths, count) {
-            Verdict::Faulty(refusal) => return PointsRead::Unfit(refusal),
+            Verdict::Faulty(refusal) => return PointsRead::Refused(refusal),
             Verdict::Fit => {
                 count += 1;
                 at = next;
             }
         }
     }
-    PointsRead::Unfit(Refusal {
+    PointsRead::Refused(Refusal {
         report: Report::MalformedLine,
         place: at,
     })

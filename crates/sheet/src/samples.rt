@@ -1,10 +1,10 @@
 // The reading lines of the sheet.
 use crate::skip_header;
-use line_values::SampleLine;
-use lines::Line;
 use meanings::Found;
 use meanings::Refusal;
 use meanings::Report;
+use sheet_lines::Line;
+use sheet_values::SampleLine;
 ghost use mathlib.Core.Path.{_≡_};
 ghost use Prim.Native.Nat.{_≤_};
 ghost use lib.ListN.{length};
@@ -19,7 +19,7 @@ pub(crate) enum SampleStored {
 // What the reading lines give: how many are kept, or the report.
 pub(crate) enum SamplesRead {
     Kept(usize),
-    Unfit(Refusal),
+    Refused(Refusal),
 }
 
 // Stores the reading of a line's text behind the first `count` if it is kept, or says what the line earns: 3, 4, 6. `last` is the minute of
@@ -39,7 +39,7 @@ pub(crate) fn store_sample(
         minute,
         injection,
         value,
-    } = line_values::sample_line(text)
+    } = sheet_values::sample_line(text)
     else {
         return SampleStored::Refused(Refusal {
             report: Report::MalformedLine,
@@ -83,14 +83,14 @@ pub(crate) fn read_samples(
     let mut count = 0;
     let mut last = 0u16;
     while at < sheet.len() {
-        let Line::Ended { end, next } = lines::find_line(sheet, at) else {
-            return SamplesRead::Unfit(Refusal {
+        let Line::Ended { end, next } = sheet_lines::find_line(sheet, at) else {
+            return SamplesRead::Refused(Refusal {
                 report: Report::MalformedLine,
                 place: at,
             });
         };
         match store_sample(&sheet[at..end], at, minutes, values, count, last) {
-            SampleStored::Refused(refusal) => return SamplesRead::Unfit(refusal),
+            SampleStored::Refused(refusal) => return SamplesRead::Refused(refusal),
             SampleStored::Stored { count: n, minute } => {
                 count = n;
                 last = minute;
@@ -113,7 +113,7 @@ pub(crate) fn read_from_header(
 {
     match skip_header(sheet, from, b"minute,inj,vdk") {
         Found::At(first) => read_samples(sheet, first, minutes, values),
-        Found::Nothing => SamplesRead::Unfit(Refusal {
+        Found::Nothing => SamplesRead::Refused(Refusal {
             report: Report::BadHeader,
             place: from,
         }),

@@ -7,12 +7,12 @@ use lib.ListN.{length, take, drop}
 use lib.Seq.{take-at}
 use Rattle.meanings.specs.declared.Refusal.{Refusal}
 use Rattle.meanings.specs.declared.Writing.{Writing}
-use Rattle.meanings.specs.declared.Writing.the-variants.{Written, Unwritten}
+use Rattle.meanings.specs.declared.Writing.the-variants.{Written}
 use Rattle.meanings.specs.Limits.{full, max-output}
-use Rattle.meanings.specs.Reports.{given, refused, told, number}
+use Rattle.meanings.specs.Reports.{given, refused, fault-of, number}
 use Rattle.meanings.specs.Sheet.{Outcome, read-sheet}
 use Rattle.meanings.specs.Output.{refusal-text, outcome-text, program}
-use Rattle.meanings.specs.Calls.{told-writing, curve-size, filled-front, write, write-buffer, write-refusal-text, refusal-buffer}
+use Rattle.meanings.specs.Calls.{writing-answer, curve-size, filled-front, write, write-buffer, write-refusal-text, refusal-buffer}
 use Rattle.meanings.proofs.Checks.{differ-same}
 
 -- a text at the front of a buffer
@@ -21,44 +21,44 @@ front t rest now n e l = rw e (take-at t rest n (sym l))
 
 -- the text of a refusal
 module _ (out : List ℕ) (right : length out ≡ max-output) (r : Writing) (f : Refusal) (k : ℕ) (numbered : k ≡ number (f .report))
-    (answer : told-writing r ≡ write-refusal-text k (f .place) out) where
-  answered : told-writing r ≡ given (length (refusal-text (told f)))
+    (answer : writing-answer r ≡ write-refusal-text k (f .place) out) where
+  answered : writing-answer r ≡ given (length (refusal-text (fault-of f)))
   unfolding write-refusal-text
   answered = answer ∙ rw (differ-same (length out) max-output right, numbered)
 
-  pub never-refused : (e : Refusal) → r ≡ Unwritten e → ⊥
-  never-refused e q = let g = sym answered ∙ ap told-writing q in let z : _≡_ {A = ℕ} 0 1 = cc in omega arith
+  pub never-refused : (e : Refusal) → r ≡ Writing.Refused e → ⊥
+  never-refused e q = let g = sym answered ∙ ap writing-answer q in let z : _≡_ {A = ℕ} 0 1 = cc in omega arith
 
   module _ (n : ℕ) (q : r ≡ Written n) where
-    pub refusal-length : n ≡ length (refusal-text (told f))
-    refusal-length = let g = sym (ap told-writing q) ∙ answered in cc
+    pub refusal-length : n ≡ length (refusal-text (fault-of f))
+    refusal-length = let g = sym (ap writing-answer q) ∙ answered in cc
 
-    pub refusal-front : (now : List ℕ) → now ≡ refusal-buffer k (f .place) out → take n now ≡ refusal-text (told f)
+    pub refusal-front : (now : List ℕ) → now ≡ refusal-buffer k (f .place) out → take n now ≡ refusal-text (fault-of f)
     unfolding refusal-buffer
     refusal-front now w =
-        let t = refusal-text (told f) in
+        let t = refusal-text (fault-of f) in
         front t (drop (length t) out) now n (w ∙ rw (differ-same (length out) max-output right, numbered)) refusal-length
 
 -- the text of a sheet
-module _ (s out : List ℕ) (right : length out ≡ max-output) (r : Writing) (answer : told-writing r ≡ write s out) where
-  of-outcome : told-writing r ≡ curve-size (read-sheet full s)
+module _ (s out : List ℕ) (right : length out ≡ max-output) (r : Writing) (answer : writing-answer r ≡ write s out) where
+  of-outcome : writing-answer r ≡ curve-size (read-sheet full s)
   unfolding write
   of-outcome = answer ∙ rw (differ-same (length out) max-output right)
 
   -- refused
-  pub refusal-is-written : (f : Refusal) → r ≡ Unwritten f → refusal-text (told f) ≡ program s
+  pub refusal-is-written : (f : Refusal) → r ≡ Writing.Refused f → refusal-text (fault-of f) ≡ program s
   unfolding program
-  refusal-is-written f q = by (read-sheet full s) (sym (ap told-writing q) ∙ of-outcome)
+  refusal-is-written f q = by (read-sheet full s) (sym (ap writing-answer q) ∙ of-outcome)
     where
-      by : (o : Outcome) → refused (told f) ≡ curve-size o → refusal-text (told f) ≡ outcome-text o
+      by : (o : Outcome) → refused (fault-of f) ≡ curve-size o → refusal-text (fault-of f) ≡ outcome-text o
       by (given c) e = let z : _≡_ {A = ℕ} 0 1 = cc in absurd (omega arith)
-      by (refused e′) e = let g : told f ≡ e′ = cc in ap refusal-text g
+      by (refused e′) e = let g : fault-of f ≡ e′ = cc in ap refusal-text g
 
   -- accepted
   module _ (n : ℕ) (q : r ≡ Written n) where
     pub curve-length : n ≡ length (program s)
     unfolding program
-    curve-length = by (read-sheet full s) (sym (ap told-writing q) ∙ of-outcome)
+    curve-length = by (read-sheet full s) (sym (ap writing-answer q) ∙ of-outcome)
       where
         by : (o : Outcome) → given n ≡ curve-size o → n ≡ length (outcome-text o)
         by (given c) e = cc
@@ -67,7 +67,7 @@ module _ (s out : List ℕ) (right : length out ≡ max-output) (r : Writing) (a
     pub curve-front : (now : List ℕ) → now ≡ write-buffer s out → take n now ≡ program s
     unfolding program write-buffer
     curve-front now w =
-        by (read-sheet full s) (sym (ap told-writing q) ∙ of-outcome) (w ∙ rw (differ-same (length out) max-output right))
+        by (read-sheet full s) (sym (ap writing-answer q) ∙ of-outcome) (w ∙ rw (differ-same (length out) max-output right))
       where
         by : (o : Outcome) → given n ≡ curve-size o → now ≡ filled-front o (λ c. outcome-text (given c)) out → take n now ≡ outcome-text o
         by (given c) e w = front (outcome-text (given c)) _ now n w (cc)

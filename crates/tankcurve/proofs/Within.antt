@@ -7,7 +7,7 @@ use lib.ListN.{length, take, drop, length-drop}
 use lib.Seq.{length-take-le}
 use Rattle.meanings.specs.Limits.{max-sheet, max-output}
 use Rattle.meanings.specs.Output.{program}
-use Rattle.output_laws.proofs.OutputFits.{program-fits}
+use Rattle.laws_output.proofs.OutputFits.{program-fits}
 use Rattle.tankcurve.specs.declared.Input.{Input}
 use Rattle.tankcurve.specs.declared.Input.the-variants.{Bytes}
 use Rattle.tankcurve.specs.Input.{InputWithin}

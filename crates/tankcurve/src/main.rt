@@ -1,12 +1,13 @@
 // The program: a tank sheet on standard input, its curve or its refusal on standard output.
 use checks::report_number;
+use meanings::MAX_OUTPUT;
 use meanings::Refusal;
 use meanings::Writing;
 ghost use mathlib.Core.Path.{_≡_};
 ghost use Prim.Native.Nat.{_+_};
 ghost use lib.ListN.{length, take};
 ghost use Rattle.meanings.specs.Limits.{max-sheet, max-output};
-ghost use Rattle.meanings.specs.Reports.{told};
+ghost use Rattle.meanings.specs.Reports.{fault-of};
 ghost use Rattle.meanings.specs.Output.{refusal-text, program};
 ghost use Rattle.tankcurve.specs.Input.{InputWithin};
 
@@ -55,14 +56,14 @@ fn read_input(buf: &mut [u8]) -> Input
 // Puts the text of a refusal at the front of the buffer, and gives its length.
 fn refuse(refusal: Refusal, out: &mut [u8]) -> usize
     requires { ⌜ length (now out) ≡ max-output ⌝ }
-    ensures { λ r. ⌜ take r (now (out .exit)) ≡ refusal-text (told refusal) ⌝ }
-    ensures { λ r. ⌜ r ≡ length (refusal-text (told refusal)) ⌝ }
+    ensures { λ r. ⌜ take r (now (out .exit)) ≡ refusal-text (fault-of refusal) ⌝ }
+    ensures { λ r. ⌜ r ≡ length (refusal-text (fault-of refusal)) ⌝ }
 {
     let report = refusal.report;
     let place = refusal.place as u64;
     match text::refusal_text(report_number(report), place, out) {
         Writing::Written(n) => n,
-        Writing::Unwritten(_) => 0,
+        Writing::Refused(_) => 0,
     }
 }
 
@@ -74,13 +75,13 @@ fn answer(sheet: &[u8], out: &mut [u8]) -> usize
 {
     match text::curve_text(sheet, out) {
         Writing::Written(n) => n,
-        Writing::Unwritten(refusal) => refuse(refusal, out),
+        Writing::Refused(refusal) => refuse(refusal, out),
     }
 }
 
 // Writes the answer in one call. Where that fails nothing more is written.
 fn write_answer(sheet: &[u8]) {
-    let mut out = [0u8; 31291];
+    let mut out = [0u8; MAX_OUTPUT];
     let n = answer(sheet, &mut out);
     io::write_all(OUT, &out[..n]);
 }

@@ -8,15 +8,16 @@ use lib.ListN.{length}
 use Rattle.meanings.specs.declared.Refusal.{Refusal}
 use Rattle.meanings.specs.declared.RunningSums.{RunningSums}
 use Rattle.meanings.specs.declared.Advance.{Advance}
-use Rattle.meanings.specs.declared.Reading.{Reading}
-use Rattle.meanings.specs.declared.Reading.the-variants.{Used}
+use Rattle.meanings.specs.declared.Parsing.{Parsing}
+use Rattle.meanings.specs.declared.Parsing.the-variants.{Used}
 use Rattle.meanings.specs.Limits.{max-sheet}
-use Rattle.meanings.specs.Reports.{Fault, Answer, given, refused, told}
+use Rattle.meanings.specs.Reports.{Fault, Answer, given, refused, fault-of}
 use Rattle.meanings.specs.Running.{advance}
 use Rattle.meanings.specs.Sheet.{Outcome}
-use Rattle.meanings.specs.Calls.{Counts, told-advance, told-reading, counts}
-use Rattle.tankcurve_abi.specs.Answers.{code, answered, untold, sized, stored, count-numbers, record-of}
-use Rattle.tankcurve_abi.proofs.Places.{refusal-place, told-place}
+use Rattle.meanings.specs.Calls.{Counts, advance-answer, parsing-answer, counts}
+use Rattle.meanings.specs.Codes.{detail-unit, code, answered, no-detail}
+use Rattle.tankcurve_abi.specs.Answers.{sized, stored, count-numbers, record-of}
+use Rattle.tankcurve_abi.proofs.Places.{refusal-place, refusal-place-at-most}
 
 abbrev pub refuses : {A : Type 0} → Answer A → Bool
 refuses (given a) = false
@@ -24,36 +25,36 @@ refuses (refused e) = true
 
 -- the call below tells `a`, and is met as `x`
 module _ {E A : Type 0} (tell : E → Answer A) (r x : E) (met : r ≡ x) (a : Answer A) (answer : tell r ≡ a) where
-  told-so : tell x ≡ a
-  told-so = sym (ap tell met) ∙ answer
+  answer-is : tell x ≡ a
+  answer-is = sym (ap tell met) ∙ answer
 
-  module _ (f : Refusal) (no : tell x ≡ refused (told f)) where
+  module _ (f : Refusal) (no : tell x ≡ refused (fault-of f)) where
     pub refused-place : refusal-place a ≤ max-sheet → f .place ≤ max-sheet
-    refused-place small = told-place a (told f) (sym no ∙ told-so) small
+    refused-place small = refusal-place-at-most a (fault-of f) (sym no ∙ answer-is) small
 
-    pub refused-code : (detail : A → ℕ) (k : ℕ) → k ≡ code (told f) → k ≡ answered detail a
-    refused-code detail k e = e ∙ ap (answered detail) (sym no ∙ told-so)
+    pub refused-code : (detail : A → ℕ) (k : ℕ) → k ≡ code (fault-of f) → k ≡ answered detail a
+    refused-code detail k e = e ∙ ap (answered detail) (sym no ∙ answer-is)
 
   pub refused-stays : refuses (tell x) ≡ true → (numbers : A → List ℕ) (xs : List ℕ) → xs ≡ stored numbers a xs
-  refused-stays so numbers xs = by (tell x) so ∙ ap (λ (o : Answer A). stored numbers o xs) told-so
+  refused-stays so numbers xs = by (tell x) so ∙ ap (λ (o : Answer A). stored numbers o xs) answer-is
     where
       by : (o : Answer A) → refuses o ≡ true → xs ≡ stored numbers o xs
       by (refused e) q = refl
       by (given b) q = absurd (true≢false (sym q))
 
-  pub accepted-code : refuses (tell x) ≡ false → 0 ≡ answered untold a
-  accepted-code so = by (tell x) so ∙ ap (answered untold) told-so
+  pub accepted-code : refuses (tell x) ≡ false → 0 ≡ answered no-detail a
+  accepted-code so = by (tell x) so ∙ ap (answered no-detail) answer-is
     where
-      by : (o : Answer A) → refuses o ≡ false → 0 ≡ answered untold o
+      by : (o : Answer A) → refuses o ≡ false → 0 ≡ answered no-detail o
       by (refused e) q = absurd (true≢false q)
       by (given b) q = refl
 
   pub accepted-stored : (b : A) → tell x ≡ given b → (numbers : A → List ℕ) (xs ys : List ℕ) → ys ≡ numbers b → ys ≡ stored numbers a xs
-  accepted-stored b so numbers xs ys e = e ∙ ap (λ (o : Answer A). stored numbers o xs) (sym so ∙ told-so)
+  accepted-stored b so numbers xs ys e = e ∙ ap (λ (o : Answer A). stored numbers o xs) (sym so ∙ answer-is)
 
 pub accepted-number : {E : Type 0} (tell : E → Answer ℕ) (r x : E) → r ≡ x → (a : Answer ℕ) → tell r ≡ a → (n : ℕ) → tell x ≡ given n
-    → 16 * n ≡ answered (λ (k : ℕ). k) a
-accepted-number tell r x met a answer n so = ap (answered (λ (k : ℕ). k)) (sym so ∙ told-so tell r x met a answer)
+    → detail-unit * n ≡ answered (λ (k : ℕ). k) a
+accepted-number tell r x met a answer n so = ap (answered (λ (k : ℕ). k)) (sym so ∙ answer-is tell r x met a answer)
 
 -- a list of another length is refused first, and stays
 abbrev uneven : Fault
@@ -64,8 +65,8 @@ module _ {A : Type 0} (n : ℕ) (xs : List ℕ) (a : Answer A) (other : length x
   unfolding sized
   other-size = rw (ne-eqb (length xs) n other)
 
-  pub other-code : 8 ≡ answered untold (sized n xs a)
-  other-code = ap (answered untold) other-size
+  pub other-code : 8 ≡ answered no-detail (sized n xs a)
+  other-code = ap (answered no-detail) other-size
 
   pub other-stays : (numbers : A → List ℕ) → xs ≡ stored numbers (sized n xs a) xs
   other-stays numbers = ap (λ (o : Answer A). stored numbers o xs) other-size
@@ -80,27 +81,27 @@ pub sized-answer : {E A : Type 0} (tell : E → Answer A) (r : E) (a : Answer A)
 sized-answer tell r a answer n xs right = answer ∙ right-size n xs right a
 
 -- the step on the record that the eight numbers are
-pub step-answer : (r : Advance) (ts vs : List ℕ) (s : RunningSums) (z h : ℕ) → told-advance r ≡ advance ts vs s z h → (xs : List ℕ) → s ≡ record-of xs
-    → length xs ≡ 8 → told-advance r ≡ sized 8 xs (advance ts vs (record-of xs) z h)
+pub step-answer : (r : Advance) (ts vs : List ℕ) (s : RunningSums) (z h : ℕ) → advance-answer r ≡ advance ts vs s z h → (xs : List ℕ) → s ≡ record-of xs
+    → length xs ≡ 8 → advance-answer r ≡ sized 8 xs (advance ts vs (record-of xs) z h)
 step-answer r ts vs s z h answer xs e right =
     answer ∙ ap (λ (t : RunningSums). advance ts vs t z h) e ∙ right-size 8 xs right (advance ts vs (record-of xs) z h)
 
 -- the reader, with a list for its counts
 module _ (cs : List ℕ) (o : Outcome) where
   module _ (other : length cs ≡ 2 → ⊥) where
-    pub other-counts-code : 8 ≡ answered untold (counts (sized 2 cs o))
-    other-counts-code = ap (λ (p : Outcome). answered untold (counts p)) (other-size 2 cs o other)
+    pub other-counts-code : 8 ≡ answered no-detail (counts (sized 2 cs o))
+    other-counts-code = ap (λ (p : Outcome). answered no-detail (counts p)) (other-size 2 cs o other)
 
     pub other-counts-stay : cs ≡ stored count-numbers (counts (sized 2 cs o)) cs
     other-counts-stay = ap (λ (p : Outcome). stored count-numbers (counts p) cs) (other-size 2 cs o other)
 
-  pub counted-answer : (r : Reading) → told-reading r ≡ counts o → length cs ≡ 2 → told-reading r ≡ counts (sized 2 cs o)
+  pub counted-answer : (r : Parsing) → parsing-answer r ≡ counts o → length cs ≡ 2 → parsing-answer r ≡ counts (sized 2 cs o)
   counted-answer r answer right = answer ∙ ap counts (right-size 2 cs right o)
 
-  pub counts-stored : (r : Reading) → told-reading r ≡ counts o → length cs ≡ 2 → (n m : ℕ) → r ≡ Used n m → (ys : List ℕ) → ys ≡ n ∷ m ∷ []
+  pub counts-stored : (r : Parsing) → parsing-answer r ≡ counts o → length cs ≡ 2 → (n m : ℕ) → r ≡ Used n m → (ys : List ℕ) → ys ≡ n ∷ m ∷ []
       → ys ≡ stored count-numbers (counts (sized 2 cs o)) cs
   counts-stored r answer right n m met ys e =
-      e ∙ ap (λ (a : Answer Counts). stored count-numbers a cs) (sym (ap told-reading met) ∙ counted-answer r answer right)
+      e ∙ ap (λ (a : Answer Counts). stored count-numbers a cs) (sym (ap parsing-answer met) ∙ counted-answer r answer right)
 
 module _ (list : Outcome → List ℕ → List ℕ) (cs : List ℕ) (o : Outcome) (xs : List ℕ) where
   pub list-stays : (length cs ≡ 2 → ⊥) → xs ≡ list (refused uneven) xs → xs ≡ list (sized 2 cs o) xs

@@ -1,6 +1,6 @@
--- Every refusal's place is at most 32,768: positions lie in lists of at most 1,024, and a sheet's place in it, at its end or at the limit. Its
--- number is at most 13, so 16 times the place plus the number tells both.
-use Prim.Native.Nat.{ℕ, _+_, _-_, _*_, _/_, _%_, _^_, _≤_, _<_, zero-le}
+-- Every refusal's place is at most 32,768: positions lie in lists of at most 1,024, and a sheet's place in it, at its end or at the limit. A
+-- sweep's passes and a text's bytes are few too. So no answer's one number overflows.
+use Prim.Native.Nat.{ℕ, _+_, _-_, _*_, _^_, _≤_, _<_, zero-le}
 use mathlib.Core.Path.{_≡_, refl, sym, ap, _∙_}
 use mathlib.Core.Bool.{Bool, true, false, _||_}
 use mathlib.Core.List.{List, [], _∷_}
@@ -9,14 +9,10 @@ use native.Mathlib.Omega.{arith}
 use borrow.Author.Tests.{ltb-true, ltb-false}
 use lib.Dec.{ltb, leb, eqb}
 use lib.ListN.{length, getD}
-use Rattle.meanings.specs.declared.Report.{Report}
-use Rattle.meanings.specs.declared.Report.the-variants.{TooLong, BadHeader, MalformedLine, SampleOutOfOrder, PointOutOfOrder, TooMany, NoPoints}
-use Rattle.meanings.specs.declared.Report.the-variants.{LengthMismatch, BandwidthOutOfRange, EdgeDecreases, InvalidRecord, UnknownPreset, GridOverflow}
-use Rattle.meanings.specs.declared.Refusal.{Refusal}
 use Rattle.meanings.specs.declared.RunningSums.{RunningSums}
-use Rattle.meanings.specs.Limits.{full, max-u16, max-sheet, max-output}
+use Rattle.meanings.specs.Limits.{full, max-u16, max-sheet, max-output, row-width}
 use Rattle.meanings.specs.Lists.{pick, first, lowest}
-use Rattle.meanings.specs.Reports.{Fault, Answer, given, refused, unless, told, number, Check, at, or-later, first-of, differ, decreases}
+use Rattle.meanings.specs.Reports.{Fault, Answer, given, refused, unless, Check, at, fault-or, first-of, differ, decreases}
 use Rattle.meanings.specs.Reports.{bad-bandwidth, edge-decreases, uneven-samples, bandwidth-checks, evaluate-checks, advance-checks}
 use Rattle.meanings.specs.Reports.{smooth-checks, fill-checks, read-checks, buffer-checks}
 use Rattle.meanings.specs.Moves.{moves}
@@ -29,37 +25,14 @@ use Rattle.meanings.specs.declared.Smoothing.{Smoothing}
 use Rattle.meanings.specs.declared.Smoothing.the-variants.{Passes}
 use Rattle.meanings.specs.declared.Writing.{Writing}
 use Rattle.meanings.specs.declared.Writing.the-variants.{Written}
-use Rattle.meanings.specs.Calls.{told-smoothing, told-writing, evaluate, smooth, smooth-refusal, fill, counts, read, buffer-refusal, curve-size}
+use Rattle.meanings.specs.Calls.{smoothing-answer, writing-answer, evaluate, smooth, smooth-refusal, fill, counts, read, buffer-refusal, curve-size}
 use Rattle.meanings.specs.Calls.{write, write-refusal-text}
-use Rattle.meanings.proofs.Checks.{at-none, or-false, differ-false, given-accepted}
+use Rattle.meanings.proofs.Checks.{same-limits, at-none, or-false, differ-false, given-accepted}
 use Rattle.meanings.proofs.Passes.{passes-at-most-twice}
 use Rattle.meanings.proofs.SmoothSteps.{smooth-accepts}
-use Rattle.output_laws.proofs.Refusals.{refusal-small, any-refusal-fits}
-use Rattle.output_laws.proofs.AcceptedSheet.{accepted-contents}
-use Rattle.output_laws.proofs.OutputFits.{curve-text-fits}
-use Rattle.tankcurve_abi.specs.Answers.{code}
-
-pub number-range : (r : Report) → (1 ≤ number r) × (number r ≤ 13)
-number-range TooLong = (omega arith, omega arith)
-number-range BadHeader = (omega arith, omega arith)
-number-range MalformedLine = (omega arith, omega arith)
-number-range SampleOutOfOrder = (omega arith, omega arith)
-number-range PointOutOfOrder = (omega arith, omega arith)
-number-range TooMany = (omega arith, omega arith)
-number-range NoPoints = (omega arith, omega arith)
-number-range LengthMismatch = (omega arith, omega arith)
-number-range BandwidthOutOfRange = (omega arith, omega arith)
-number-range EdgeDecreases = (omega arith, omega arith)
-number-range InvalidRecord = (omega arith, omega arith)
-number-range UnknownPreset = (omega arith, omega arith)
-number-range GridOverflow = (omega arith, omega arith)
-
--- the one number tells whether a call is refused, and a refusal's number and place
-pub refusal-read-back : (r : Refusal) → (code (told r) % 16 ≡ number (r .report)) × (code (told r) / 16 ≡ r .place) × (1 ≤ code (told r) % 16)
-refusal-read-back r = let n = number-range (r .report) in (omega arith, omega arith, omega arith)
-
-pub accepted-read-back : (n : ℕ) → (16 * n % 16 ≡ 0) × (16 * n / 16 ≡ n)
-accepted-read-back n = (omega arith, omega arith)
+use Rattle.laws_output.proofs.Refusals.{refusal-small, any-refusal-fits}
+use Rattle.laws_output.proofs.AcceptedSheet.{accepted-contents}
+use Rattle.laws_output.proofs.OutputFits.{curve-text-fits}
 
 -- a place, else 0
 abbrev place-or-0 : Option ℕ → ℕ
@@ -83,7 +56,7 @@ fault-small : (cs : List Check) → SmallPlaces cs → (e : Fault) → first-of 
 fault-small [] l e q = let z : _≡_ {A = ℕ} 0 1 = cc in absurd (omega arith)
 fault-small (c ∷ cs) l e q = by (c .place) refl q (l .0) (λ r. fault-small cs (l .1 r) e)
   where
-    by : (p : Option ℕ) → c .place ≡ p → or-later (c .report) p (first-of cs) ≡ some e → place-or-0 p ≤ max-sheet
+    by : (p : Option ℕ) → c .place ≡ p → fault-or (c .number) p (first-of cs) ≡ some e → place-or-0 p ≤ max-sheet
         → (c .place ≡ none → first-of cs ≡ some e → e .place ≤ max-sheet) → e .place ≤ max-sheet
     by none r q here later = later r q
     by (some p) r q here later = let z : p ≡ e .place = ap place-of q in omega arith
@@ -113,8 +86,8 @@ few-small : (n m : ℕ) → at 0 (ltb n m) ≡ none → n ≤ max-sheet → m �
 few-small n m e l = let f = ltb-false n m (at-none 0 (ltb n m) e) in omega arith
 
 -- a refusal that a call has told
-pub told-place : {A : Type 0} (a : Answer A) (e : Fault) → refused e ≡ a → refusal-place a ≤ max-sheet → e .place ≤ max-sheet
-told-place a e q l = let z : e .place ≡ refusal-place a = ap refusal-place q in omega arith
+pub refusal-place-at-most : {A : Type 0} (a : Answer A) (e : Fault) → refused e ≡ a → refusal-place a ≤ max-sheet → e .place ≤ max-sheet
+refusal-place-at-most a e q l = let z : e .place ≡ refusal-place a = ap refusal-place q in omega arith
 
 pub evaluate-place : (ts vs : List ℕ) (z h : ℕ) → refusal-place (evaluate full ts vs z h) ≤ max-sheet
 unfolding evaluate
@@ -139,13 +112,13 @@ pub smooth-place : (ts vs zs hs rs : List ℕ) → refusal-place (smooth full ts
 unfolding smooth
 smooth-place ts vs zs hs rs =
     answer-small (smooth-checks full ts vs zs hs (length rs)) (passes ts vs fresh (moves zs hs)) (
-      at-start (uneven-samples ts vs || differ (length zs) (length hs) || differ (length rs) (5 * length zs)),
+      at-start (uneven-samples ts vs || differ (length zs) (length hs) || differ (length rs) (row-width * length zs)),
       λ even. (
         at-start (ltb 1024 (length ts) || ltb 512 (length zs)),
         λ few. (
           at-start (eqb (length zs) 0),
           λ any. (
-              let u = or-false (uneven-samples ts vs || differ (length zs) (length hs)) (differ (length rs) (5 * length zs)) (at-none 0 _ even) in
+              let u = or-false (uneven-samples ts vs || differ (length zs) (length hs)) (differ (length rs) (row-width * length zs)) (at-none 0 _ even) in
               let e = differ-false (length zs) (length hs) (or-false (uneven-samples ts vs) (differ (length zs) (length hs)) (u .0) .1) in
               let f = or-false (ltb 1024 (length ts)) (ltb 512 (length zs)) (at-none 0 _ few) in
               let t = ltb-false 1024 (length ts) (f .0) in
@@ -228,7 +201,7 @@ pub passes-small : (ts vs zs hs rs : List ℕ) (n : ℕ) → smooth full ts vs z
 unfolding smooth
 passes-small ts vs zs hs rs n q =
     let a = given-accepted (smooth-refusal full ts vs zs hs rs) (passes ts vs fresh (moves zs hs)) n q in
-    let s = smooth-accepts ts vs zs hs (length rs) (a .0) in
+    let s = smooth-accepts full (same-limits full) ts vs zs hs (length rs) (a .0) .lists in
     let m = passes-at-most-twice ts vs (moves zs hs) in
     omega (arith, a .1, s .few)
 
@@ -248,12 +221,12 @@ refusal-size-small n p out k l m q =
     omega (arith, a .1, any-refusal-fits n p l m)
 
 -- so what the call below tells is small
-pub passes-few : (ts vs zs hs rs : List ℕ) (r : Smoothing) (n : ℕ) → told-smoothing r ≡ smooth full ts vs zs hs rs → r ≡ Passes n → n ≤ 2048
-passes-few ts vs zs hs rs r n answer met = passes-small ts vs zs hs rs n (sym answer ∙ ap told-smoothing met)
+pub passes-few : (ts vs zs hs rs : List ℕ) (r : Smoothing) (n : ℕ) → smoothing-answer r ≡ smooth full ts vs zs hs rs → r ≡ Passes n → n ≤ 2048
+passes-few ts vs zs hs rs r n answer met = passes-small ts vs zs hs rs n (sym answer ∙ ap smoothing-answer met)
 
-pub text-size : (s out : List ℕ) (r : Writing) (n : ℕ) → told-writing r ≡ write s out → r ≡ Written n → n ≤ max-output
-text-size s out r n answer met = size-small s out n (sym answer ∙ ap told-writing met)
+pub text-size : (s out : List ℕ) (r : Writing) (n : ℕ) → writing-answer r ≡ write s out → r ≡ Written n → n ≤ max-output
+text-size s out r n answer met = size-small s out n (sym answer ∙ ap writing-answer met)
 
-pub refusal-size : (n p : ℕ) (out : List ℕ) (r : Writing) (k : ℕ) → told-writing r ≡ write-refusal-text n p out → r ≡ Written k
+pub refusal-size : (n p : ℕ) (out : List ℕ) (r : Writing) (k : ℕ) → writing-answer r ≡ write-refusal-text n p out → r ≡ Written k
     → n < 2 ^ 64 → p < 2 ^ 64 → k ≤ 56
-refusal-size n p out r k answer met l m = refusal-size-small n p out k l m (sym answer ∙ ap told-writing met)
+refusal-size n p out r k answer met l m = refusal-size-small n p out k l m (sym answer ∙ ap writing-answer met)

@@ -1,25 +1,13 @@
 -- What an exported function answers, and what its lent lists hold at exit, made of the meanings of the calls below it.
-use Prim.Native.Nat.{ℕ, _+_, _*_}
+use Prim.Native.Nat.{ℕ}
 use mathlib.Core.List.{List, [], _∷_}
 use lib.Dec.{eqb}
 use lib.ListN.{length, getD}
 use Rattle.meanings.specs.declared.Estimate.{Estimate}
 use Rattle.meanings.specs.declared.RunningSums.{RunningSums}
 use Rattle.meanings.specs.Lists.{pick}
-use Rattle.meanings.specs.Reports.{Fault, Answer, given, refused}
+use Rattle.meanings.specs.Reports.{Answer, given, refused}
 use Rattle.meanings.specs.Calls.{Counts}
-
--- a refusal as one number: 16 times the place, plus the report's number
-abbrev pub code : Fault → ℕ
-code e = 16 * e .place + e .number
-
--- an answer as one number: a refusal's code, or 16 times what an accepted call has to tell
-abbrev pub answered : {A : Type 0} → (A → ℕ) → Answer A → ℕ
-answered detail (given a) = 16 * detail a
-answered detail (refused e) = code e
-
-abbrev pub untold : {A : Type 0} → A → ℕ
-untold a = 0
 
 -- a list that must have n numbers is looked at before all else: another length gets 8 at place 0
 unfoldable pub sized : {A : Type 0} → ℕ → List ℕ → Answer A → Answer A

@@ -1,10 +1,10 @@
-// The calls for programs in C and Rust: numbers and slices of numbers only. Each answer is one number, 16 × detail + report: report 0 is
-// accepted, and its detail the passes of a sweep, the bytes of a text, else 0; the detail of a report is its place.
+// The calls for programs in C and Rust: numbers and slices of numbers only. Each answer is one number, DETAIL_UNIT × detail + report: report 0
+// is accepted, and its detail the passes of a sweep, the bytes of a text, else 0; the detail of a report is its place.
 mod lists;
 
+use crate::lists::put_estimate;
 use crate::lists::put_pair;
 use crate::lists::put_record;
-use crate::lists::put_row;
 use crate::lists::record_of;
 use crate::lists::refusal_code;
 use estimator::advance;
@@ -14,18 +14,23 @@ use grid::fill_grid;
 use meanings::Advance;
 use meanings::Evaluation;
 use meanings::Filling;
-use meanings::Reading;
+use meanings::Parsing;
+use meanings::ROW_WIDTH;
 use meanings::Smoothing;
 use meanings::Writing;
 use sheet::read_sheet;
 use text::curve_text;
 use text::refusal_text;
 ghost use mathlib.Core.Path.{_≡_};
-ghost use Rattle.meanings.specs.Limits.{full};
+ghost use Rattle.meanings.specs.Limits.{full, row-width};
 ghost use Rattle.meanings.specs.Estimate.{fields};
 ghost use Rattle.meanings.specs.Running.{advance as advance-meaning};
 ghost use Rattle.meanings.specs.Calls.{evaluate as evaluate-meaning, smooth as smooth-meaning, smooth-rows, fill, fill-points, fill-bandwidths, counts as counts-of, read, read-minutes, read-values, read-evaluation-points, read-bandwidths, write, write-buffer, write-refusal-text, refusal-buffer};
-ghost use Rattle.tankcurve_abi.specs.Answers.{answered, untold, sized, stored, bounds as bounds-of, count-numbers, record-numbers, record-of as record-meaning};
+ghost use Rattle.meanings.specs.Codes.{answered, no-detail};
+ghost use Rattle.tankcurve_abi.specs.Answers.{sized, stored, bounds as bounds-of, count-numbers, record-numbers, record-of as record-meaning};
+
+// What one of a detail counts for in an answer: detail-unit of the meanings' specs/Codes.antt. Every report's number is below it.
+pub const DETAIL_UNIT: u64 = 256;
 
 // The question at one mark. row: five numbers, left, right, weight, sum, value.
 #[no_mangle]
@@ -36,16 +41,16 @@ pub extern "C" fn tankcurve_evaluate(
     bandwidth: u32,
     row: &mut [u64],
 ) -> u64
-    ensures { λ r. ⌜ r ≡ answered untold (sized 5 (now (row .entry)) (evaluate-meaning full (now (minutes .entry)) (now (values .entry)) point bandwidth)) ⌝ }
-    ensures { λ _. ⌜ now (row .exit) ≡ stored fields (sized 5 (now (row .entry)) (evaluate-meaning full (now (minutes .entry)) (now (values .entry)) point bandwidth)) (now (row .entry)) ⌝ }
+    ensures { λ r. ⌜ r ≡ answered no-detail (sized row-width (now (row .entry)) (evaluate-meaning full (now (minutes .entry)) (now (values .entry)) point bandwidth)) ⌝ }
+    ensures { λ _. ⌜ now (row .exit) ≡ stored fields (sized row-width (now (row .entry)) (evaluate-meaning full (now (minutes .entry)) (now (values .entry)) point bandwidth)) (now (row .entry)) ⌝ }
 {
-    if row.len() != 5 {
+    if row.len() != ROW_WIDTH {
         return 8;
     }
     match evaluate(minutes, values, point, bandwidth) {
-        Evaluation::Unfit(refusal) => refusal_code(refusal),
+        Evaluation::Refused(refusal) => refusal_code(refusal),
         Evaluation::Row(estimate) => {
-            put_row(row, estimate);
+            put_estimate(row, estimate);
             0
         }
     }
@@ -60,14 +65,14 @@ pub extern "C" fn tankcurve_window(
     bandwidth: u32,
     bounds: &mut [u64],
 ) -> u64
-    ensures { λ r. ⌜ r ≡ answered untold (sized 2 (now (bounds .entry)) (evaluate-meaning full (now (minutes .entry)) (now (values .entry)) point bandwidth)) ⌝ }
+    ensures { λ r. ⌜ r ≡ answered no-detail (sized 2 (now (bounds .entry)) (evaluate-meaning full (now (minutes .entry)) (now (values .entry)) point bandwidth)) ⌝ }
     ensures { λ _. ⌜ now (bounds .exit) ≡ stored bounds-of (sized 2 (now (bounds .entry)) (evaluate-meaning full (now (minutes .entry)) (now (values .entry)) point bandwidth)) (now (bounds .entry)) ⌝ }
 {
     if bounds.len() != 2 {
         return 8;
     }
     match evaluate(minutes, values, point, bandwidth) {
-        Evaluation::Unfit(refusal) => refusal_code(refusal),
+        Evaluation::Refused(refusal) => refusal_code(refusal),
         Evaluation::Row(estimate) => {
             put_pair(bounds, estimate.left, estimate.right);
             0
@@ -84,14 +89,14 @@ pub extern "C" fn tankcurve_advance(
     point: u16,
     bandwidth: u32,
 ) -> u64
-    ensures { λ r. ⌜ r ≡ answered untold (sized 8 (now (running .entry)) (advance-meaning (now (minutes .entry)) (now (values .entry)) (record-meaning (now (running .entry))) point bandwidth)) ⌝ }
+    ensures { λ r. ⌜ r ≡ answered no-detail (sized 8 (now (running .entry)) (advance-meaning (now (minutes .entry)) (now (values .entry)) (record-meaning (now (running .entry))) point bandwidth)) ⌝ }
     ensures { λ _. ⌜ now (running .exit) ≡ stored record-numbers (sized 8 (now (running .entry)) (advance-meaning (now (minutes .entry)) (now (values .entry)) (record-meaning (now (running .entry))) point bandwidth)) (now (running .entry)) ⌝ }
 {
     if running.len() != 8 {
         return 8;
     }
     match advance(record_of(running), minutes, values, point, bandwidth) {
-        Advance::Stayed(refusal) => refusal_code(refusal),
+        Advance::Refused(refusal) => refusal_code(refusal),
         Advance::Moved(moved) => {
             put_record(running, moved);
             0
@@ -112,8 +117,8 @@ pub extern "C" fn tankcurve_smooth(
     ensures { λ _. ⌜ now (rows .exit) ≡ smooth-rows full (now (minutes .entry)) (now (values .entry)) (now (points .entry)) (now (bandwidths .entry)) (now (rows .entry)) ⌝ }
 {
     match smooth(minutes, values, points, bandwidths, rows) {
-        Smoothing::Unswept(refusal) => refusal_code(refusal),
-        Smoothing::Passes(passes) => 16 * passes,
+        Smoothing::Refused(refusal) => refusal_code(refusal),
+        Smoothing::Passes(passes) => DETAIL_UNIT * passes,
     }
 }
 
@@ -126,12 +131,12 @@ pub extern "C" fn tankcurve_fill(
     points: &mut [u16],
     bandwidths: &mut [u32],
 ) -> u64
-    ensures { λ r. ⌜ r ≡ answered untold (fill full first spacing preset (now (points .entry)) (now (bandwidths .entry))) ⌝ }
+    ensures { λ r. ⌜ r ≡ answered no-detail (fill full first spacing preset (now (points .entry)) (now (bandwidths .entry))) ⌝ }
     ensures { λ _. ⌜ now (points .exit) ≡ fill-points full first spacing preset (now (points .entry)) (now (bandwidths .entry)) ⌝ }
     ensures { λ _. ⌜ now (bandwidths .exit) ≡ fill-bandwidths full first spacing preset (now (points .entry)) (now (bandwidths .entry)) ⌝ }
 {
     match fill_grid(first, spacing, preset, points, bandwidths) {
-        Filling::Unfilled(refusal) => refusal_code(refusal),
+        Filling::Refused(refusal) => refusal_code(refusal),
         Filling::Filled => 0,
     }
 }
@@ -146,7 +151,7 @@ pub extern "C" fn tankcurve_read(
     bandwidths: &mut [u32],
     counts: &mut [u64],
 ) -> u64
-    ensures { λ r. ⌜ r ≡ answered untold (counts-of (sized 2 (now (counts .entry)) (read full (now (sheet .entry)) (now (minutes .entry)) (now (values .entry)) (now (points .entry)) (now (bandwidths .entry))))) ⌝ }
+    ensures { λ r. ⌜ r ≡ answered no-detail (counts-of (sized 2 (now (counts .entry)) (read full (now (sheet .entry)) (now (minutes .entry)) (now (values .entry)) (now (points .entry)) (now (bandwidths .entry))))) ⌝ }
     ensures { λ _. ⌜ now (minutes .exit) ≡ read-minutes (sized 2 (now (counts .entry)) (read full (now (sheet .entry)) (now (minutes .entry)) (now (values .entry)) (now (points .entry)) (now (bandwidths .entry)))) (now (minutes .entry)) ⌝ }
     ensures { λ _. ⌜ now (values .exit) ≡ read-values (sized 2 (now (counts .entry)) (read full (now (sheet .entry)) (now (minutes .entry)) (now (values .entry)) (now (points .entry)) (now (bandwidths .entry)))) (now (values .entry)) ⌝ }
     ensures { λ _. ⌜ now (points .exit) ≡ read-evaluation-points (sized 2 (now (counts .entry)) (read full (now (sheet .entry)) (now (minutes .entry)) (now (values .entry)) (now (points .entry)) (now (bandwidths .entry)))) (now (points .entry)) ⌝ }
@@ -157,8 +162,8 @@ pub extern "C" fn tankcurve_read(
         return 8;
     }
     match read_sheet(sheet, minutes, values, points, bandwidths) {
-        Reading::Unread(refusal) => refusal_code(refusal),
-        Reading::Used {
+        Parsing::Refused(refusal) => refusal_code(refusal),
+        Parsing::Used {
             samples: n,
             points: m,
         } => {
@@ -168,26 +173,26 @@ pub extern "C" fn tankcurve_read(
     }
 }
 
-// The curve of a sheet as bytes: out has 31,291 bytes, and the detail is how many are written. A refused sheet's report is the answer.
+// The curve of a sheet as bytes: out has MAX_OUTPUT bytes, and the detail is how many are written. A refused sheet's report is the answer.
 #[no_mangle]
 pub extern "C" fn tankcurve_text(sheet: &[u8], out: &mut [u8]) -> u64
     ensures { λ r. ⌜ r ≡ answered (λ n. n) (write (now (sheet .entry)) (now (out .entry))) ⌝ }
     ensures { λ _. ⌜ now (out .exit) ≡ write-buffer (now (sheet .entry)) (now (out .entry)) ⌝ }
 {
     match curve_text(sheet, out) {
-        Writing::Unwritten(refusal) => refusal_code(refusal),
-        Writing::Written(size) => 16 * size as u64,
+        Writing::Refused(refusal) => refusal_code(refusal),
+        Writing::Written(size) => DETAIL_UNIT * size as u64,
     }
 }
 
-// The text of a refusal with this number and place: out has 31,291 bytes, and the detail is how many are written.
+// The text of a refusal with this number and place: out has MAX_OUTPUT bytes, and the detail is how many are written.
 #[no_mangle]
 pub extern "C" fn tankcurve_refusal_text(number: u64, place: u64, out: &mut [u8]) -> u64
     ensures { λ r. ⌜ r ≡ answered (λ n. n) (write-refusal-text number place (now (out .entry))) ⌝ }
     ensures { λ _. ⌜ now (out .exit) ≡ refusal-buffer number place (now (out .entry)) ⌝ }
 {
     match refusal_text(number, place, out) {
-        Writing::Unwritten(refusal) => refusal_code(refusal),
-        Writing::Written(bytes) => 16 * bytes as u64,
+        Writing::Refused(refusal) => refusal_code(refusal),
+        Writing::Written(bytes) => DETAIL_UNIT * bytes as u64,
     }
 }

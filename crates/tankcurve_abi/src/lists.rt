@@ -1,4 +1,5 @@
 // Rows, records and refusals as plain numbers.
+use crate::DETAIL_UNIT;
 use checks::report_number;
 use meanings::Estimate;
 use meanings::PowerSums;
@@ -8,19 +9,20 @@ ghost use mathlib.Core.Path.{_≡_};
 ghost use Prim.Native.Nat.{_≤_};
 ghost use mathlib.Core.List.{[], _∷_};
 ghost use lib.ListN.{length};
-ghost use Rattle.meanings.specs.Limits.{max-sheet};
-ghost use Rattle.meanings.specs.Reports.{told};
+ghost use Rattle.meanings.specs.Limits.{max-sheet, row-width};
+ghost use Rattle.meanings.specs.Reports.{fault-of};
 ghost use Rattle.meanings.specs.Estimate.{fields};
-ghost use Rattle.tankcurve_abi.specs.Answers.{code, record-numbers, record-of as record-meaning};
+ghost use Rattle.meanings.specs.Codes.{code};
+ghost use Rattle.tankcurve_abi.specs.Answers.{record-numbers, record-of as record-meaning};
 
-// A refusal as one number: 16 × place + the report's number.
+// A refusal as one number: DETAIL_UNIT × place + the report's number.
 pub(crate) fn refusal_code(refusal: Refusal) -> u64
-    requires { ⌜ told refusal .place ≤ max-sheet ⌝ }
-    ensures { λ r. ⌜ r ≡ code (told refusal) ⌝ }
+    requires { ⌜ fault-of refusal .place ≤ max-sheet ⌝ }
+    ensures { λ r. ⌜ r ≡ code (fault-of refusal) ⌝ }
 {
     let report = refusal.report;
     let place = refusal.place as u64;
-    16 * place + report_number(report)
+    DETAIL_UNIT * place + report_number(report)
 }
 
 // Stores two numbers.
@@ -33,8 +35,8 @@ pub(crate) fn put_pair(out: &mut [u64], first: u64, second: u64)
 }
 
 // Stores a row.
-pub(crate) fn put_row(out: &mut [u64], estimate: Estimate)
-    requires { ⌜ length (now out) ≡ 5 ⌝ }
+pub(crate) fn put_estimate(out: &mut [u64], estimate: Estimate)
+    requires { ⌜ length (now out) ≡ row-width ⌝ }
     ensures { λ _. ⌜ now (out .exit) ≡ fields estimate ⌝ }
 {
     out[0] = estimate.left;

@@ -1,7 +1,6 @@
-pub mod Digits
 pub mod Lines
 pub mod Parts
 pub mod Swept
 pub mod Tables
 pub mod UsedParts
-pub mod Writing
+pub mod Values

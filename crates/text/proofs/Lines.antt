@@ -6,9 +6,9 @@ use lib.ListN.{length}
 use Rattle.meanings.specs.declared.Estimate.{Estimate}
 use Rattle.meanings.specs.Bytes.{line-feed, comma}
 use Rattle.meanings.specs.Output.{decimal, text-line, value-text, curve-line}
-use Rattle.text.specs.Written.{joined, Stored}
+use Rattle.text_decimal.specs.Written.{joined, Stored}
 use Rattle.text.specs.Table.{edges-text, sums-text}
-use Rattle.text.proofs.Writing.{Left, left-at-first, part-fits, left-behind, all-stored, stored-behind}
+use Rattle.text_decimal.proofs.Writing.{Left, left-at-first, part-fits, left-behind, all-stored, stored-behind}
 
 -- a comma and the number behind it
 pub after-comma : (n p : ℕ) (out : List ℕ) → p + length (comma ∷ decimal n) ≤ length out → (now : List ℕ) (q : ℕ) → Stored out p (comma ∷ []) now q

@@ -6,9 +6,9 @@ use native.Mathlib.Omega.{arith}
 use lib.ListN.{length}
 use Rattle.meanings.specs.Bytes.{line-feed, curve-header, totals-header, refusal-header}
 use Rattle.meanings.specs.Output.{decimal, text-line, refusal-text}
-use Rattle.text.specs.Written.{joined, Stored}
+use Rattle.text_decimal.specs.Written.{joined, Stored}
 use Rattle.text.specs.Table.{table-lines, table-text}
-use Rattle.text.proofs.Writing.{Left, left-at-first, part-fits, left-behind, all-stored}
+use Rattle.text_decimal.proofs.Writing.{Left, left-at-first, part-fits, left-behind, all-stored}
 
 regroup : (a b c d : List ℕ) (x : ℕ) → a ++ b ++ x ∷ c ++ d ≡ joined (a ∷ b ∷ (x ∷ c) ∷ d ∷ [])
 regroup a b c d x = simp (append-assoc, append-nil)

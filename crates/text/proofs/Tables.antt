@@ -7,34 +7,35 @@ use native.Mathlib.Omega.{arith}
 use lib.ListN.{length, getD, drop, length-append}
 use lib.Seq.{getD-take, getD-drop}
 use Rattle.meanings.specs.declared.Estimate.{Estimate}
+use Rattle.meanings.specs.Limits.{row-width}
 use Rattle.meanings.specs.Moves.{moves}
 use Rattle.meanings.specs.Estimate.{estimate, fields, rows}
 use Rattle.meanings.specs.Running.{fresh, passes}
 use Rattle.meanings.specs.Output.{curve-line, curve-lines, curve-text}
 use Rattle.meanings.proofs.SmoothRows.{row-at-point}
-use Rattle.text.specs.Written.{Stored}
-use Rattle.text.specs.Table.{row-at, table-lines, table-text, contents-of, curve-of}
-use Rattle.text.proofs.Writing.{written-empty, written-length, room-behind, stored-behind}
+use Rattle.text_decimal.specs.Written.{Stored}
+use Rattle.text.specs.Table.{stored-row, table-lines, table-text, contents-of, curve-of}
+use Rattle.text_decimal.proofs.Writing.{written-empty, written-length, room-behind, stored-behind}
 
 module _ (ts vs zs hs : List ℕ) (n k : ℕ) (inside : k < n) where
-  number-at : (i : ℕ) → i < 5 → getD (rows ts vs zs hs n) (5 * k + i) 0 ≡ getD (fields (estimate ts vs (getD zs k 0) (getD hs k 0))) i 0
+  number-at : (i : ℕ) → i < row-width → getD (rows ts vs zs hs n) (row-width * k + i) 0 ≡ getD (fields (estimate ts vs (getD zs k 0) (getD hs k 0))) i 0
   number-at i l =
-      sym (getD-drop (5 * k) (rows ts vs zs hs n) i 0)
-      ∙ sym (getD-take 5 (drop (5 * k) (rows ts vs zs hs n)) i 0 l)
+      sym (getD-drop (row-width * k) (rows ts vs zs hs n) i 0)
+      ∙ sym (getD-take row-width (drop (row-width * k) (rows ts vs zs hs n)) i 0 l)
       ∙ ap (λ (r : List ℕ). getD r i 0) (row-at-point ts vs zs hs n k inside)
 
-  row-at-is-estimate : row-at (rows ts vs zs hs n) k ≡ estimate ts vs (getD zs k 0) (getD hs k 0)
-  row-at-is-estimate =
-      let first : 5 * k + 0 ≡ 5 * k = omega arith in
+  stored-row-is-estimate : stored-row (rows ts vs zs hs n) k ≡ estimate ts vs (getD zs k 0) (getD hs k 0)
+  stored-row-is-estimate =
+      let first : row-width * k + 0 ≡ row-width * k = omega arith in
       let left = rw first at (number-at 0 (omega arith)) in
       rw (left, number-at 1 (omega arith), number-at 2 (omega arith), number-at 3 (omega arith), number-at 4 (omega arith))
 
 table-is-curve : (ts vs zs hs : List ℕ) (m n : ℕ) → n ≤ m → table-lines zs hs (rows ts vs zs hs m) n ≡ curve-lines (contents-of ts vs zs hs) n
 table-is-curve ts vs zs hs m zero l = refl
 table-is-curve ts vs zs hs m (suc n) l =
-    ap (λ (t : List ℕ). t ++ curve-line (getD zs n 0) (getD hs n 0) (row-at (rows ts vs zs hs m) n)) (table-is-curve ts vs zs hs m n (omega arith))
+    ap (λ (t : List ℕ). t ++ curve-line (getD zs n 0) (getD hs n 0) (stored-row (rows ts vs zs hs m) n)) (table-is-curve ts vs zs hs m n (omega arith))
     ∙ ap (λ (e : Estimate). curve-lines (contents-of ts vs zs hs) n ++ curve-line (getD zs n 0) (getD hs n 0) e)
-    (row-at-is-estimate ts vs zs hs m n (omega arith))
+    (stored-row-is-estimate ts vs zs hs m n (omega arith))
 
 -- with the rows and the passes of the sweep
 pub table-text-is-curve : (ts vs zs hs : List ℕ)
@@ -48,18 +49,18 @@ lines-grow zs hs rs k zero = let e : k + zero ≡ k = omega arith in rw e (omega
 lines-grow zs hs rs k (suc d) =
     let e : k + suc d ≡ suc (k + d) = omega arith in
     let l = lines-grow zs hs rs k d in
-    let a = length-append (table-lines zs hs rs (k + d)) (curve-line (getD zs (k + d) 0) (getD hs (k + d) 0) (row-at rs (k + d))) in
+    let a = length-append (table-lines zs hs rs (k + d)) (curve-line (getD zs (k + d) 0) (getD hs (k + d) 0) (stored-row rs (k + d))) in
     rw e (omega arith)
 
 -- the lines of the first k marks are stored, and all fit
 pub record LinesTo (out : List ℕ) (p : ℕ) (zs hs rs now : List ℕ) (q k : ℕ) : Type 0 where
   pub even : length hs ≡ length zs
-  pub five : length rs ≡ 5 * length zs
+  pub five : length rs ≡ row-width * length zs
   pub fits : p + length (table-lines zs hs rs (length zs)) ≤ length out
   pub far : k ≤ length zs
   pub so-far : Stored out p (table-lines zs hs rs k) now q
 
-pub lines-begin : {out : List ℕ} {p : ℕ} {zs hs rs : List ℕ} → length hs ≡ length zs → length rs ≡ 5 * length zs
+pub lines-begin : {out : List ℕ} {p : ℕ} {zs hs rs : List ℕ} → length hs ≡ length zs → length rs ≡ row-width * length zs
     → p + length (table-lines zs hs rs (length zs)) ≤ length out → LinesTo out p zs hs rs out p 0
 lines-begin {out} {p} even five fits =
     record {
@@ -73,13 +74,13 @@ lines-begin {out} {p} even five fits =
 module _ {out : List ℕ} {p : ℕ} {zs hs rs now : List ℕ} {q k : ℕ} (w : LinesTo out p zs hs rs now q k) where
   -- one more
   module _ (more : k < length zs) where
-    one-more-fits : p + length (table-lines zs hs rs k ++ curve-line (getD zs k 0) (getD hs k 0) (row-at rs k)) ≤ length out
+    one-more-fits : p + length (table-lines zs hs rs k ++ curve-line (getD zs k 0) (getD hs k 0) (stored-row rs k)) ≤ length out
     one-more-fits =
         let e : suc k + (length zs - suc k) ≡ length zs = omega arith in
         let l = rw e at (lines-grow zs hs rs (suc k) (length zs - suc k)) in
         omega (arith, l, w .fits)
 
-    module _ (e : Estimate) (row : e ≡ row-at rs k) where
+    module _ (e : Estimate) (row : e ≡ stored-row rs k) where
       pub line-fits : q + length (curve-line (getD zs k 0) (getD hs k 0) e) ≤ length now
       line-fits = rw row (room-behind out p now q (table-lines zs hs rs k) _ one-more-fits (w .so-far))
 

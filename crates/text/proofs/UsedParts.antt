@@ -9,21 +9,21 @@ use native.Mathlib.Nat.{zero-add}
 use lib.ListN.{length, take, length-append}
 use lib.Seq.{take-at, length-take-le}
 use Rattle.meanings.specs.declared.Refusal.{Refusal}
-use Rattle.meanings.specs.declared.Reading.{Reading}
-use Rattle.meanings.specs.declared.Reading.the-variants.{Used, Unread}
+use Rattle.meanings.specs.declared.Parsing.{Parsing}
+use Rattle.meanings.specs.declared.Parsing.the-variants.{Used}
 use Rattle.meanings.specs.Limits.{full, max-output}
-use Rattle.meanings.specs.Reports.{told, given, refused}
+use Rattle.meanings.specs.Reports.{fault-of, given, refused}
 use Rattle.meanings.specs.Sheet.{Contents, Outcome, read-sheet}
 use Rattle.meanings.specs.Output.{refusal-text}
-use Rattle.meanings.specs.Calls.{Counts, counts, told-reading, read, read-minutes, read-values, read-evaluation-points, read-bandwidths}
+use Rattle.meanings.specs.Calls.{Counts, counts, parsing-answer, read, read-minutes, read-values, read-evaluation-points, read-bandwidths}
 use Rattle.meanings.specs.Calls.{write, write-buffer, write-refusal-text, refusal-buffer}
 use Rattle.meanings.proofs.Checks.{differ-true, differ-same}
-use Rattle.output_laws.proofs.AcceptedSheet.{accepted-contents}
-use Rattle.output_laws.proofs.Refusals.{any-refusal-fits}
+use Rattle.laws_output.proofs.AcceptedSheet.{accepted-contents}
+use Rattle.laws_output.proofs.Refusals.{any-refusal-fits}
 use Rattle.checks.specs.ReaderLists.{uneven-lists}
 use Rattle.sheet.proofs.Scans.{even-read}
-use Rattle.text.specs.Written.{written, Stored}
-use Rattle.text.specs.Table.{contents-of, curve-of, Accepted}
+use Rattle.text_decimal.specs.Written.{written, Stored}
+use Rattle.text.specs.Table.{contents-of, curve-of, SheetAccepted}
 
 -- a buffer of another length is refused and stays
 module _ (out : List ℕ) (another : ¬ (length out ≡ max-output)) where
@@ -70,21 +70,21 @@ front-of : (part rest out : List ℕ) (n : ℕ) → out ≡ part ++ rest → len
 front-of part rest out n e l = (rw e (take-at part rest n l), let k = ap length e ∙ length-append part rest in omega arith)
 
 -- a reader with lists of the right lengths
-module _ (s ts vs zs hs : List ℕ) (r : Reading) (answer : told-reading r ≡ counts (read full s ts vs zs hs))
+module _ (s ts vs zs hs : List ℕ) (r : Parsing) (answer : parsing-answer r ≡ counts (read full s ts vs zs hs))
     (even : uneven-lists full (length ts) (length vs) (length zs) (length hs) ≡ false) where
   same-read : read full s ts vs zs hs ≡ read-sheet full s
   same-read = even-read s ts vs zs hs even
 
   -- that refuses the sheet
-  module _ (f : Refusal) (unread : r ≡ Unread f) (out : List ℕ) (right : length out ≡ max-output) where
-    refused-sheet : read-sheet full s ≡ refused (told f)
-    refused-sheet = by (read-sheet full s) (sym (ap told-reading unread) ∙ answer ∙ ap counts same-read)
+  module _ (f : Refusal) (unread : r ≡ Parsing.Refused f) (out : List ℕ) (right : length out ≡ max-output) where
+    refused-sheet : read-sheet full s ≡ refused (fault-of f)
+    refused-sheet = by (read-sheet full s) (sym (ap parsing-answer unread) ∙ answer ∙ ap counts same-read)
       where
-        by : (o : Outcome) → refused (told f) ≡ counts o → o ≡ refused (told f)
+        by : (o : Outcome) → refused (fault-of f) ≡ counts o → o ≡ refused (fault-of f)
         by (given k) a = let z : _≡_ {A = ℕ} 0 1 = cc in absurd (omega arith)
         by (refused k) a = cc
 
-    pub sheet-refused : refused (told f) ≡ write s out
+    pub sheet-refused : refused (fault-of f) ≡ write s out
     unfolding write
     sheet-refused = rw (differ-same (length out) max-output right, refused-sheet)
 
@@ -95,7 +95,7 @@ module _ (s ts vs zs hs : List ℕ) (r : Reading) (answer : told-reading r ≡ c
   -- that accepts it
   module _ (n m : ℕ) (used : r ≡ Used n m) where
     sheet-contents : UsedContents s n m
-    sheet-contents = by (read-sheet full s) refl (sym (ap told-reading used) ∙ answer ∙ ap counts same-read)
+    sheet-contents = by (read-sheet full s) refl (sym (ap parsing-answer used) ∙ answer ∙ ap counts same-read)
       where
         by : (o : Outcome) → read-sheet full s ≡ o → given (record { samples = n; points = m }) ≡ counts o → UsedContents s n m
         by (refused f) q a = let z : _≡_ {A = ℕ} 0 1 = cc in absurd (omega arith)
@@ -170,7 +170,7 @@ module _ (s ts vs zs hs : List ℕ) (r : Reading) (answer : told-reading r ≡ c
       pub parts-read : read-sheet full s ≡ given (contents-of (take n ts′) (take n vs′) (take m zs′) (take m hs′))
       parts-read = sheet-contents .accepted ∙ ap (λ (c : Contents). given c) (sym parts-are)
 
-      pub parts-accepted : Accepted (take n ts′) (take n vs′) (take m zs′) (take m hs′)
+      pub parts-accepted : SheetAccepted (take n ts′) (take n vs′) (take m zs′) (take m hs′)
       parts-accepted = record { sheet = s; accepted = parts-read }
 
 -- what is written of them

@@ -6,21 +6,21 @@ use mathlib.Core.List.{List, [], _∷_, _++_}
 use lib.ListN.{length, getD}
 use Rattle.meanings.specs.declared.Estimate.{Estimate}
 use Rattle.meanings.specs.Bytes.{line-feed, comma, curve-header, totals-header}
-use Rattle.meanings.specs.Limits.{full}
+use Rattle.meanings.specs.Limits.{full, row-width}
 use Rattle.meanings.specs.Reports.{given}
 use Rattle.meanings.specs.Sheet.{Contents, read-sheet}
 use Rattle.meanings.specs.Output.{decimal, text-line, value-text, curve-line, curve-text}
-use Rattle.text.specs.Written.{joined}
+use Rattle.text_decimal.specs.Written.{joined}
 
 -- the row of mark k
-abbrev pub row-at : List ℕ → ℕ → Estimate
-row-at rs k =
+abbrev pub stored-row : List ℕ → ℕ → Estimate
+stored-row rs k =
     record {
-      left = getD rs (5 * k) 0;
-      right = getD rs (5 * k + 1) 0;
-      weight = getD rs (5 * k + 2) 0;
-      sum = getD rs (5 * k + 3) 0;
-      value = getD rs (5 * k + 4) 0;
+      left = getD rs (row-width * k) 0;
+      right = getD rs (row-width * k + 1) 0;
+      weight = getD rs (row-width * k + 2) 0;
+      sum = getD rs (row-width * k + 3) 0;
+      value = getD rs (row-width * k + 4) 0;
     }
 
 -- a mark's line up to the run's edges, and what follows them
@@ -33,7 +33,7 @@ sums-text weight sum value = joined ((comma ∷ decimal weight) ∷ (comma ∷ d
 -- the lines of the first n marks
 abbrev pub table-lines : List ℕ → List ℕ → List ℕ → ℕ → List ℕ
 table-lines zs hs rs zero = []
-table-lines zs hs rs (suc n) = table-lines zs hs rs n ++ curve-line (getD zs n 0) (getD hs n 0) (row-at rs n)
+table-lines zs hs rs (suc n) = table-lines zs hs rs n ++ curve-line (getD zs n 0) (getD hs n 0) (stored-row rs n)
 
 -- the whole text, then kept readings and passes
 unfoldable pub table-text : List ℕ → List ℕ → List ℕ → ℕ → ℕ → List ℕ
@@ -52,6 +52,6 @@ abbrev pub curve-of : List ℕ → List ℕ → List ℕ → List ℕ → List �
 curve-of ts vs zs hs = curve-text (contents-of ts vs zs hs)
 
 -- the four lists are those of an accepted sheet
-pub record Accepted (ts vs zs hs : List ℕ) : Type 0 where
+pub record SheetAccepted (ts vs zs hs : List ℕ) : Type 0 where
   pub sheet : List ℕ
   pub accepted : read-sheet full sheet ≡ given (contents-of ts vs zs hs)

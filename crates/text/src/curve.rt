@@ -3,19 +3,21 @@ use crate::writer::put_curve_line;
 use crate::writer::put_pair_line;
 use crate::writer::put_text;
 use meanings::Estimate;
+use meanings::ROW_WIDTH;
 ghost use mathlib.Core.Path.{_≡_};
 ghost use Prim.Native.Nat.{_+_, _*_, _≤_};
 ghost use lib.ListN.{length};
+ghost use Rattle.meanings.specs.Limits.{row-width};
 ghost use Rattle.meanings.specs.Output.{refusal-text};
-ghost use Rattle.text.specs.Written.{Stored};
-ghost use Rattle.text.specs.Table.{row-at, table-lines, table-text};
+ghost use Rattle.text_decimal.specs.Written.{Stored};
+ghost use Rattle.text.specs.Table.{stored-row, table-lines, table-text};
 
 // The row of mark k.
-pub(crate) fn row_at(rows: &[u64], k: usize) -> Estimate
-    requires { ⌜ 5 * k + 5 ≤ length (now rows) ⌝ }
-    ensures { λ r. ⌜ r ≡ row-at (now (rows .entry)) k ⌝ }
+pub(crate) fn stored_row(rows: &[u64], k: usize) -> Estimate
+    requires { ⌜ row-width * k + row-width ≤ length (now rows) ⌝ }
+    ensures { λ r. ⌜ r ≡ stored-row (now (rows .entry)) k ⌝ }
 {
-    let first = 5 * k;
+    let first = ROW_WIDTH * k;
     Estimate {
         left: rows[first],
         right: rows[first + 1],
@@ -33,13 +35,13 @@ pub(crate) fn put_curve_lines(
     bandwidths: &[u32],
     rows: &[u64],
 ) -> usize
-    requires { ⌜ (length (now bandwidths) ≡ length (now points)) × (length (now rows) ≡ 5 * length (now points)) × (at + length (table-lines (now points) (now bandwidths) (now rows) (length (now points))) ≤ length (now out)) ⌝ }
+    requires { ⌜ (length (now bandwidths) ≡ length (now points)) × (length (now rows) ≡ row-width * length (now points)) × (at + length (table-lines (now points) (now bandwidths) (now rows) (length (now points))) ≤ length (now out)) ⌝ }
     ensures { λ r. ⌜ Stored (now (out .entry)) at (table-lines (now (points .entry)) (now (bandwidths .entry)) (now (rows .entry)) (length (now (points .entry)))) (now (out .exit)) r ⌝ }
 {
     let mut to = at;
     let mut k = 0;
     while k < points.len() {
-        to = put_curve_line(out, to, points[k], bandwidths[k], row_at(rows, k));
+        to = put_curve_line(out, to, points[k], bandwidths[k], stored_row(rows, k));
         k += 1;
     }
     to
@@ -54,7 +56,7 @@ pub(crate) fn put_curve(
     rows: &[u64],
     passes: u64,
 ) -> usize
-    requires { ⌜ (length (now bandwidths) ≡ length (now points)) × (length (now rows) ≡ 5 * length (now points)) × (length (table-text (now points) (now bandwidths) (now rows) kept passes) ≤ length (now out)) ⌝ }
+    requires { ⌜ (length (now bandwidths) ≡ length (now points)) × (length (now rows) ≡ row-width * length (now points)) × (length (table-text (now points) (now bandwidths) (now rows) kept passes) ≤ length (now out)) ⌝ }
     ensures { λ r. ⌜ Stored (now (out .entry)) 0 (table-text (now (points .entry)) (now (bandwidths .entry)) (now (rows .entry)) kept passes) (now (out .exit)) r ⌝ }
 {
     let lines = put_text(out, 0, b"mark,half,left,right,weight,sum,vdk\n");

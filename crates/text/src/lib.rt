@@ -5,7 +5,9 @@ mod writer;
 use crate::curve::put_curve;
 use crate::curve::put_refusal;
 use estimator::smooth;
-use meanings::Reading;
+use meanings::MAX_OUTPUT;
+use meanings::Parsing;
+use meanings::ROW_WIDTH;
 use meanings::Refusal;
 use meanings::Report;
 use meanings::Smoothing;
@@ -14,9 +16,10 @@ use sheet::read_sheet;
 ghost use mathlib.Core.Path.{_≡_};
 ghost use Prim.Native.Nat.{_*_};
 ghost use lib.ListN.{length};
-ghost use Rattle.meanings.specs.Calls.{told-writing, write, write-buffer, write-refusal-text, refusal-buffer};
-ghost use Rattle.text.specs.Written.{Stored};
-ghost use Rattle.text.specs.Table.{Accepted, curve-of};
+ghost use Rattle.meanings.specs.Limits.{max-output, row-width};
+ghost use Rattle.meanings.specs.Calls.{writing-answer, write, write-buffer, write-refusal-text, refusal-buffer};
+ghost use Rattle.text_decimal.specs.Written.{Stored};
+ghost use Rattle.text.specs.Table.{SheetAccepted, curve-of};
 
 // Sweeps the lists of an accepted sheet and writes its curve, with a lent list for the rows.
 pub(crate) fn put_swept(
@@ -27,12 +30,12 @@ pub(crate) fn put_swept(
     bandwidths: &[u32],
     rows: &mut [u64],
 ) -> usize
-    requires { ⌜ (length (now out) ≡ 31291) × (length (now rows) ≡ 5 * length (now points)) ⌝ }
-    requires { ⌜ Accepted (now minutes) (now values) (now points) (now bandwidths) ⌝ }
+    requires { ⌜ (length (now out) ≡ max-output) × (length (now rows) ≡ row-width * length (now points)) ⌝ }
+    requires { ⌜ SheetAccepted (now minutes) (now values) (now points) (now bandwidths) ⌝ }
     ensures { λ r. ⌜ Stored (now (out .entry)) 0 (curve-of (now (minutes .entry)) (now (values .entry)) (now (points .entry)) (now (bandwidths .entry))) (now (out .exit)) r ⌝ }
 {
     match smooth(minutes, values, points, bandwidths, rows) {
-        Smoothing::Unswept(_) => 0,
+        Smoothing::Refused(_) => 0,
         Smoothing::Passes(passes) => {
             put_curve(out, minutes.len(), points, bandwidths, rows, passes)
         }
@@ -47,23 +50,23 @@ pub(crate) fn put_accepted(
     points: &[u16],
     bandwidths: &[u32],
 ) -> usize
-    requires { ⌜ length (now out) ≡ 31291 ⌝ }
-    requires { ⌜ Accepted (now minutes) (now values) (now points) (now bandwidths) ⌝ }
+    requires { ⌜ length (now out) ≡ max-output ⌝ }
+    requires { ⌜ SheetAccepted (now minutes) (now values) (now points) (now bandwidths) ⌝ }
     ensures { λ r. ⌜ Stored (now (out .entry)) 0 (curve-of (now (minutes .entry)) (now (values .entry)) (now (points .entry)) (now (bandwidths .entry))) (now (out .exit)) r ⌝ }
 {
-    let mut rows = [0u64; 2560];
-    let size = 5 * points.len();
+    let mut rows = [0u64; ROW_WIDTH * 512];
+    let size = ROW_WIDTH * points.len();
     put_swept(out, minutes, values, points, bandwidths, &mut rows[..size])
 }
 
-// Writes the curve of a sheet into a buffer of 31,291 bytes, which no curve exceeds. A buffer of another length is refused with 8, and a
+// Writes the curve of a sheet into a buffer of MAX_OUTPUT bytes, which no curve exceeds. A buffer of another length is refused with 8, and a
 // refused sheet with its own report; the buffer then stays as it was.
 pub fn curve_text(sheet: &[u8], out: &mut [u8]) -> Writing
-    ensures { λ r. ⌜ told-writing r ≡ write (now (sheet .entry)) (now (out .entry)) ⌝ }
+    ensures { λ r. ⌜ writing-answer r ≡ write (now (sheet .entry)) (now (out .entry)) ⌝ }
     ensures { λ _. ⌜ now (out .exit) ≡ write-buffer (now (sheet .entry)) (now (out .entry)) ⌝ }
 {
-    if out.len() != 31291 {
-        return Writing::Unwritten(Refusal {
+    if out.len() != MAX_OUTPUT {
+        return Writing::Refused(Refusal {
             report: Report::LengthMismatch,
             place: 0,
         });
@@ -79,8 +82,8 @@ pub fn curve_text(sheet: &[u8], out: &mut [u8]) -> Writing
         &mut points,
         &mut bandwidths,
     ) {
-        Reading::Unread(refusal) => Writing::Unwritten(refusal),
-        Reading::Used {
+        Parsing::Refused(refusal) => Writing::Refused(refusal),
+        Parsing::Used {
             samples: n,
             points: m,
         } => Writing::Written(put_accepted(
@@ -95,12 +98,12 @@ pub fn curve_text(sheet: &[u8], out: &mut [u8]) -> Writing
 
 // Writes the text of a refusal with this number and place into a buffer of the same length; another length is refused with 8.
 pub fn refusal_text(number: u64, place: u64, out: &mut [u8]) -> Writing
-    ensures { λ r. ⌜ told-writing r ≡ write-refusal-text number place (now (out .entry)) ⌝ }
+    ensures { λ r. ⌜ writing-answer r ≡ write-refusal-text number place (now (out .entry)) ⌝ }
     ensures { λ _. ⌜ now (out .exit) ≡ refusal-buffer number place (now (out .entry)) ⌝ }
 {
     let size = out.len();
-    if size != 31291 {
-        return Writing::Unwritten(Refusal {
+    if size != MAX_OUTPUT {
+        return Writing::Refused(Refusal {
             report: Report::LengthMismatch,
             place: 0,
         });

@@ -1,11 +1,13 @@
 // The writer's parts. Each stores one text from byte `at` on and answers where the text ends, so the next one begins there.
 use meanings::Estimate;
+use text_decimal::put_bytes;
+use text_decimal::put_number;
 ghost use Prim.Native.Nat.{_+_, _≤_};
 ghost use mathlib.Core.List.{[], _∷_};
 ghost use lib.ListN.{length};
 ghost use Rattle.meanings.specs.Bytes.{comma};
 ghost use Rattle.meanings.specs.Output.{decimal, text-line, value-text, curve-line};
-ghost use Rattle.text.specs.Written.{Stored};
+ghost use Rattle.text_decimal.specs.Written.{Stored};
 ghost use Rattle.text.specs.Table.{edges-text, sums-text};
 
 const LINE_FEED: u8 = 10;
@@ -14,18 +16,11 @@ const COMMA: u8 = 44;
 
 const DASH: u8 = 45;
 
-const ZERO: u64 = 48;
-
 pub(crate) fn put_text(out: &mut [u8], at: usize, text: &[u8]) -> usize
     requires { ⌜ at + length (now text) ≤ length (now out) ⌝ }
     ensures { λ r. ⌜ Stored (now (out .entry)) at (now (text .entry)) (now (out .exit)) r ⌝ }
 {
-    let mut i = 0;
-    while i < text.len() {
-        out[at + i] = text[i];
-        i += 1;
-    }
-    at + i
+    put_bytes(out, at, text)
 }
 
 pub(crate) fn put_byte(out: &mut [u8], at: usize, b: u8) -> usize
@@ -36,16 +31,12 @@ pub(crate) fn put_byte(out: &mut [u8], at: usize, b: u8) -> usize
     at + 1
 }
 
-// A number in decimal: all digits but the last, then the last.
+// A number in decimal.
 pub(crate) fn put_decimal(out: &mut [u8], at: usize, n: u64) -> usize
     requires { ⌜ at + length (decimal n) ≤ length (now out) ⌝ }
     ensures { λ r. ⌜ Stored (now (out .entry)) at (decimal n) (now (out .exit)) r ⌝ }
 {
-    if n < 10 {
-        return put_byte(out, at, (ZERO + n) as u8);
-    }
-    let end = put_decimal(out, at, n / 10);
-    put_byte(out, end, (ZERO + n % 10) as u8)
+    put_number(out, at, n)
 }
 
 // A value, `-` where it is missing.

@@ -1,6 +1,6 @@
 //! The refusals of a sweep.
 
-use super::{refuse, Refusal, Report, MAX_POINTS, MAX_SAMPLES};
+use super::{refuse, Refusal, Report, MAX_POINTS, MAX_SAMPLES, ROW_WIDTH};
 
 /// The lowest position whose element is below the one before.
 fn first_decrease(xs: &[u16]) -> Option<usize> {
@@ -39,8 +39,8 @@ pub fn smooth_fault(
 ) -> Result<(), Refusal> {
     let uneven = minutes.len() != values.len()
         || points.len() != bandwidths.len()
-        || !rows.is_multiple_of(5)
-        || rows / 5 != points.len();
+        || !rows.is_multiple_of(ROW_WIDTH)
+        || rows / ROW_WIDTH != points.len();
     if uneven {
         return refuse(Report::LengthMismatch, 0);
     }

@@ -17,7 +17,10 @@ pub const MAX_SAMPLES: usize = 1024;
 pub const MAX_POINTS: usize = 512;
 pub const MAX_SHEET: usize = 32_768;
 pub const MAX_OUTPUT: usize = 31_291;
+pub const ROW_WIDTH: usize = 5;
 pub const MISSING: u64 = 65_536;
+/// What one of a detail counts for in what the proved calls return.
+pub const DETAIL_UNIT: u64 = 256;
 
 /// Why a call refused, under the numbers of the instrument's reports.
 #[derive(Clone, Copy, Debug, PartialEq, Eq)]
@@ -42,9 +45,9 @@ pub struct Refusal {
 }
 
 impl Refusal {
-    /// 16 × place + number, as the proved calls return it.
+    /// Place and number as the proved calls return them.
     pub fn code(self) -> u64 {
-        16 * self.place as u64 + self.report as u64
+        DETAIL_UNIT * self.place as u64 + self.report as u64
     }
 }
 

@@ -1,6 +1,6 @@
 //! The whole sweep by fast sum updating: one step a point, and an estimate after each.
 
-use super::{smooth_fault, Refusal, MISSING};
+use super::{smooth_fault, Refusal, MISSING, ROW_WIDTH};
 
 /// The six running sums, modulo 2^64.
 #[derive(Clone, Copy, Default)]
@@ -119,7 +119,7 @@ pub fn smooth(
     smooth_fault(minutes, values, points, bandwidths, rows.len())?;
     let mut running = RunningSums::default();
     let marks = points.iter().zip(bandwidths);
-    for ((&point, &bandwidth), row) in marks.zip(rows.chunks_exact_mut(5)) {
+    for ((&point, &bandwidth), row) in marks.zip(rows.chunks_exact_mut(ROW_WIDTH)) {
         running = moved(running, minutes, values, point, bandwidth);
         let (z, h, s) = (u64::from(point), u64::from(bandwidth), running.sums);
         let weight = combined(s.s00, s.s10, s.s20, z, h);

@@ -2,11 +2,7 @@
 //! lists given here, five numbers a point, and the passes.
 
 use std::io::{self, Read, Write};
-
-/// A report that this program's own lists and buffers should not earn.
-fn refused(refusal: tankcurve::Refusal) -> io::Error {
-    io::Error::other(format!("{refusal:?}"))
-}
+use tankcurve::{Error, ROW_WIDTH};
 
 fn main() -> io::Result<()> {
     let mut sheet = Vec::new();
@@ -17,7 +13,10 @@ fn main() -> io::Result<()> {
     let mut out = [0; tankcurve::MAX_OUTPUT];
     let text = match tankcurve::text(&sheet, &mut out) {
         Ok(curve) => curve,
-        Err(refusal) => tankcurve::refusal_text(refusal, &mut out).map_err(refused)?,
+        Err(Error::Refused(refusal)) => {
+            tankcurve::refusal_text(refusal, &mut out).map_err(io::Error::other)?
+        }
+        Err(unknown) => return Err(io::Error::other(unknown)),
     };
     let mut standard = io::stdout().lock();
     standard.write_all(text)?;
@@ -26,10 +25,10 @@ fn main() -> io::Result<()> {
     let values = [40, 60, 80, 20];
     let points = [20, 25, 60];
     let bandwidths = [10, 15, 20];
-    let mut rows = [0; 15];
-    let passes =
-        tankcurve::smooth(&minutes, &values, &points, &bandwidths, &mut rows).map_err(refused)?;
-    for row in rows.chunks_exact(5) {
+    let mut rows = [0; 3 * ROW_WIDTH];
+    let passes = tankcurve::smooth(&minutes, &values, &points, &bandwidths, &mut rows)
+        .map_err(io::Error::other)?;
+    for row in rows.chunks_exact(ROW_WIDTH) {
         writeln!(
             standard,
             "{} {} {} {} {}",

@@ -1,8 +1,8 @@
 //! The tank curve for Rust: Epanechnikov kernel regression in exact whole numbers, proved in Rattle.
 //!
 //! Every call takes every content and every length of its lists and answers with what was asked for
-//! or with a [`Refusal`]; on a refusal every lent list holds what it held before. Nothing here checks
-//! or changes what the proved calls answer. Where a length is part of a type here, [`slices`] has the
+//! or with a [`Refusal`]; on a refusal every lent list holds what it held before. Nothing here changes
+//! what the proved calls answer; an answer that this crate does not know is [`Error::Unknown`]. Where a length is part of a type here, [`slices`] has the
 //! same call over slices of any length.
 //!
 //! What the calls mean stands in `docs/SPECIFICATION.md`; the quoted words are the trade's.
@@ -12,6 +12,8 @@
 #![deny(unsafe_code)]
 
 pub mod slices;
+
+use std::fmt;
 
 /// How many samples ("readings") there may be, and how many places the reader's lists of them have.
 pub const MAX_SAMPLES: usize = 1024;
@@ -24,6 +26,9 @@ pub const MAX_SHEET: usize = 32_768;
 
 /// How many bytes the buffer of [`text`] and of [`refusal_text`] has; no text is longer.
 pub const MAX_OUTPUT: usize = 31_291;
+
+/// How many numbers a row has.
+pub const ROW_WIDTH: usize = 5;
 
 /// The value of a row of weight 0.
 pub const MISSING: u64 = 65_536;
@@ -59,12 +64,54 @@ pub enum Report {
     GridOverflow = 13,
 }
 
+impl Report {
+    /// The report with this number, if there is one.
+    pub fn from_number(number: u64) -> Option<Report> {
+        Some(match number {
+            1 => Report::TooLong,
+            2 => Report::BadHeader,
+            3 => Report::MalformedLine,
+            4 => Report::SampleOutOfOrder,
+            5 => Report::PointOutOfOrder,
+            6 => Report::TooMany,
+            7 => Report::NoPoints,
+            8 => Report::LengthMismatch,
+            9 => Report::BandwidthOutOfRange,
+            10 => Report::EdgeDecreases,
+            11 => Report::InvalidRecord,
+            12 => Report::UnknownPreset,
+            13 => Report::GridOverflow,
+            _ => return None,
+        })
+    }
+}
+
 /// A report with its place: a byte of the sheet, a position in a list, or 0.
 #[derive(Clone, Copy, Debug, PartialEq, Eq)]
 pub struct Refusal {
     pub report: Report,
     pub place: u64,
 }
+
+/// Why a call gave nothing.
+#[derive(Clone, Copy, Debug, PartialEq, Eq)]
+pub enum Error {
+    /// The call refused.
+    Refused(Refusal),
+    /// The linked archive returned this, whose number is none of [`Report`]: it is of another version.
+    Unknown(u64),
+}
+
+impl fmt::Display for Error {
+    fn fmt(&self, f: &mut fmt::Formatter<'_>) -> fmt::Result {
+        match self {
+            Error::Refused(Refusal { report, place }) => write!(f, "{report:?} at {place}"),
+            Error::Unknown(answer) => write!(f, "unknown answer {answer}"),
+        }
+    }
+}
+
+impl std::error::Error for Error {}
 
 /// The estimate at a point ("row").
 #[derive(Clone, Copy, Debug, PartialEq, Eq)]
@@ -81,8 +128,8 @@ pub struct Estimate {
     pub value: u64,
 }
 
-impl From<[u64; 5]> for Estimate {
-    fn from([left, right, weight, sum, value]: [u64; 5]) -> Estimate {
+impl From<[u64; ROW_WIDTH]> for Estimate {
+    fn from([left, right, weight, sum, value]: [u64; ROW_WIDTH]) -> Estimate {
         Estimate {
             left,
             right,
@@ -141,8 +188,8 @@ pub fn evaluate(
     values: &[u16],
     point: u16,
     bandwidth: u32,
-) -> Result<Estimate, Refusal> {
-    let mut row = [0; 5];
+) -> Result<Estimate, Error> {
+    let mut row = [0; ROW_WIDTH];
     outcome(slices::evaluate(
         minutes, values, point, bandwidth, &mut row,
     ))?;
@@ -156,7 +203,7 @@ pub fn window<'a>(
     values: &'a [u16],
     point: u16,
     bandwidth: u32,
-) -> Result<&'a [u16], Refusal> {
+) -> Result<&'a [u16], Error> {
     let mut bounds = [0; 2];
     outcome(slices::window(
         minutes,
@@ -178,22 +225,22 @@ pub fn advance(
     values: &[u16],
     point: u16,
     bandwidth: u32,
-) -> Result<(), Refusal> {
+) -> Result<(), Error> {
     let mut numbers = <[u64; 8]>::from(*record);
     let answer = slices::advance(&mut numbers, minutes, values, point, bandwidth);
     *record = RunningSums::from(numbers);
     outcome(answer).map(|_| ())
 }
 
-/// The estimates at all points ("the sweep"): five numbers a point in `rows`, and the passes. Reports
-/// 8, 6, 7, 4, 5, 9, 10.
+/// The estimates at all points ("the sweep"): [`ROW_WIDTH`] numbers a point in `rows`, and the passes.
+/// Reports 8, 6, 7, 4, 5, 9, 10.
 pub fn smooth(
     minutes: &[u16],
     values: &[u16],
     points: &[u16],
     bandwidths: &[u32],
     rows: &mut [u64],
-) -> Result<u64, Refusal> {
+) -> Result<u64, Error> {
     outcome(slices::smooth(minutes, values, points, bandwidths, rows))
 }
 
@@ -204,7 +251,7 @@ pub fn fill(
     preset: u32,
     points: &mut [u16],
     bandwidths: &mut [u32],
-) -> Result<(), Refusal> {
+) -> Result<(), Error> {
     outcome(slices::fill(first, spacing, preset, points, bandwidths)).map(|_| ())
 }
 
@@ -216,7 +263,7 @@ pub fn read(
     values: &mut [u16; MAX_SAMPLES],
     points: &mut [u16; MAX_POINTS],
     bandwidths: &mut [u32; MAX_POINTS],
-) -> Result<Counts, Refusal> {
+) -> Result<Counts, Error> {
     let mut counts = [0; 2];
     outcome(slices::read(
         sheet,
@@ -232,14 +279,14 @@ pub fn read(
 
 /// The curve of a sheet, as the program writes it: the front part of `out`, whose rest is untouched.
 /// Reports and places are those of [`read`]; [`refusal_text`] says them as the program does.
-pub fn text<'a>(sheet: &[u8], out: &'a mut [u8; MAX_OUTPUT]) -> Result<&'a [u8], Refusal> {
+pub fn text<'a>(sheet: &[u8], out: &'a mut [u8; MAX_OUTPUT]) -> Result<&'a [u8], Error> {
     let length = outcome(slices::text(sheet, out))?;
     Ok(front(out, length))
 }
 
 /// The text of a refusal, as the program writes it: the front part of `out`, whose rest is untouched.
 /// A buffer of this type earns no report.
-pub fn refusal_text(refusal: Refusal, out: &mut [u8; MAX_OUTPUT]) -> Result<&[u8], Refusal> {
+pub fn refusal_text(refusal: Refusal, out: &mut [u8; MAX_OUTPUT]) -> Result<&[u8], Error> {
     let number = refusal.report as u64;
     let length = outcome(slices::refusal_text(number, refusal.place, out))?;
     Ok(front(out, length))
@@ -251,26 +298,52 @@ fn front(out: &[u8; MAX_OUTPUT], length: u64) -> &[u8] {
 }
 
 /// What a call returned, as its detail or its refusal.
-fn outcome(answer: u64) -> Result<u64, Refusal> {
-    let report = match slices::number(answer) {
-        0 => return Ok(slices::detail(answer)),
-        1 => Report::TooLong,
-        2 => Report::BadHeader,
-        3 => Report::MalformedLine,
-        4 => Report::SampleOutOfOrder,
-        5 => Report::PointOutOfOrder,
-        6 => Report::TooMany,
-        7 => Report::NoPoints,
-        8 => Report::LengthMismatch,
-        9 => Report::BandwidthOutOfRange,
-        10 => Report::EdgeDecreases,
-        11 => Report::InvalidRecord,
-        12 => Report::UnknownPreset,
-        // 13: no call is specified to return a greater number.
-        _ => Report::GridOverflow,
-    };
-    Err(Refusal {
-        report,
-        place: slices::detail(answer),
+fn outcome(answer: u64) -> Result<u64, Error> {
+    let detail = slices::detail(answer);
+    let number = slices::number(answer);
+    if number == 0 {
+        return Ok(detail);
+    }
+    Err(match Report::from_number(number) {
+        Some(report) => Error::Refused(Refusal {
+            report,
+            place: detail,
+        }),
+        None => Error::Unknown(answer),
     })
+}
+
+#[cfg(test)]
+mod tests {
+    use super::*;
+    use slices::DETAIL_UNIT;
+
+    /// Every number that an answer can have, with places at both ends of what fits.
+    #[test]
+    fn every_number_of_an_answer() {
+        for place in [0, 1, MAX_SHEET as u64, u64::MAX / DETAIL_UNIT] {
+            assert_eq!(outcome(DETAIL_UNIT * place), Ok(place));
+            for number in 1..DETAIL_UNIT {
+                let answer = DETAIL_UNIT * place + number;
+                match outcome(answer) {
+                    Err(Error::Refused(refusal)) => {
+                        assert!(number <= 13);
+                        assert_eq!((refusal.report as u64, refusal.place), (number, place));
+                    }
+                    Err(Error::Unknown(whole)) => {
+                        assert!(number > 13);
+                        assert_eq!(whole, answer);
+                    }
+                    Ok(_) => panic!("number {number} was accepted"),
+                }
+            }
+        }
+    }
+
+    #[test]
+    fn numbers_of_no_report() {
+        for number in [0, 14, 15, 255, DETAIL_UNIT, DETAIL_UNIT + 1, u64::MAX] {
+            assert_eq!(Report::from_number(number), None);
+        }
+    }
 }

@@ -1,10 +1,13 @@
 //! The proved calls over slices of any length, with the number that they return.
 //!
-//! Every call returns 16 × detail + number. Number 0 means accepted; 1 to 13 is a report and the detail
-//! its place. A slice for the answer of another length than stated gets report 8 at place 0, found
-//! before all else.
+//! Every call returns [`DETAIL_UNIT`] × detail + number. Number 0 means accepted; 1 to 13 is a report and
+//! the detail its place. A slice for the answer of another length than stated gets report 8 at place 0,
+//! found before all else.
 
 #![allow(unsafe_code)]
+
+/// What one of a detail counts for in what a call returns; every number is below it.
+pub const DETAIL_UNIT: u64 = 256;
 
 /// The exports of libtankcurve_abi.a: a slice is a pointer and its number of elements.
 mod exports {
@@ -98,15 +101,16 @@ mod exports {
 
 /// The number of what a call returned: 0 or a report.
 pub fn number(answer: u64) -> u64 {
-    answer % 16
+    answer % DETAIL_UNIT
 }
 
 /// The detail of what a call returned: of a report its place.
 pub fn detail(answer: u64) -> u64 {
-    answer / 16
+    answer / DETAIL_UNIT
 }
 
-/// The estimate at one point. `row`: 5 numbers: left, right, weight, sum, value. Detail 0.
+/// The estimate at one point. `row`: [`crate::ROW_WIDTH`] numbers: left, right, weight, sum, value.
+/// Detail 0.
 pub fn evaluate(
     minutes: &[u16],
     values: &[u16],
@@ -173,7 +177,7 @@ pub fn advance(
     }
 }
 
-/// The estimates at all points. `rows`: five numbers a point. Detail: the passes.
+/// The estimates at all points. `rows`: [`crate::ROW_WIDTH`] numbers a point. Detail: the passes.
 pub fn smooth(
     minutes: &[u16],
     values: &[u16],
@@ -246,14 +250,14 @@ pub fn read(
     }
 }
 
-/// The curve of a sheet, as the program writes it. `out`: 31,291 bytes. Detail: the bytes written; of a
-/// refused sheet its number and place, and `out` is untouched.
+/// The curve of a sheet, as the program writes it. `out`: [`crate::MAX_OUTPUT`] bytes. Detail: the bytes written;
+/// of a refused sheet its number and place, and `out` is untouched.
 pub fn text(sheet: &[u8], out: &mut [u8]) -> u64 {
     unsafe { exports::tankcurve_text(sheet.as_ptr(), sheet.len(), out.as_mut_ptr(), out.len()) }
 }
 
-/// The text of a refusal with any number and place, as the program writes it. `out`: 31,291 bytes.
-/// Detail: the bytes written.
+/// The text of a refusal with any number and place, as the program writes it. `out`: [`crate::MAX_OUTPUT`]
+/// bytes. Detail: the bytes written.
 pub fn refusal_text(number: u64, place: u64, out: &mut [u8]) -> u64 {
     unsafe { exports::tankcurve_refusal_text(number, place, out.as_mut_ptr(), out.len()) }
 }

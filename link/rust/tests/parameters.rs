@@ -3,7 +3,8 @@
 //!
 //! The expected numbers are those of the second implementation in `reference/`.
 
-use tankcurve::{slices, Counts, Estimate, Refusal, Report, RunningSums};
+use tankcurve::slices::{self, DETAIL_UNIT};
+use tankcurve::{Counts, Error, Estimate, Refusal, Report, RunningSums, MAX_OUTPUT, ROW_WIDTH};
 
 const MINUTES: [u16; 6] = [3, 8, 8, 15, 21, 40];
 const VALUES: [u16; 6] = [5, 7, 11, 13, 29, 31];
@@ -18,8 +19,8 @@ const FALLING_SHEET: &[u8] =
     b"mark,half\n12,7\n14,9\n\nminute,inj,vdk\n11,3,21\n12,1,22\n11,4,23\n30,5,24\n";
 const FALLING_TEXT: &[u8] = b"refused,place\n4,52\n";
 
-fn refused<T>(report: Report, place: u64) -> Result<T, Refusal> {
-    Err(Refusal { report, place })
+fn refused<T>(report: Report, place: u64) -> Result<T, Error> {
+    Err(Error::Refused(Refusal { report, place }))
 }
 
 #[test]
@@ -27,14 +28,14 @@ fn evaluate() {
     let mut row = [90, 91, 92, 93, 94];
     assert_eq!(
         slices::evaluate(&FALLING, &VALUES, 14, 7, &mut row),
-        16 * 4 + 4
+        DETAIL_UNIT * 4 + 4
     );
     assert_eq!(row, [90, 91, 92, 93, 94]);
     assert_eq!(slices::evaluate(&MINUTES, &VALUES, 14, 7, &mut row), 0);
     assert_eq!(row, [1, 5, 74, 858, 12]);
-    let mut long = [90; 6];
+    let mut long = [90; ROW_WIDTH + 1];
     assert_eq!(slices::evaluate(&MINUTES, &VALUES, 14, 7, &mut long), 8);
-    assert_eq!(long, [90; 6]);
+    assert_eq!(long, [90; ROW_WIDTH + 1]);
 
     let estimate = Estimate {
         left: 1,
@@ -77,12 +78,12 @@ fn empty_lists() {
     );
     assert_eq!(slices::text(&[], &mut []), 8);
     assert_eq!(slices::refusal_text(4, 52, &mut []), 8);
-    let mut out = [90; tankcurve::MAX_OUTPUT];
+    let mut out = [90; MAX_OUTPUT];
     assert_eq!(
         tankcurve::text(&[], &mut out),
         refused(Report::BadHeader, 0)
     );
-    assert_eq!(out, [90; tankcurve::MAX_OUTPUT]);
+    assert_eq!(out, [90; MAX_OUTPUT]);
 }
 
 #[test]
@@ -90,7 +91,7 @@ fn window() {
     let mut bounds = [90, 91];
     assert_eq!(
         slices::window(&FALLING, &VALUES, 14, 7, &mut bounds),
-        16 * 4 + 4
+        DETAIL_UNIT * 4 + 4
     );
     assert_eq!(bounds, [90, 91]);
     assert_eq!(slices::window(&MINUTES, &VALUES, 14, 7, &mut bounds), 0);
@@ -155,25 +156,25 @@ fn advance() {
 
 #[test]
 fn smooth() {
-    let before: [u64; 15] = std::array::from_fn(|i| 90 + i as u64);
+    let before: [u64; 3 * ROW_WIDTH] = std::array::from_fn(|i| 90 + i as u64);
     let after = [0, 4, 70, 630, 9, 1, 5, 74, 858, 12, 3, 5, 78, 2022, 26];
     let mut rows = before;
     assert_eq!(
         slices::smooth(&MINUTES, &VALUES, &[9, 14, 22], &[6, 7, 16], &mut rows),
-        16 * 2 + 10
+        DETAIL_UNIT * 2 + 10
     );
     assert_eq!(rows, before);
     assert_eq!(
         slices::smooth(&MINUTES, &VALUES, &[9, 14, 22], &[6, 7, 8], &mut rows),
-        16 * 8
+        DETAIL_UNIT * 8
     );
     assert_eq!(rows, after);
-    let mut long = [90; 16];
+    let mut long = [90; 3 * ROW_WIDTH + 1];
     assert_eq!(
         slices::smooth(&MINUTES, &VALUES, &[9, 14, 22], &[6, 7, 8], &mut long),
         8
     );
-    assert_eq!(long, [90; 16]);
+    assert_eq!(long, [90; 3 * ROW_WIDTH + 1]);
 
     let mut typed = before;
     assert_eq!(
@@ -192,10 +193,10 @@ fn smooth() {
 fn smooth_lists_of_one_length() {
     let points = [9, 14, 22, 30, 31, 40];
     let bandwidths = [6, 7, 8, 9, 10, 11];
-    let mut rows = [90; 30];
+    let mut rows = [90; 6 * ROW_WIDTH];
     assert_eq!(
         slices::smooth(&MINUTES, &VALUES, &points, &bandwidths, &mut rows),
-        16 * 11
+        DETAIL_UNIT * 11
     );
     assert_eq!(
         rows,
@@ -243,7 +244,7 @@ fn read() {
             &mut bandwidths,
             &mut counts
         ),
-        16 * 52 + 4
+        DETAIL_UNIT * 52 + 4
     );
     assert_eq!((minutes, values), ([90; 1024], [91; 1024]));
     assert_eq!((points, bandwidths), ([92; 512], [93; 512]));
@@ -322,52 +323,55 @@ fn read() {
 
 #[test]
 fn text() {
-    let mut out = [90; 31_291];
-    assert_eq!(slices::text(FALLING_SHEET, &mut out), 16 * 52 + 4);
-    assert_eq!(out, [90; 31_291]);
-    assert_eq!(slices::text(SHEET, &mut out), 16 * 94);
-    assert_eq!((&out[..94], &out[94..]), (TEXT, &[90; 31_197][..]));
+    let mut out = [90; MAX_OUTPUT];
+    assert_eq!(slices::text(FALLING_SHEET, &mut out), DETAIL_UNIT * 52 + 4);
+    assert_eq!(out, [90; MAX_OUTPUT]);
+    assert_eq!(slices::text(SHEET, &mut out), DETAIL_UNIT * 94);
+    assert_eq!((&out[..94], &out[94..]), (TEXT, &[90; MAX_OUTPUT - 94][..]));
     // Another length comes before what a sheet is refused for.
-    let mut long = [90; 31_292];
+    let mut long = [90; MAX_OUTPUT + 1];
     for sheet in [SHEET, FALLING_SHEET] {
         assert_eq!(slices::text(sheet, &mut long), 8);
-        assert_eq!(slices::text(sheet, &mut long[..31_290]), 8);
+        assert_eq!(slices::text(sheet, &mut long[..MAX_OUTPUT - 1]), 8);
     }
-    assert_eq!(long, [90; 31_292]);
+    assert_eq!(long, [90; MAX_OUTPUT + 1]);
 
-    let mut typed = [90; 31_291];
+    let mut typed = [90; MAX_OUTPUT];
     assert_eq!(
         tankcurve::text(FALLING_SHEET, &mut typed),
         refused(Report::SampleOutOfOrder, 52)
     );
-    assert_eq!(typed, [90; 31_291]);
+    assert_eq!(typed, [90; MAX_OUTPUT]);
     assert_eq!(tankcurve::text(SHEET, &mut typed), Ok(TEXT));
     assert_eq!(typed, out);
 }
 
 #[test]
 fn refusal_text() {
-    let mut out = [90; 31_291];
-    assert_eq!(slices::refusal_text(4, 52, &mut out), 16 * 19);
-    assert_eq!((&out[..19], &out[19..]), (FALLING_TEXT, &[90; 31_272][..]));
-    let mut long = [90; 31_292];
+    let mut out = [90; MAX_OUTPUT];
+    assert_eq!(slices::refusal_text(4, 52, &mut out), DETAIL_UNIT * 19);
+    assert_eq!(
+        (&out[..19], &out[19..]),
+        (FALLING_TEXT, &[90; MAX_OUTPUT - 19][..])
+    );
+    let mut long = [90; MAX_OUTPUT + 1];
     assert_eq!(slices::refusal_text(4, 52, &mut long), 8);
-    assert_eq!(slices::refusal_text(4, 52, &mut long[..31_290]), 8);
-    assert_eq!(long, [90; 31_292]);
+    assert_eq!(slices::refusal_text(4, 52, &mut long[..MAX_OUTPUT - 1]), 8);
+    assert_eq!(long, [90; MAX_OUTPUT + 1]);
 
     // Numbers that no call reports, and every digit of 64 bits.
-    let mut wide = [90; 31_291];
+    let mut wide = [90; MAX_OUTPUT];
     let written = b"refused,place\n18446744073709551615,9876543210\n";
     assert_eq!(
         slices::refusal_text(u64::MAX, 9_876_543_210, &mut wide),
-        16 * 46
+        DETAIL_UNIT * 46
     );
     assert_eq!(
         (&wide[..46], &wide[46..]),
-        (&written[..], &[90; 31_245][..])
+        (&written[..], &[90; MAX_OUTPUT - 46][..])
     );
 
-    let mut typed = [90; 31_291];
+    let mut typed = [90; MAX_OUTPUT];
     let refusal = Refusal {
         report: Report::SampleOutOfOrder,
         place: 52,

@@ -11,8 +11,8 @@ returns c = search evaluate-refused
 returns-2 : tie.Need-returns-2
 returns-2 c = search evaluate-given
 
-row-at-requires : tie.Need-row-at-requires
-row-at-requires c κs = search evaluate-accepted
+estimate-at-requires : tie.Need-estimate-at-requires
+estimate-at-requires c κs = search evaluate-accepted
 
 pub evaluate-spec : {M : Type 1} → statement M
 evaluate-spec =
@@ -21,6 +21,6 @@ evaluate-spec =
     (λ c κs. search needs)
     (λ c. search needs)
     (λ c. search needs)
-    row-at-requires
+    estimate-at-requires
     returns
     returns-2)

@@ -1,28 +1,15 @@
--- Every check is made before the first row is stored, so a refusal leaves the rows.
--- Where there is none the sweep stores them all and has counted its passes.
+-- The sweep under the limits that the code names.
+-- They are the full ones, which allow no more than themselves.
 use borrow.Author.Needs.{needs}
-use Rattle.estimator.proofs.Verdicts.{smooth-accepted, smooth-refused, rows-kept, smooth-given, rows-given}
+use Rattle.estimator.proofs.Verdicts.{full-is-within, smooth-at-full, rows-at-full}
 use Rattle.estimator.proofs.smooth.Statement.{statement}
 use Rattle.estimator.proofs.smooth.Tie as tie
 
 returns : tie.Need-returns
-returns c = (search smooth-refused, search rows-kept)
+returns c = (search smooth-at-full, search rows-at-full)
 
-returns-2 : tie.Need-returns-2
-returns-2 c = (search smooth-given, search rows-given)
-
-smooth-rows-requires : tie.Need-smooth-rows-requires
-smooth-rows-requires c κs = search smooth-accepted
+smooth-under-requires : tie.Need-smooth-under-requires
+smooth-under-requires c κs = search full-is-within
 
 pub smooth-spec : {M : Type 1} → statement M
-smooth-spec =
-    tie.close
-    (tie.spec
-    (λ c κs. search needs)
-    (λ c κs. search needs)
-    (λ c. search needs)
-    (λ c. search needs)
-    smooth-rows-requires
-    returns
-    (λ c. search needs)
-    returns-2)
+smooth-spec = tie.close (tie.spec (λ c κs. search needs) smooth-under-requires (λ c. search needs) returns)

@@ -1,8 +1,8 @@
 -- Every check is made before the first store, so a refusal leaves both lists.
 -- Where there is none each list is filled whole.
 use borrow.Author.Needs.{needs}
-use Rattle.grid.proofs.Accepted.{points-few, last-fits, preset-known, fill-refused, points-kept, bandwidths-kept, fill-given, points-given}
-use Rattle.grid.proofs.Accepted.{bandwidths-given}
+use Rattle.grid.proofs.FillVerdicts.{points-few, last-fits, preset-known, fill-refused, points-kept, bandwidths-kept, fill-given, points-given}
+use Rattle.grid.proofs.FillVerdicts.{bandwidths-given}
 use Rattle.grid.proofs.fill_grid.Statement.{statement}
 use Rattle.grid.proofs.fill_grid.Tie as tie
 
@@ -22,6 +22,7 @@ pub fill-grid-spec : {M : Type 1} → statement M
 fill-grid-spec =
     tie.close
     (tie.spec
+    (λ c κs. search needs)
     (λ c κs. search needs)
     (λ c. search needs)
     (λ c. search needs)

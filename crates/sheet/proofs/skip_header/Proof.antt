@@ -1,6 +1,6 @@
 -- The line found is compared with the names: where they agree the meaning goes on at the next line.
 -- Where there is no line, or another text, the meaning refuses, and so does the answer.
-use Rattle.lines.proofs.LineEnds.{text-begins, text-within}
+use Rattle.sheet_lines.proofs.LineEnds.{text-begins, text-within}
 use Rattle.sheet.proofs.LineSteps.{header-missing, header-passed, header-differs}
 use borrow.Author.Needs.{needs}
 use Rattle.sheet.proofs.skip_header.Statement.{statement}

@@ -1,5 +1,5 @@
 -- A record of another length is refused first; else the step is that of the call below on the record that the eight numbers are.
-use Rattle.meanings.specs.Calls.{told-advance}
+use Rattle.meanings.specs.Calls.{advance-answer}
 use Rattle.tankcurve_abi.proofs.Places.{advance-place}
 use Rattle.tankcurve_abi.proofs.Answered.{refused-place, refused-code, refused-stays, accepted-code, accepted-stored}
 use Rattle.tankcurve_abi.proofs.Answered.{other-code, other-stays, step-answer}
@@ -20,7 +20,7 @@ enum-known-refusal : tie.Need-enum-known-refusal
 enum-known-refusal c = search needs
 
 refusal-code-requires : tie.Need-refusal-code-requires
-refusal-code-requires c κs = search (refused-place told-advance, advance-place)
+refusal-code-requires c κs = search (refused-place advance-answer, advance-place)
 
 enum-known-moved : tie.Need-enum-known-moved
 enum-known-moved c = search needs
@@ -32,13 +32,13 @@ same-length : tie.Need-same-length
 same-length c = search needs
 
 returns-2 : tie.Need-returns-2
-returns-2 c = (search (refused-code told-advance, step-answer), search (refused-stays told-advance, step-answer))
+returns-2 c = (search (refused-code advance-answer, step-answer), search (refused-stays advance-answer, step-answer))
 
 same-length-2 : tie.Need-same-length-2
 same-length-2 c = search needs
 
 returns-3 : tie.Need-returns-3
-returns-3 c = (search (accepted-code told-advance, step-answer), search (accepted-stored told-advance, step-answer))
+returns-3 c = (search (accepted-code advance-answer, step-answer), search (accepted-stored advance-answer, step-answer))
 
 pub tankcurve-advance-spec : {M : Type 1} → statement M
 tankcurve-advance-spec =

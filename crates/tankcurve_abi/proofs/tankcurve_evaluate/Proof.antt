@@ -1,5 +1,5 @@
 -- A row of another length is refused first; else the answer and the row are those of the call below.
-use Rattle.meanings.specs.Calls.{told-evaluation}
+use Rattle.meanings.specs.Calls.{evaluation-answer}
 use Rattle.tankcurve_abi.proofs.Places.{evaluate-place}
 use Rattle.tankcurve_abi.proofs.Answered.{refused-place, refused-code, refused-stays, accepted-code, accepted-stored}
 use Rattle.tankcurve_abi.proofs.Answered.{other-code, other-stays, sized-answer}
@@ -17,22 +17,28 @@ enum-known-refusal : tie.Need-enum-known-refusal
 enum-known-refusal c = search needs
 
 refusal-code-requires : tie.Need-refusal-code-requires
-refusal-code-requires c κs = search (refused-place told-evaluation, evaluate-place)
+refusal-code-requires c κs = search (refused-place evaluation-answer, evaluate-place)
 
 enum-known-estimate : tie.Need-enum-known-estimate
 enum-known-estimate c = search needs
 
-put-row-requires : tie.Need-put-row-requires
-put-row-requires c κs = search needs
+put-estimate-requires : tie.Need-put-estimate-requires
+put-estimate-requires c κs = search needs
 
 returns-2 : tie.Need-returns-2
-returns-2 c = (search (refused-code told-evaluation, sized-answer told-evaluation), search (refused-stays told-evaluation, sized-answer told-evaluation))
+returns-2 c = (
+  search (refused-code evaluation-answer, sized-answer evaluation-answer),
+  search (refused-stays evaluation-answer, sized-answer evaluation-answer),
+)
 
 same-length : tie.Need-same-length
 same-length c = search needs
 
 returns-3 : tie.Need-returns-3
-returns-3 c = (search (accepted-code told-evaluation, sized-answer told-evaluation), search (accepted-stored told-evaluation, sized-answer told-evaluation))
+returns-3 c = (
+  search (accepted-code evaluation-answer, sized-answer evaluation-answer),
+  search (accepted-stored evaluation-answer, sized-answer evaluation-answer),
+)
 
 pub tankcurve-evaluate-spec : {M : Type 1} → statement M
 tankcurve-evaluate-spec =
@@ -43,7 +49,7 @@ tankcurve-evaluate-spec =
     enum-known-refusal
     refusal-code-requires
     enum-known-estimate
-    put-row-requires
+    put-estimate-requires
     returns-2
     same-length
     returns-3)

@@ -1,5 +1,5 @@
 -- The call below, its answer as one number.
-use Rattle.meanings.specs.Calls.{told-filling}
+use Rattle.meanings.specs.Calls.{filling-answer}
 use Rattle.tankcurve_abi.proofs.Places.{fill-place}
 use Rattle.tankcurve_abi.proofs.Answered.{refused-place, refused-code, accepted-code}
 use borrow.Author.Needs.{needs}
@@ -13,7 +13,7 @@ enum-known-refusal : tie.Need-enum-known-refusal
 enum-known-refusal c = search needs
 
 refusal-code-requires : tie.Need-refusal-code-requires
-refusal-code-requires c κs = search (refused-place told-filling, fill-place)
+refusal-code-requires c κs = search (refused-place filling-answer, fill-place)
 
 enum-told : tie.Need-enum-told
 enum-told c = search needs
@@ -25,7 +25,7 @@ same-length-2 : tie.Need-same-length-2
 same-length-2 c = search needs
 
 returns : tie.Need-returns
-returns c = (search (refused-code told-filling), search needs)
+returns c = (search (refused-code filling-answer), search needs)
 
 same-length-3 : tie.Need-same-length-3
 same-length-3 c = search needs
@@ -34,7 +34,7 @@ same-length-4 : tie.Need-same-length-4
 same-length-4 c = search needs
 
 returns-2 : tie.Need-returns-2
-returns-2 c = (search (accepted-code told-filling), search needs)
+returns-2 c = (search (accepted-code filling-answer), search needs)
 
 pub tankcurve-fill-spec : {M : Type 1} → statement M
 tankcurve-fill-spec =

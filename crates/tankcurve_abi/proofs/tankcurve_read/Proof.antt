@@ -1,5 +1,5 @@
 -- Counts of another length are refused first, before a list is touched; else the answer and the lists are those of the call below.
-use Rattle.meanings.specs.Calls.{told-reading, read-minutes, read-values, read-evaluation-points, read-bandwidths}
+use Rattle.meanings.specs.Calls.{parsing-answer, read-minutes, read-values, read-evaluation-points, read-bandwidths}
 use Rattle.tankcurve_abi.proofs.Places.{read-place, counts-place}
 use Rattle.tankcurve_abi.proofs.Answered.{refused-place, refused-code, refused-stays, accepted-code}
 use Rattle.tankcurve_abi.proofs.Answered.{other-counts-code, other-counts-stay, list-stays, list-read, counted-answer, counts-stored}
@@ -26,7 +26,7 @@ enum-known-refusal : tie.Need-enum-known-refusal
 enum-known-refusal c = search needs
 
 refusal-code-requires : tie.Need-refusal-code-requires
-refusal-code-requires c κs = search (refused-place told-reading, counts-place, read-place)
+refusal-code-requires c κs = search (refused-place parsing-answer, counts-place, read-place)
 
 enum-known-n : tie.Need-enum-known-n
 enum-known-n c = search needs
@@ -48,12 +48,12 @@ same-length-4 c = search needs
 
 returns-2 : tie.Need-returns-2
 returns-2 c = (
-  search (refused-code told-reading, counted-answer),
+  search (refused-code parsing-answer, counted-answer),
   (
     search (list-read read-minutes),
     (
       search (list-read read-values),
-      (search (list-read read-evaluation-points), (search (list-read read-bandwidths), search (refused-stays told-reading, counted-answer))),
+      (search (list-read read-evaluation-points), (search (list-read read-bandwidths), search (refused-stays parsing-answer, counted-answer))),
     ),
   ),
 )
@@ -75,7 +75,7 @@ same-length-9 c = search needs
 
 returns-3 : tie.Need-returns-3
 returns-3 c = (
-  search (accepted-code told-reading, counted-answer),
+  search (accepted-code parsing-answer, counted-answer),
   (
     search (list-read read-minutes),
     (

@@ -1,7 +1,7 @@
 -- The call below, its answer as one number: the text of a refusal has at most 56 bytes.
 use Prim.Native.Nat.{_≤_}
 use native.Mathlib.Omega.{arith}
-use Rattle.meanings.specs.Calls.{told-writing}
+use Rattle.meanings.specs.Calls.{writing-answer}
 use Rattle.tankcurve_abi.proofs.Places.{refusal-text-place, refusal-size}
 use Rattle.tankcurve_abi.proofs.Answered.{refused-place, refused-code, accepted-number}
 use borrow.Author.Needs.{needs}
@@ -15,7 +15,7 @@ enum-known-refusal : tie.Need-enum-known-refusal
 enum-known-refusal c = search needs
 
 refusal-code-requires : tie.Need-refusal-code-requires
-refusal-code-requires c κs = search (refused-place told-writing, refusal-text-place)
+refusal-code-requires c κs = search (refused-place writing-answer, refusal-text-place)
 
 enum-known-bytes : tie.Need-enum-known-bytes
 enum-known-bytes c = search needs
@@ -27,13 +27,13 @@ same-length : tie.Need-same-length
 same-length c = search needs
 
 returns : tie.Need-returns
-returns c = (search (refused-code told-writing), search needs)
+returns c = (search (refused-code writing-answer), search needs)
 
 same-length-2 : tie.Need-same-length-2
 same-length-2 c = search needs
 
 returns-2 : tie.Need-returns-2
-returns-2 c = (search (accepted-number told-writing), search needs)
+returns-2 c = (search (accepted-number writing-answer), search needs)
 
 pub tankcurve-refusal-text-spec : {M : Type 1} → statement M
 tankcurve-refusal-text-spec =

@@ -1,7 +1,7 @@
 -- The call below, its answer as one number: passes are at most 2,048.
 use Prim.Native.Nat.{_≤_}
 use native.Mathlib.Omega.{arith}
-use Rattle.meanings.specs.Calls.{told-smoothing}
+use Rattle.meanings.specs.Calls.{smoothing-answer}
 use Rattle.tankcurve_abi.proofs.Places.{smooth-place, passes-few}
 use Rattle.tankcurve_abi.proofs.Answered.{refused-place, refused-code, accepted-number}
 use borrow.Author.Needs.{needs}
@@ -15,7 +15,7 @@ enum-known-refusal : tie.Need-enum-known-refusal
 enum-known-refusal c = search needs
 
 refusal-code-requires : tie.Need-refusal-code-requires
-refusal-code-requires c κs = search (refused-place told-smoothing, smooth-place)
+refusal-code-requires c κs = search (refused-place smoothing-answer, smooth-place)
 
 enum-known-passes : tie.Need-enum-known-passes
 enum-known-passes c = search needs
@@ -27,13 +27,13 @@ same-length : tie.Need-same-length
 same-length c = search needs
 
 returns : tie.Need-returns
-returns c = (search (refused-code told-smoothing), search needs)
+returns c = (search (refused-code smoothing-answer), search needs)
 
 same-length-2 : tie.Need-same-length-2
 same-length-2 c = search needs
 
 returns-2 : tie.Need-returns-2
-returns-2 c = (search (accepted-number told-smoothing), search needs)
+returns-2 c = (search (accepted-number smoothing-answer), search needs)
 
 pub tankcurve-smooth-spec : {M : Type 1} → statement M
 tankcurve-smooth-spec =

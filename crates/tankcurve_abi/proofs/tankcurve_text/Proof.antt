@@ -1,7 +1,8 @@
--- The call below, its answer as one number: a place is at most 32,768, and a curve has at most 31,291 bytes.
+-- The call below, its answer as one number: a place is at most 32,768, and a curve has at most max-output bytes.
 use Prim.Native.Nat.{_≤_}
 use native.Mathlib.Omega.{arith}
-use Rattle.meanings.specs.Calls.{told-writing}
+use Rattle.meanings.specs.Limits.{max-output}
+use Rattle.meanings.specs.Calls.{writing-answer}
 use Rattle.tankcurve_abi.proofs.Places.{write-place, text-size}
 use Rattle.tankcurve_abi.proofs.Answered.{refused-place, refused-code, accepted-number}
 use borrow.Author.Needs.{needs}
@@ -15,25 +16,25 @@ enum-known-refusal : tie.Need-enum-known-refusal
 enum-known-refusal c = search needs
 
 refusal-code-requires : tie.Need-refusal-code-requires
-refusal-code-requires c κs = search (refused-place told-writing, write-place)
+refusal-code-requires c κs = search (refused-place writing-answer, write-place)
 
 enum-known-size : tie.Need-enum-known-size
 enum-known-size c = search needs
 
 mul-result : tie.Need-mul-result
-mul-result c = let few : c .before .size .given .0 .0 ≤ 31291 = search text-size in omega arith
+mul-result c = let few : c .before .size .given .0 .0 ≤ max-output = search text-size in omega arith
 
 same-length : tie.Need-same-length
 same-length c = search needs
 
 returns : tie.Need-returns
-returns c = (search (refused-code told-writing), search needs)
+returns c = (search (refused-code writing-answer), search needs)
 
 same-length-2 : tie.Need-same-length-2
 same-length-2 c = search needs
 
 returns-2 : tie.Need-returns-2
-returns-2 c = (search (accepted-number told-writing), search needs)
+returns-2 c = (search (accepted-number writing-answer), search needs)
 
 pub tankcurve-text-spec : {M : Type 1} → statement M
 tankcurve-text-spec =

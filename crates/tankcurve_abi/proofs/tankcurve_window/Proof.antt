@@ -1,5 +1,5 @@
 -- As for the row of a mark, with its two edges alone.
-use Rattle.meanings.specs.Calls.{told-evaluation}
+use Rattle.meanings.specs.Calls.{evaluation-answer}
 use Rattle.tankcurve_abi.proofs.Places.{evaluate-place}
 use Rattle.tankcurve_abi.proofs.Answered.{refused-place, refused-code, refused-stays, accepted-code, accepted-stored}
 use Rattle.tankcurve_abi.proofs.Answered.{other-code, other-stays, sized-answer}
@@ -17,7 +17,7 @@ enum-known-refusal : tie.Need-enum-known-refusal
 enum-known-refusal c = search needs
 
 refusal-code-requires : tie.Need-refusal-code-requires
-refusal-code-requires c κs = search (refused-place told-evaluation, evaluate-place)
+refusal-code-requires c κs = search (refused-place evaluation-answer, evaluate-place)
 
 enum-known-estimate : tie.Need-enum-known-estimate
 enum-known-estimate c = search needs
@@ -26,13 +26,19 @@ put-pair-requires : tie.Need-put-pair-requires
 put-pair-requires c κs = search needs
 
 returns-2 : tie.Need-returns-2
-returns-2 c = (search (refused-code told-evaluation, sized-answer told-evaluation), search (refused-stays told-evaluation, sized-answer told-evaluation))
+returns-2 c = (
+  search (refused-code evaluation-answer, sized-answer evaluation-answer),
+  search (refused-stays evaluation-answer, sized-answer evaluation-answer),
+)
 
 same-length : tie.Need-same-length
 same-length c = search needs
 
 returns-3 : tie.Need-returns-3
-returns-3 c = (search (accepted-code told-evaluation, sized-answer told-evaluation), search (accepted-stored told-evaluation, sized-answer told-evaluation))
+returns-3 c = (
+  search (accepted-code evaluation-answer, sized-answer evaluation-answer),
+  search (accepted-stored evaluation-answer, sized-answer evaluation-answer),
+)
 
 pub tankcurve-window-spec : {M : Type 1} → statement M
 tankcurve-window-spec =

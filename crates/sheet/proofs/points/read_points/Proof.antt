@@ -2,7 +2,7 @@
 -- the loop ends.
 use Prim.Native.Nat.{_-_}
 use lib.ListN.{length}
-use Rattle.lines.proofs.LineEnds.{text-begins, text-within, line-shortens}
+use Rattle.sheet_lines.proofs.LineEnds.{text-begins, text-within, line-shortens}
 use Rattle.sheet.proofs.PointLoop.{PointsSoFar, points-begin, sheet-ends-in-points, point-line-unended, no-points, points-end}
 use Rattle.sheet.proofs.PointLoop.{point-line-refused, points-go-on}
 use borrow.Author.Needs.{needs}

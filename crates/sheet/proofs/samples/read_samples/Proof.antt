@@ -2,7 +2,7 @@
 -- loop ends.
 use Prim.Native.Nat.{_-_}
 use lib.ListN.{length}
-use Rattle.lines.proofs.LineEnds.{text-begins, text-within, line-shortens}
+use Rattle.sheet_lines.proofs.LineEnds.{text-begins, text-within, line-shortens}
 use Rattle.sheet.proofs.SampleLoop.{SamplesSoFar, samples-begin, samples-end, sample-line-unended, sample-line-refused, samples-go-on}
 use borrow.Author.Needs.{needs}
 use Rattle.sheet.proofs.samples.read_samples.Statement.{statement}

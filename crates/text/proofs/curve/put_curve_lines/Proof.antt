@@ -28,8 +28,8 @@ mul-put-curve-line-2 c = search needs
 shared-slice-read-put-curve-line-2 : tie.Need-shared-slice-read-put-curve-line-2 Inv-loop μ-loop
 shared-slice-read-put-curve-line-2 c = search needs
 
-row-at-requires : tie.Need-row-at-requires Inv-loop μ-loop
-row-at-requires c κs = omega arith
+stored-row-requires : tie.Need-stored-row-requires Inv-loop μ-loop
+stored-row-requires c κs = omega arith
 
 put-curve-line-requires : tie.Need-put-curve-line-requires Inv-loop μ-loop
 put-curve-line-requires c κs = search line-fits
@@ -60,7 +60,7 @@ put-curve-lines-spec =
     shared-slice-read-put-curve-line
     mul-put-curve-line-2
     shared-slice-read-put-curve-line-2
-    row-at-requires
+    stored-row-requires
     put-curve-line-requires
     add-k
     loop-less

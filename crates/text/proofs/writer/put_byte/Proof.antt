@@ -1,6 +1,6 @@
 -- One store at byte `at` is the text of that one byte.
 use borrow.Author.Needs.{needs}
-use Rattle.text.proofs.Writing.{byte-stored}
+use Rattle.text_decimal.proofs.Writing.{byte-stored}
 use Rattle.text.proofs.writer.put_byte.Statement.{statement}
 use Rattle.text.proofs.writer.put_byte.Tie as tie
 

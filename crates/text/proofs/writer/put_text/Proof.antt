@@ -1,60 +1,17 @@
--- Each turn stores one byte more of the text behind those before.
-use Prim.Native.Nat.{_-_}
-use lib.ListN.{length}
-use Rattle.text.proofs.Writing.{TextTo, text-begins, byte-inside, text-goes-on, text-keeps-length, text-stored}
+-- The text fits, so it is stored.
 use borrow.Author.Needs.{needs}
+use Rattle.text_decimal.proofs.Room.{put-is-stored}
 use Rattle.text.proofs.writer.put_text.Statement.{statement}
 use Rattle.text.proofs.writer.put_text.Tie as tie
 
-abbrev Inv-loop : tie.InvT-loop
-Inv-loop out₀ at text i₀ out i = TextTo out₀ at text out i
+returns : tie.Need-returns
+returns c = search put-is-stored
 
-abbrev μ-loop : tie.MeasureT-loop
-μ-loop out₀ at text i₀ out i = length text - i
+put-bytes-requires : tie.Need-put-bytes-requires
+put-bytes-requires c κs = search needs
 
-loop-holds : tie.Need-loop-holds Inv-loop μ-loop
-loop-holds c = search text-begins
-
-shared-slice-read-out : tie.Need-shared-slice-read-out Inv-loop μ-loop
-shared-slice-read-out c = search needs
-
-add-out : tie.Need-add-out Inv-loop μ-loop
-add-out c = search needs
-
-slice-write-out : tie.Need-slice-write-out Inv-loop μ-loop
-slice-write-out c = search byte-inside
-
-add-i : tie.Need-add-i Inv-loop μ-loop
-add-i c = search needs
-
-loop-less : tie.Need-loop-less Inv-loop μ-loop
-loop-less c = search needs
-
-loop-again : tie.Need-loop-again Inv-loop μ-loop
-loop-again c = search text-goes-on
-
-add-result : tie.Need-add-result Inv-loop μ-loop
-add-result c = search needs
-
-same-length : tie.Need-same-length Inv-loop μ-loop
-same-length c = search text-keeps-length
-
-returns : tie.Need-returns Inv-loop μ-loop
-returns c = search text-stored
+same-length : tie.Need-same-length
+same-length c = search needs
 
 pub put-text-spec : {M : Type 1} → statement M
-put-text-spec =
-    tie.close
-    (tie.spec
-    Inv-loop
-    μ-loop
-    loop-holds
-    shared-slice-read-out
-    add-out
-    slice-write-out
-    add-i
-    loop-less
-    loop-again
-    add-result
-    same-length
-    returns)
+put-text-spec = tie.close (tie.spec put-bytes-requires same-length returns)

@@ -1,5 +1,5 @@
 -- 65536 is the value that means missing; any other is written as a number.
-use Rattle.text.proofs.Digits.{dash-fits, dash-stored, value-fits, value-stored}
+use Rattle.text.proofs.Values.{dash-fits, dash-stored, value-fits, value-stored}
 use borrow.Author.Needs.{needs}
 use Rattle.text.proofs.writer.put_value.Statement.{statement}
 use Rattle.text.proofs.writer.put_value.Tie as tie

@@ -1,0 +1,57 @@
+// The lines of the tank sheet: where a line ends, and whether its text is a given one. Every function takes every input.
+ghost use mathlib.Core.Path.{_≡_};
+ghost use Rattle.meanings.specs.Sheet.{same};
+ghost use Rattle.sheet_lines.specs.Lines.{line-bounds, line-at, feed-from};
+
+// What a search for a line finds: the end of its text with the start of the next line, or no line feed.
+pub enum Line {
+    Ended { end: usize, next: usize },
+    Unended,
+}
+
+const LINE_FEED: u8 = 10;
+
+// The first line feed from byte `from` on, or where the search ends without one.
+pub(crate) fn find_feed(sheet: &[u8], from: usize) -> usize
+    ensures { λ r. ⌜ r ≡ feed-from (now (sheet .entry)) from ⌝ }
+{
+    let mut at = from;
+    while at < sheet.len() {
+        if sheet[at] == LINE_FEED {
+            return at;
+        }
+        at += 1;
+    }
+    at
+}
+
+// The line that begins at byte `from`.
+pub fn find_line(sheet: &[u8], from: usize) -> Line
+    ensures { λ r. ⌜ line-bounds r ≡ line-at (now (sheet .entry)) from ⌝ }
+{
+    let at = find_feed(sheet, from);
+    if at < sheet.len() {
+        return Line::Ended {
+            end: at,
+            next: at + 1,
+        };
+    }
+    Line::Unended
+}
+
+// Whether two texts are the same.
+pub fn same_text(text: &[u8], names: &[u8]) -> bool
+    ensures { λ r. ⌜ r ≡ same (now (text .entry)) (now (names .entry)) ⌝ }
+{
+    if text.len() != names.len() {
+        return false;
+    }
+    let mut i = 0;
+    while i < text.len() {
+        if text[i] != names[i] {
+            return false;
+        }
+        i += 1;
+    }
+    true
+}

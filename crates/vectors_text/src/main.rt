@@ -1,0 +1,88 @@
+// The calls that write a text on the vectors of stdin: each answer, the bytes that were written and the rest of the lent buffer. What is
+// written is held to the file stdout. Both files are made by the second implementation: bin gate_vectors of reference/, which says their form.
+use tankcurve_abi::tankcurve_refusal_text;
+use tankcurve_abi::tankcurve_text;
+use vectors_io::MOST_BYTES;
+use vectors_io::MOST_CASES;
+use vectors_io::Parsed;
+use vectors_io::Taken;
+use vectors_io::lent_u8;
+use vectors_io::next_case;
+use vectors_io::number;
+use vectors_io::show_text;
+
+// The length of the buffer that a text needs.
+const TEXT: usize = 31291;
+
+// The longest buffer of a case.
+const MOST_BUFFER: usize = 31300;
+
+fn text_with(sheet: &[u8], out: &mut [u8]) {
+    show_text(tankcurve_text(sheet, out), out);
+}
+
+fn text_case(sheet: &[u8]) {
+    let mut out = [7u8; TEXT];
+    text_with(sheet, &mut out);
+}
+
+// The same with a buffer of a stated length.
+fn text_case_lent(input: &[u8], from: usize) {
+    let mut out = [7u8; MOST_BUFFER];
+    let lent = lent_u8(input, from, &out);
+    let n = lent.count;
+    let sheet = lent.next;
+    text_with(&input[sheet..], &mut out[..n]);
+}
+
+fn refusal_text_with(number: u64, place: u64, out: &mut [u8]) {
+    show_text(tankcurve_refusal_text(number, place, out), out);
+}
+
+fn refusal_text_case(input: &[u8], from: usize) {
+    let mut out = [7u8; TEXT];
+    let report = number(input, from);
+    let place = number(input, report.next);
+    refusal_text_with(report.value, place.value, &mut out);
+}
+
+fn refusal_text_case_lent(input: &[u8], from: usize) {
+    let mut out = [7u8; MOST_BUFFER];
+    let report = number(input, from);
+    let place = number(input, report.next);
+    let lent = lent_u8(input, place.next, &out);
+    let n = lent.count;
+    refusal_text_with(report.value, place.value, &mut out[..n]);
+}
+
+// A case begins with its call's number. A sheet is the rest of it.
+fn case(input: &[u8]) {
+    let call = number(input, 0);
+    let from = call.next;
+    let which = call.value;
+    match which {
+        1 => text_case(&input[from..]),
+        2 => text_case_lent(input, from),
+        3 => refusal_text_case(input, from),
+        4 => refusal_text_case_lent(input, from),
+        _ => (),
+    }
+}
+
+// The next case; whether there was one.
+fn one_case() -> bool {
+    let mut input = [0u8; MOST_BYTES];
+    let n = next_case(&mut input);
+    case(&input[..n]);
+    0 < n
+}
+
+fn main() {
+    let mut i = 0;
+    while i < MOST_CASES {
+        if !one_case() {
+            break;
+        }
+        i += 1;
+    }
+}

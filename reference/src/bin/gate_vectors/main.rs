@@ -1,0 +1,111 @@
+//! The cases of the gate's programs `vectors_point`, `vectors_sweep`,
+//! `vectors_sheet` and `vectors_text`, and what each has to write for them.
+//!
+//! `gate_vectors crates` writes stdin and stdout of each program into its
+//! folder below `crates`, always the same. The answers are the second
+//! implementation's.
+//!
+//! # Calls
+//!
+//! Numbers and slices only. The words on the right are those of
+//! docs/SPECIFICATION.md; lent lists are starred.
+//!
+//! ```text
+//! vectors_point
+//! 1 evaluate(minutes, values, point, bandwidth, row*)      the question at one mark: its row
+//! 2 window(minutes, values, point, bandwidth, bounds*)     the same question: its run
+//! 3 advance(record*, minutes, values, point, bandwidth)    the single step
+//!
+//! vectors_sweep
+//! 1 smooth(minutes, values, points, bandwidths, rows*)     the sweep
+//! 2 fill(first, spacing, preset, points*, bandwidths*)     the mark filler
+//!
+//! vectors_sheet
+//! 1 read(sheet, minutes*, values*, points*, bandwidths*, counts*)   the reader
+//!
+//! vectors_text
+//! 1 text(sheet, out*)                                      the curve that the program writes
+//! 2 the same, with a buffer of another length
+//! 3 refusal_text(number, place, out*)                      the refusal that the program writes
+//! 4 the same, with a buffer of another length
+//! ```
+//!
+//! An answer is a number and a detail. Number 0 is accepted, with the passes
+//! of a sweep, the bytes of a text, else 0 as detail; 1 to 13 is a report, with
+//! its place. The lists for a row, bounds, a record and counts have one length
+//! only (`ROW_WIDTH`, `BOUNDS`, `RECORD`, `COUNTS`), and out has `MOST_OUTPUT` bytes.
+//! Another length of these is report 8 at place 0, before any other. A refused
+//! sheet has no curve: text then answers with the sheet's report, and
+//! refusal_text writes the text of any number and place.
+//!
+//! # Standard input
+//!
+//! Each case is headed by its size in bytes, as five digits and a line feed. A
+//! case is decimal numbers, each followed by exactly one byte, a space or a
+//! line feed: its call, and then what the call takes. A list is its length and
+//! then its numbers:
+//!
+//! ```text
+//! vectors_point   1 MINUTES VALUES point bandwidth length-of-row
+//!                 2 MINUTES VALUES point bandwidth length-of-bounds
+//!                 3 RECORD MINUTES VALUES point bandwidth
+//! vectors_sweep   1 MINUTES VALUES POINTS BANDWIDTHS length-of-rows
+//!                 2 first spacing preset length-of-points length-of-bandwidths
+//! vectors_sheet   1 length-of-minutes -values -points -bandwidths -counts SHEET
+//! vectors_text    1 SHEET
+//!                 2 length-of-out SHEET
+//!                 3 number place
+//!                 4 number place length-of-out
+//! ```
+//!
+//! The bytes of a sheet stand as they are, up to the end of the case. There are
+//! at most 1,100 minutes, values, points or bandwidths, 2,600 rows, 16 numbers
+//! of a record, 8 of a row, bounds or counts, 31,300 bytes of out, 40,000 bytes
+//! of a case and 100,000 cases.
+//!
+//! # Standard output
+//!
+//! For each case a line `number detail`, then each lent list as it is after the
+//! call, whole, a line each. A list is written as runs of equal elements, each
+//! `VALUE` or, for more than one, `VALUE*COUNT`, and a space behind each run.
+//! Before the call a lent list holds 7 everywhere, except the record, which the
+//! case gives. For an accepted text the bytes written stand as they are before
+//! the line of out's other bytes.
+
+mod calls;
+mod draws;
+mod files;
+mod point;
+mod sheet;
+mod sweep;
+mod text;
+
+use files::Cases;
+use reference::generators::random::Random;
+use std::path::PathBuf;
+
+/// Every case, each call's random ones last.
+fn all() -> Cases {
+    let mut cases = Cases::default();
+    point::cases(&mut cases);
+    sweep::cases(&mut cases);
+    sheet::cases(&mut cases);
+    text::cases(&mut cases);
+    let random = &mut Random(1);
+    point::random_cases(random, &mut cases);
+    sweep::random_cases(random, &mut cases);
+    sheet::random_cases(random, &mut cases);
+    text::random_cases(random, &mut cases);
+    cases
+}
+
+fn main() -> std::io::Result<()> {
+    let words: Vec<PathBuf> = std::env::args_os().skip(1).map(PathBuf::from).collect();
+    let [folder] = &words[..] else {
+        eprintln!("use: gate_vectors FOLDER");
+        std::process::exit(2);
+    };
+    let cases = all();
+    cases.check();
+    cases.write(folder)
+}

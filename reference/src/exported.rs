@@ -1,0 +1,20 @@
+//! What the exported calls have beside the calls' meaning: one number for an
+//! answer, and lists of one length only.
+
+use crate::{MOST_MARKS, MOST_READINGS};
+
+/// An answer is so many times its detail, plus its number.
+pub const DETAIL_UNIT: u64 = 256;
+
+/// The numbers of a run's bounds, left and right.
+pub const BOUNDS: usize = 2;
+
+/// The numbers of a record: left, right and the six sums.
+pub const RECORD: usize = 8;
+
+/// The numbers of the reader's counts: kept readings and marks.
+pub const COUNTS: usize = 2;
+
+/// The lengths of the reader's lists: minutes, values, marks, half widths,
+/// counts.
+pub const READER: [usize; 5] = [MOST_READINGS, MOST_READINGS, MOST_MARKS, MOST_MARKS, COUNTS];
