@@ -7,6 +7,9 @@ pub const MAX_OUTPUT: usize = 31291;
 // How many numbers a row has: row-width of specs/Limits.antt.
 pub const ROW_WIDTH: usize = 5;
 
+// What one of a detail counts for in an exported answer: detail-unit of specs/Codes.antt. Every report's number is below it.
+pub const DETAIL_UNIT: u64 = 256;
+
 // SPECIFICATION, "Reports": the thirteen reports. `number` of specs/Reports.antt gives each its number.
 pub enum Report {
     TooLong, // 1, "overlong"

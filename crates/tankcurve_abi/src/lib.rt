@@ -12,6 +12,7 @@ use estimator::evaluate;
 use estimator::smooth;
 use grid::fill_grid;
 use meanings::Advance;
+use meanings::DETAIL_UNIT;
 use meanings::Evaluation;
 use meanings::Filling;
 use meanings::Parsing;
@@ -28,9 +29,6 @@ ghost use Rattle.meanings.specs.Running.{advance as advance-meaning};
 ghost use Rattle.meanings.specs.Calls.{evaluate as evaluate-meaning, smooth as smooth-meaning, smooth-rows, fill, fill-points, fill-bandwidths, counts as counts-of, read, read-minutes, read-values, read-evaluation-points, read-bandwidths, write, write-buffer, write-refusal-text, refusal-buffer};
 ghost use Rattle.meanings.specs.Codes.{answered, no-detail};
 ghost use Rattle.tankcurve_abi.specs.Answers.{sized, stored, bounds as bounds-of, count-numbers, record-numbers, record-of as record-meaning};
-
-// What one of a detail counts for in an answer: detail-unit of the meanings' specs/Codes.antt. Every report's number is below it.
-pub const DETAIL_UNIT: u64 = 256;
 
 // The question at one mark. row: five numbers, left, right, weight, sum, value.
 #[no_mangle]

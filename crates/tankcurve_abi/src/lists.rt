@@ -1,6 +1,6 @@
 // Rows, records and refusals as plain numbers.
-use crate::DETAIL_UNIT;
 use checks::report_number;
+use meanings::DETAIL_UNIT;
 use meanings::Estimate;
 use meanings::PowerSums;
 use meanings::Refusal;

@@ -1,6 +1,6 @@
 // What a call gives: its answer, and a lent list as runs of equal elements.
 use crate::input::at_most;
-use tankcurve_abi::DETAIL_UNIT;
+use meanings::DETAIL_UNIT;
 ghost use mathlib.Core.Path.{_≡_};
 ghost use Prim.Native.Nat.{_+_, _<_, _≤_, _^_};
 ghost use lib.ListN.{length};

@@ -1,5 +1,6 @@
 // The calls that write a text on the vectors of stdin: each answer, the bytes that were written and the rest of the lent buffer. What is
 // written is held to the file stdout. Both files are made by the second implementation: bin gate_vectors of reference/, which says their form.
+use meanings::MAX_OUTPUT;
 use tankcurve_abi::tankcurve_refusal_text;
 use tankcurve_abi::tankcurve_text;
 use vectors_io::MOST_BYTES;
@@ -11,9 +12,6 @@ use vectors_io::next_case;
 use vectors_io::number;
 use vectors_io::show_text;
 
-// The length of the buffer that a text needs.
-const TEXT: usize = 31291;
-
 // The longest buffer of a case.
 const MOST_BUFFER: usize = 31300;
 
@@ -22,7 +20,7 @@ fn text_with(sheet: &[u8], out: &mut [u8]) {
 }
 
 fn text_case(sheet: &[u8]) {
-    let mut out = [7u8; TEXT];
+    let mut out = [7u8; MAX_OUTPUT];
     text_with(sheet, &mut out);
 }
 
@@ -40,7 +38,7 @@ fn refusal_text_with(number: u64, place: u64, out: &mut [u8]) {
 }
 
 fn refusal_text_case(input: &[u8], from: usize) {
-    let mut out = [7u8; TEXT];
+    let mut out = [7u8; MAX_OUTPUT];
     let report = number(input, from);
     let place = number(input, report.next);
     refusal_text_with(report.value, place.value, &mut out);
