@@ -114,8 +114,8 @@ pub fn evaluate_and_window(calls: &mut Calls) -> Found {
             )?;
         }
     }
-    for _ in 0..500 {
-        let (minutes, values, point, bandwidth) = near_half(random);
+    for turn in 0..500 {
+        let (minutes, values, point, bandwidth) = near_half(random, turn);
         both(calls, &minutes, &values, point, bandwidth)?;
     }
     for _ in 0..60_000 {
@@ -350,8 +350,8 @@ pub fn smooth(calls: &mut Calls) -> Found {
         }
     }
     smooth_faults(calls, random)?;
-    for _ in 0..500 {
-        let (minutes, values, point, bandwidth) = near_half(random);
+    for turn in 0..500 {
+        let (minutes, values, point, bandwidth) = near_half(random, turn);
         let points = [point, point + 1];
         calls.smooth(&minutes, &values, &points, &[bandwidth; 2], 2 * ROW_WIDTH)?;
     }

@@ -80,17 +80,18 @@ pub fn any_minutes(random: &mut Random, count: usize) -> Vec<u16> {
 }
 
 /// Samples, a point and a bandwidth whose quotient is a half or so near to one that a double could
-/// not tell it apart.
-pub fn near_half(random: &mut Random) -> (Vec<u16>, Vec<u16>, u16, u32) {
+/// not tell it apart. In six turns in a row it is below a half, above one and at one, over an even
+/// number and over an odd one.
+pub fn near_half(random: &mut Random, turn: usize) -> (Vec<u16>, Vec<u16>, u16, u32) {
     let point = random.below(60_000) as u16;
-    let low = random.between(32_768, 65_534) as u16;
+    let low = (2 * random.between(16_385, 32_767)) as u16 - (turn % 2) as u16;
     let mut samples = Vec::new();
     for _ in 0..random.between(400, 511) {
         let minute = point + random.below(1000) as u16;
         samples.extend([(minute, low), (minute, low + 1)]);
     }
     // Two more, whose weights differ by 1.
-    match random.below(3) {
+    match turn / 2 % 3 {
         0 => samples.extend([(point, low), (point + 1, low + 1)]),
         1 => samples.extend([(point, low + 1), (point + 1, low)]),
         _ => {}

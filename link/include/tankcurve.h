@@ -84,8 +84,8 @@ static inline uint64_t tankcurve_detail(uint64_t answer)
 /*
  * The estimate at one point z with bandwidth h ("the question at one mark": the row) [The row]. row: 5 numbers. left: how many minutes are
  * below z - h; right: how many are at most z + h; weight: the sum over the run, the samples from position left up to but without right, of
- * h^2 - (minute - z)^2; sum: the same, each times its value; value: sum / weight to the nearest whole number, halves upward, or
- * TANKCURVE_MISSING if weight is 0. Detail 0. Reports: 8 (minutes and values differ in length), 6, 4 (place: the lowest position that is
+ * h^2 - (minute - z)^2; sum: the same, each times its value; value: sum / weight to the nearest whole number, a half to the even neighbour,
+ * or TANKCURVE_MISSING if weight is 0. Detail 0. Reports: 8 (minutes and values differ in length), 6, 4 (place: the lowest position that is
  * below the one before), 9.
  */
 uint64_t tankcurve_evaluate(const uint16_t *minutes, size_t minutes_len, const uint16_t *values, size_t values_len, uint16_t point,

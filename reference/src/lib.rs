@@ -84,6 +84,22 @@ fn first_fall(list: &[u16]) -> Option<usize> {
     (1..list.len()).find(|&i| list[i] < list[i - 1])
 }
 
+/// The whole number next to the quotient, and the even one where two are
+/// equally far [The row].
+fn nearest(sum: i128, weight: i128) -> i128 {
+    let below = sum / weight;
+    let above = below + 1;
+
+    // How far the quotient is from both, times the weight.
+    let to_below = sum - below * weight;
+    let to_above = above * weight - sum;
+    if to_below < to_above || (to_below == to_above && below % 2 == 0) {
+        below
+    } else {
+        above
+    }
+}
+
 /// The five numbers of a mark, over the window with both its ends [The row].
 fn row(minutes: &[u16], values: &[u16], mark: u16, half: u32) -> [u64; ROW_WIDTH] {
     let z = i128::from(mark);
@@ -108,11 +124,10 @@ fn row(minutes: &[u16], values: &[u16], mark: u16, half: u32) -> [u64; ROW_WIDTH
         }
     }
 
-    // The quotient; one half is added and the fraction cut off.
     let value = if weight == 0 {
         i128::from(MISSING)
     } else {
-        (2 * sum + weight) / (2 * weight)
+        nearest(sum, weight)
     };
 
     [

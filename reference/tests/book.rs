@@ -143,13 +143,15 @@ fn sweep_and_steps_and_rows() {
             let sum = (h * h - z * z) * s[3] + 2 * z * s[4] - s[5];
             assert_eq!([weight, sum], [i128::from(row[2]), i128::from(row[3])]);
 
-            // Nearest whole number, halves upward; missing only at weight 0.
+            // Nearest whole number, of two the even one; missing only at weight
+            // 0.
             let value = i128::from(row[4]);
             if weight == 0 {
                 assert_eq!(value, 65536);
             } else {
-                assert!((2 * value - 1) * weight <= 2 * sum);
-                assert!(2 * sum < (2 * value + 1) * weight);
+                let ends = [(2 * value - 1) * weight, (2 * value + 1) * weight];
+                assert!(ends[0] <= 2 * sum && 2 * sum <= ends[1]);
+                assert!(value % 2 == 0 || !ends.contains(&(2 * sum)));
                 assert!(value <= 65535);
             }
         }

@@ -70,8 +70,27 @@ fn c6_left_edge_below_zero() {
 }
 
 #[test]
-fn c7_half_upward() {
-    assert_eq!(one_mark(&[0, 0], &[2, 3], 0, 1), Ok([0, 2, 2, 5, 3]));
+fn c7_half_to_even() {
+    assert_eq!(one_mark(&[0, 0], &[2, 3], 0, 1), Ok([0, 2, 2, 5, 2]));
+}
+
+/// Halves over even and odd numbers, and what lies a quarter beside them.
+#[test]
+fn halves_to_even() {
+    for (values, row) in [
+        (&[0, 1][..], [0, 2, 2, 1, 0]),
+        (&[1, 2], [0, 2, 2, 3, 2]),
+        (&[65534, 65535], [0, 2, 2, 131069, 65534]),
+        (&[1, 1, 1, 2], [0, 4, 4, 5, 1]),
+        (&[1, 1, 2, 2], [0, 4, 4, 6, 2]),
+        (&[1, 2, 2, 2], [0, 4, 4, 7, 2]),
+        (&[2, 2, 2, 3], [0, 4, 4, 9, 2]),
+        (&[2, 2, 3, 3], [0, 4, 4, 10, 2]),
+        (&[2, 3, 3, 3], [0, 4, 4, 11, 3]),
+    ] {
+        let minutes = vec![0; values.len()];
+        assert_eq!(one_mark(&minutes, values, 0, 1), Ok(row));
+    }
 }
 
 #[test]

@@ -54,7 +54,8 @@ pub fn minus_sample(s: PowerSums, time: u16, value: u16) -> PowerSums
     }
 }
 
-// A sum divided by its weight to the nearest whole number, halves upward; 65,536 for missing if the weight is 0.
+// A sum divided by its weight to the nearest whole number, a half to the even neighbour; 65,536 for missing if the weight is 0. The rest is held
+// against what it lacks of the weight, so that nothing is doubled.
 pub fn value(sum: u64, weight: u64) -> u64
     ensures { λ r. ⌜ r ≡ value-of sum weight ⌝ }
 {
@@ -63,10 +64,14 @@ pub fn value(sum: u64, weight: u64) -> u64
     }
     let quotient = sum / weight;
     let rest = sum % weight;
-    if weight - rest <= rest {
+    let lack = weight - rest;
+    if rest < lack {
+        return quotient;
+    }
+    if lack < rest {
         return quotient + 1;
     }
-    quotient
+    quotient + quotient % 2
 }
 
 // The least minute that is not under the left edge: z − h, or 0 where that is negative.

@@ -92,7 +92,7 @@ one-published-row ts vs z h d e a b = λ i. record { left = left i; right = righ
     by (yes o) = a .value-missing .1 (omega arith) ∙ sym (b .value-missing .1 (omega arith))
     by (no o) =
         let n = b .value-is (omega arith) in
-        nearest-unique (d .sum) (d .weight) _ _ (a .value-is (omega arith)) (rw (← sum, ← weight) at n)
+        nearest-unique (d .sum) (d .weight) _ _ (omega arith) (a .value-is (omega arith)) (rw (← sum, ← weight) at n)
 
     value : d .value ≡ e .value
     value = by (decLe (d .weight) 0)

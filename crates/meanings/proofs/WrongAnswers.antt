@@ -71,6 +71,11 @@ pub no-value-from-the-row-before : ¬ (smooth-rows full (0 ∷ []) (50 ∷ []) (
 unfolding smooth-rows estimate left-of right-of kernel distance weight-of sum-of value-of rounded
 no-value-from-the-row-before e = let n : _≡_ {A = ℕ} 65536 50 = ap (λ (r : List ℕ). getD r 9 0) e in omega arith
 
+-- a half upward in the sweep, whatever the question at one mark does
+pub no-half-upward-in-the-sweep : ¬ (smooth-rows full (0 ∷ 0 ∷ []) (2 ∷ 3 ∷ []) (0 ∷ []) (1 ∷ []) (7 ∷ 7 ∷ 7 ∷ 7 ∷ 7 ∷ []) ≡ 0 ∷ 2 ∷ 2 ∷ 5 ∷ 3 ∷ [])
+unfolding smooth-rows estimate left-of right-of kernel distance weight-of sum-of value-of rounded
+no-half-upward-in-the-sweep e = let n : _≡_ {A = ℕ} 2 3 = ap (λ (r : List ℕ). getD r 4 0) e in omega arith
+
 -- report 5 looked at before report 4
 pub five-not-before-four : ¬ (smooth full (5 ∷ 4 ∷ []) (1 ∷ 2 ∷ []) (1 ∷ 0 ∷ []) (1 ∷ 1 ∷ []) (7 ∷ 7 ∷ 7 ∷ 7 ∷ 7 ∷ 7 ∷ 7 ∷ 7 ∷ 7 ∷ 7 ∷ [])
     ≡ refused (record { number = 5; place = 1 }))

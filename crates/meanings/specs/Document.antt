@@ -23,7 +23,7 @@ document-cases =
     ∷ row [] [] 5 1 ⇒ estimated (is-row 0 0 0 0 65536)
     ∷ row (10 ∷ []) (40 ∷ []) 20 10 ⇒ estimated (is-row 0 1 0 0 65536)
     ∷ row (0 ∷ []) (50 ∷ []) 3 10 ⇒ estimated (is-row 0 1 91 4550 50)
-    ∷ row (0 ∷ 0 ∷ []) (2 ∷ 3 ∷ []) 0 1 ⇒ estimated (is-row 0 2 2 5 3)
+    ∷ row (0 ∷ 0 ∷ []) (2 ∷ 3 ∷ []) 0 1 ⇒ estimated (is-row 0 2 2 5 2)
     ∷ row (65535 ∷ []) (65535 ∷ []) 65535 65536 ⇒ estimated (is-row 0 1 4294967296 281470681743360 65535)
     -- C9: the rows' last five are the second row
     ∷ smooth-over full (50 ∷ []) (9 ∷ []) (0 ∷ 100 ∷ []) (1 ∷ 1 ∷ []) (7 ∷ 7 ∷ 7 ∷ 7 ∷ 7 ∷ 7 ∷ 7 ∷ 7 ∷ 7 ∷ 7 ∷ [])

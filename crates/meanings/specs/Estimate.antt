@@ -48,9 +48,10 @@ weight-of ts z h = over-run (λ i. kernel z h (getD ts i 0)) ts z h
 unfoldable pub sum-of : List ℕ → List ℕ → ℕ → ℕ → ℕ
 sum-of ts vs z h = over-run (λ i. kernel z h (getD ts i 0) * getD vs i 0) ts z h
 
--- s divided by w to the nearest whole number, halves upward
+-- s divided by w to the nearest whole number, a half to the even neighbour: below a half the quotient, above it one more, and at a half the
+-- quotient plus its own remainder by 2
 unfoldable pub rounded : ℕ → ℕ → ℕ
-rounded s w = pick (leb w (2 * (s % w))) (s / w + 1) (s / w)
+rounded s w = pick (ltb (2 * (s % w)) w) (s / w) (pick (ltb w (2 * (s % w))) (s / w + 1) (s / w + s / w % 2))
 
 -- the number that means missing
 abbrev pub missing : ℕ

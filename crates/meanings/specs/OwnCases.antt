@@ -1,5 +1,5 @@
--- Cases of our own: the closed right edge, which C1 to C12 leave open, and each report of each call that can give it, with its place and
--- where a later report of the call's order holds too.
+-- Cases of our own: the closed right edge, which C1 to C12 leave open, each report of each call that can give it, with its place and where a
+-- later report of the call's order holds too, and values at a half and beside it.
 use Prim.Native.Nat.{ℕ, _+_, _-_, _^_}
 use mathlib.Core.List.{List, [], _∷_, _++_}
 use lib.ListN.{replicate}
@@ -329,5 +329,27 @@ record-cases =
     ∷ record-gives (is-record 0 1 (is-sums 0 5 3 0 7 4)) 2 1 ⇒ estimated (is-row 0 1 17 24 1)
     ∷ []
 
+-- halves go to the even neighbour, down and up; what lies beside a half goes to its nearest, over an odd quotient and over an even one
+abbrev pub rounding-cases : List Case
+rounding-cases =
+    row (0 ∷ 0 ∷ []) (0 ∷ 1 ∷ []) 0 1 ⇒ estimated (is-row 0 2 2 1 0)
+    ∷ row (0 ∷ 0 ∷ []) (1 ∷ 2 ∷ []) 0 1 ⇒ estimated (is-row 0 2 2 3 2)
+    ∷ row (0 ∷ 0 ∷ []) (65534 ∷ 65535 ∷ []) 0 1 ⇒ estimated (is-row 0 2 2 131069 65534)
+    -- weight 4
+    ∷ row (0 ∷ 0 ∷ 0 ∷ 0 ∷ []) (1 ∷ 1 ∷ 1 ∷ 2 ∷ []) 0 1 ⇒ estimated (is-row 0 4 4 5 1)
+    ∷ row (0 ∷ 0 ∷ 0 ∷ 0 ∷ []) (1 ∷ 1 ∷ 2 ∷ 2 ∷ []) 0 1 ⇒ estimated (is-row 0 4 4 6 2)
+    ∷ row (0 ∷ 0 ∷ 0 ∷ 0 ∷ []) (1 ∷ 2 ∷ 2 ∷ 2 ∷ []) 0 1 ⇒ estimated (is-row 0 4 4 7 2)
+    ∷ row (0 ∷ 0 ∷ 0 ∷ 0 ∷ []) (2 ∷ 2 ∷ 2 ∷ 3 ∷ []) 0 1 ⇒ estimated (is-row 0 4 4 9 2)
+    ∷ row (0 ∷ 0 ∷ 0 ∷ 0 ∷ []) (2 ∷ 2 ∷ 3 ∷ 3 ∷ []) 0 1 ⇒ estimated (is-row 0 4 4 10 2)
+    ∷ row (0 ∷ 0 ∷ 0 ∷ 0 ∷ []) (2 ∷ 3 ∷ 3 ∷ 3 ∷ []) 0 1 ⇒ estimated (is-row 0 4 4 11 3)
+    -- the sweep, the row of a record, and the program: one half down and one up
+    ∷ smooth-over full (0 ∷ 0 ∷ 9 ∷ 9 ∷ []) (2 ∷ 3 ∷ 3 ∷ 4 ∷ []) (0 ∷ 9 ∷ []) (1 ∷ 1 ∷ []) (fives 10)
+    ⇒ smooth-gives (given 6) (0 ∷ 2 ∷ 2 ∷ 5 ∷ 2 ∷ 2 ∷ 4 ∷ 2 ∷ 7 ∷ 4 ∷ [])
+    ∷ record-gives (is-record 0 2 (is-sums 2 0 0 5 0 0)) 0 1 ⇒ estimated (is-row 0 2 2 5 2)
+    ∷ record-gives (is-record 0 2 (is-sums 2 0 0 7 0 0)) 0 1 ⇒ estimated (is-row 0 2 2 7 4)
+    ∷ output "mark,half\n0,1\n9,1\n\nminute,inj,vdk\n0,3,2\n0,4,3\n9,5,3\n9,6,4\n"
+    ⇒ written (ascii "mark,half,left,right,weight,sum,vdk\n0,1,0,2,2,5,2\n9,1,2,4,2,7,4\n\nkept,passes\n4,6\n")
+    ∷ []
+
 abbrev pub own-cases : List Case
-own-cases = one-point-cases ++ step-cases ++ smooth-cases ++ fill-cases ++ sheet-cases ++ text-cases ++ record-cases
+own-cases = one-point-cases ++ step-cases ++ smooth-cases ++ fill-cases ++ sheet-cases ++ text-cases ++ record-cases ++ rounding-cases

@@ -1,6 +1,6 @@
 -- What makes five numbers the published row of an evaluation point z with bandwidth h: the window's edges, and weight and sum as the source
 -- paper's estimators have them, constant factors apart. At most one row is published; the law one-published-row says so.
-use Prim.Native.Nat.{ℕ, _+_, _-_, _*_, _^_, _≤_, _<_}
+use Prim.Native.Nat.{ℕ, _+_, _-_, _*_, _%_, _^_, _≤_, _<_}
 use mathlib.Core.Path.{_≡_}
 use mathlib.Core.Logic.{_↔_}
 use mathlib.Core.List.{List}
@@ -9,10 +9,13 @@ use Rattle.meanings.specs.declared.Estimate.{Estimate}
 use Rattle.meanings.specs.Estimate.{Inside, missing}
 use Rattle.meanings.specs.Published.{Fraction, _⊕_, _≈_, density, regression-above, regression-below, regression, range-sum}
 
--- v is s / w to the nearest whole number, halves upward: v − 1/2 ≤ s / w < v + 1/2
+-- v is s / w to the nearest whole number, a half to the even neighbour: v − 1/2 ≤ s / w ≤ v + 1/2, and where s / w is one of the two ends,
+-- another whole number is as near, and v is even
 pub record Nearest (s w v : ℕ) : Type 0 where
   pub low : 2 * (v * w) ≤ 2 * s + w
-  pub high : 2 * s + w < 2 * (v * w) + 2 * w
+  pub high : 2 * s ≤ 2 * (v * w) + w
+  pub low-even : 2 * (v * w) ≡ 2 * s + w → v % 2 ≡ 0
+  pub high-even : 2 * s ≡ 2 * (v * w) + w → v % 2 ≡ 0
 
 -- 3 n / (4 h³): what the estimators of bandwidth h make of a whole number n of weight
 abbrev pub scaled : ℕ → ℕ → Fraction
@@ -44,7 +47,7 @@ pub record PublishedRow (ts vs : List ℕ) (z h : ℕ) (e : Estimate) : Type 0 w
       ≡ h * h * range-sum 0 1 ts vs z h + 2 * z * range-sum 1 1 ts vs z h
   pub weight-by-sums : e .weight + z * z * range-sum 0 0 ts vs z h + range-sum 2 0 ts vs z h
       ≡ h * h * range-sum 0 0 ts vs z h + 2 * z * range-sum 1 0 ts vs z h
-  -- the value is sum / weight to the nearest whole number, halves upward, and missing exactly if the weight is 0
+  -- the value is sum / weight to the nearest whole number, a half to the even neighbour, and missing exactly if the weight is 0
   pub value-is : 0 < e .weight → Nearest (e .sum) (e .weight) (e .value)
   pub value-missing : (e .value ≡ missing) ↔ (e .weight ≡ 0)
   -- both fit their 64 bits

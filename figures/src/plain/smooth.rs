@@ -1,6 +1,7 @@
 //! The whole sweep by fast sum updating: one step a point, and an estimate after each.
 
 use super::{smooth_fault, Refusal, MISSING, ROW_WIDTH};
+use std::cmp::Ordering;
 
 /// The six running sums, modulo 2^64.
 #[derive(Clone, Copy, Default)]
@@ -93,17 +94,17 @@ fn combined(s0: u64, s1: u64, s2: u64, z: u64, h: u64) -> u64 {
     h * h * s0 + 2 * z * s1 - (z * z * s0 + s2)
 }
 
-/// The quotient to the nearest whole number, halves upward.
+/// The quotient to the nearest whole number, a half to the even neighbour.
 pub fn value(sum: u64, weight: u64) -> u64 {
     if weight == 0 {
         return MISSING;
     }
     let quotient = sum / weight;
     let rest = sum % weight;
-    if weight - rest <= rest {
-        quotient + 1
-    } else {
-        quotient
+    match rest.cmp(&(weight - rest)) {
+        Ordering::Less => quotient,
+        Ordering::Equal => quotient + quotient % 2,
+        Ordering::Greater => quotient + 1,
     }
 }
 

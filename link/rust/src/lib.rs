@@ -124,7 +124,7 @@ pub struct Estimate {
     pub weight: u64,
     /// The sum of the weights, each times its sample's value.
     pub sum: u64,
-    /// The sum divided by the weight to the nearest whole number, halves upward, or [`MISSING`].
+    /// The sum divided by the weight to the nearest whole number, a half to the even neighbour, or [`MISSING`].
     pub value: u64,
 }
 

@@ -31,9 +31,23 @@ pub const ONE_MARK: [OneMark; 5] = [
     // C6: mark minus half width below 0.
     (&[0], &[50], 3, 10, [0, 1, 91, 4550, 50]),
     // C7.
-    (&[0, 0], &[2, 3], 0, 1, [0, 2, 2, 5, 3]),
+    (&[0, 0], &[2, 3], 0, 1, [0, 2, 2, 5, 2]),
     // C8.
     (&[65535], &[65535], 65535, 65536, [0, 1, 4294967296, 281470681743360, 65535]),
+];
+
+/// Values of readings at minute 0, and the row at mark 0 and half width 1: at a half over even and odd numbers, and beside one.
+#[rustfmt::skip]
+pub const HALVES: [(&[u16], Row); 9] = [
+    (&[0, 1], [0, 2, 2, 1, 0]),
+    (&[1, 2], [0, 2, 2, 3, 2]),
+    (&[65534, 65535], [0, 2, 2, 131069, 65534]),
+    (&[1, 1, 1, 2], [0, 4, 4, 5, 1]),
+    (&[1, 1, 2, 2], [0, 4, 4, 6, 2]),
+    (&[1, 2, 2, 2], [0, 4, 4, 7, 2]),
+    (&[2, 2, 2, 3], [0, 4, 4, 9, 2]),
+    (&[2, 2, 3, 3], [0, 4, 4, 10, 2]),
+    (&[2, 3, 3, 3], [0, 4, 4, 11, 3]),
 ];
 
 /// The greatest sum possible.
@@ -42,6 +56,7 @@ pub const GREATEST: Row = [0, 1024, 1 << 42, (1 << 58) - (1 << 42), 65535];
 pub fn cases(cases: &mut Cases) {
     published(cases);
     one_mark(cases);
+    halves(cases);
     steps(cases);
     order(cases);
     lengths(cases);
@@ -113,6 +128,25 @@ fn one_mark(cases: &mut Cases) {
     ];
     for (point, bandwidth) in marks {
         cases.point(&DAYS, &LEVELS, point, bandwidth);
+    }
+}
+
+fn halves(cases: &mut Cases) {
+    for (values, row) in HALVES {
+        cases
+            .point(&vec![0; values.len()], values, 0, 1)
+            .accepted(0, &row);
+    }
+
+    // At a half of the widest window, and as near to one as its weights come, over an even number and an odd one.
+    for values in [
+        [65532, 65533],
+        [65533, 65532],
+        [65533, 65534],
+        [65534, 65533],
+    ] {
+        cases.point(&[0, 0], &values, 0, 65536);
+        cases.point(&[0, 1], &values, 0, 65536);
     }
 }
 

@@ -39,6 +39,10 @@ fn published(cases: &mut Cases) {
     ] {
         cases.sheet(&sheet_of("10,9\n", readings)).used(kept, 1);
     }
+
+    // A value at a half, down and up.
+    let sheet = sheet_of("0,1\n9,1\n", "0,3,2\n0,4,3\n9,5,3\n9,6,4\n");
+    cases.sheet(&sheet).used(4, 2);
 }
 
 #[rustfmt::skip]

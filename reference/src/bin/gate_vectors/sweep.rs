@@ -2,7 +2,7 @@
 
 use crate::draws::{length, sample_count, LISTS};
 use crate::files::Cases;
-use crate::point::{GREATEST, ONE_MARK};
+use crate::point::{GREATEST, HALVES, ONE_MARK};
 use reference::generators::random::Random;
 use reference::{KNOB, MISSING, ROW_WIDTH};
 
@@ -17,6 +17,7 @@ type Swept = (
 pub fn cases(cases: &mut Cases) {
     published(cases);
     sweeps(cases);
+    halves(cases);
     fillings(cases);
     order(cases);
     lengths(cases);
@@ -52,6 +53,17 @@ fn published(cases: &mut Cases) {
         assert_eq!(answer.lists[1], [u64::from(half); 3]);
     }
     cases.fill(100, 7, 12, 3, 3).refused(12, 0);
+}
+
+#[rustfmt::skip]
+fn halves(cases: &mut Cases) {
+    for (values, row) in HALVES {
+        cases.smooth(&vec![0; values.len()], values, &[0], &[1], ROW_WIDTH).accepted(row[1], &row);
+    }
+    // One down and one up.
+    let (minutes, values) = ([0, 0, 9, 9], [2, 3, 3, 4]);
+    let rows = [0, 2, 2, 5, 2, 2, 4, 2, 7, 4];
+    cases.smooth(&minutes, &values, &[0, 9], &[1, 1], 2 * ROW_WIDTH).accepted(6, &rows);
 }
 
 /// The next drawn number, below 65,537.
