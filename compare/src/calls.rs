@@ -13,7 +13,7 @@ use std::fmt::{self, Debug};
 use std::io::{self, Write};
 use std::path::PathBuf;
 use std::process::{Command, Stdio};
-use tankcurve::{slices, Counts, Error, Estimate, Refusal, Report, RunningSums};
+use tankcurve::{slices, Counts, Error, Estimate, RecordRow, Refusal, Report, RunningSums};
 
 /// A number, 0 or a report, and its detail.
 type Answer = (u8, u64);
@@ -45,6 +45,7 @@ pub struct Calls {
     evaluate: Tally,
     window: Tally,
     advance: Tally,
+    row: Tally,
     smooth: Tally,
     fill: Tally,
     read: Tally,
@@ -148,6 +149,7 @@ impl Calls {
             evaluate: Tally::new("evaluate", &[8, 6, 4, 9]),
             window: Tally::new("window", &[8, 6, 4, 9]),
             advance: Tally::new("advance", &[8, 6, 11, 9]),
+            row: Tally::new("row", &[8]),
             smooth: Tally::new("smooth", &[8, 6, 7, 4, 5, 9, 10]),
             fill: Tally::new("fill", &[8, 7, 6, 12, 13]),
             read: Tally::new("read", &[8, 1, 2, 3, 4, 5, 9, 10, 6, 7]),
@@ -157,11 +159,12 @@ impl Calls {
         }
     }
 
-    pub fn tallies(&self) -> [&Tally; 9] {
+    pub fn tallies(&self) -> [&Tally; 10] {
         [
             &self.evaluate,
             &self.window,
             &self.advance,
+            &self.row,
             &self.smooth,
             &self.fill,
             &self.read,
@@ -206,7 +209,11 @@ impl Calls {
             }
             let got =
                 tankcurve::evaluate(lent_minutes.list(), lent_values.list(), point, bandwidth);
-            let fields = |e: Estimate| [e.left, e.right, e.weight, e.sum, e.value];
+            let fields = |e: Estimate| {
+                // Missing by the weight, and else the number itself.
+                let value = e.value().map_or(tankcurve::MISSING, u64::from);
+                [e.left(), e.right(), e.weight(), e.sum(), value]
+            };
             same("typed", result, typed(got).map(fields))
         });
         self.evaluate.count(answer.0);
@@ -373,6 +380,47 @@ impl Calls {
         )
     }
 
+    /// The row of a record, also through lists of other lengths than 8 and 5.
+    pub fn row(
+        &mut self,
+        record: Record,
+        point: u16,
+        bandwidth: u32,
+        record_len: usize,
+        row_len: usize,
+    ) -> Result<(), String> {
+        let result = reference::record_row(record, point, bandwidth);
+        let fits = record_len == 8 && row_len == ROW_WIDTH;
+        let answer = if fits { (0, 0) } else { WRONG_LENGTH };
+        let cycle = numbers(record).into_iter().cycle();
+        let held: Vec<u64> = cycle.take(record_len).collect();
+        let lent_record = Lent::holding(&mut self.patterns, &held);
+        let mut row = Lent::patterned(&mut self.patterns, row_len);
+        let found = attempt(|| {
+            let got = slices::row(lent_record.list(), point, bandwidth, row.list_mut());
+            same("returned", code(answer), got)?;
+            lent_record.untouched("record")?;
+            if fits {
+                row.holds("row", &result)?;
+            } else {
+                row.untouched("row")?;
+            }
+            let got = tankcurve::row(running_sums(record), point, bandwidth);
+            let fields = |r: RecordRow| [r.left(), r.right(), r.weight(), r.sum(), r.raw_value()];
+            same("typed", Ok(result), typed(got).map(fields))
+        });
+        self.row.count(answer.0);
+        with_case!(
+            found,
+            "row",
+            record = numbers(record),
+            point = point,
+            bandwidth = bandwidth,
+            record_len = record_len,
+            row_len = row_len
+        )
+    }
+
     pub fn smooth(
         &mut self,
         minutes: &[u16],
@@ -415,7 +463,12 @@ impl Calls {
                 lent_bandwidths.list(),
                 typed_rows.list_mut(),
             );
-            same("typed", result, typed(got))?;
+            let got = typed(got).map(|curve| {
+                let rows = curve.rows.flat_map(<[u64; ROW_WIDTH]>::from);
+                (curve.passes, rows.collect::<Vec<u64>>())
+            });
+            let rows = |passes| (passes, front.clone());
+            same("typed", result.map(rows), got)?;
             typed_rows.holds("typed, rows", &front)
         });
         self.smooth.count(answer.0);

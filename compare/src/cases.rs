@@ -236,6 +236,51 @@ pub fn advance(calls: &mut Calls) -> Found {
     Ok(())
 }
 
+/// Records of any origin and those of steps, at any point and with any bandwidth; where the record is that
+/// of the point's window, the row is also that of the question at one mark.
+pub fn row(calls: &mut Calls) -> Found {
+    let random = &mut Random(9);
+    for _ in 0..20_000 {
+        let record = Record {
+            left: some_sums(random)[0],
+            right: some_sums(random)[1],
+            sums: some_sums(random),
+        };
+        let point = some_point(random, &[]);
+        let bandwidth = match random.below(3) {
+            0 => some_sums(random)[2] as u32,
+            1 => random.pick(&[0, 1, 65_535, 65_536, 65_537, u32::MAX - 1, u32::MAX]),
+            _ => u32::from(point) + random.below(3) as u32,
+        };
+        calls.row(record, point, bandwidth, 8, ROW_WIDTH)?;
+        if random.chance(2) {
+            let record_len = random.pick(&wrong_lengths(8));
+            let row_len = random.pick(&wrong_lengths(ROW_WIDTH));
+            calls.row(record, point, bandwidth, record_len, ROW_WIDTH)?;
+            calls.row(record, point, bandwidth, 8, row_len)?;
+            calls.row(record, point, bandwidth, record_len, row_len)?;
+        }
+    }
+    for _ in 0..2_000 {
+        let count = sample_count(random);
+        let minutes = LISTS.ordered_minutes(random, count);
+        let values = LISTS.some_values(random, count);
+        let (points, bandwidths) = LISTS.fit_points(random, &minutes, 10);
+        let mut record = Record::default();
+        for (&point, &bandwidth) in points.iter().zip(&bandwidths) {
+            record = calls.advance(record, &minutes, &values, point, bandwidth)?;
+            calls.row(record, point, bandwidth, 8, ROW_WIDTH)?;
+            let direct = reference::one_mark(&minutes, &values, point, bandwidth);
+            if direct != Ok(reference::record_row(record, point, bandwidth)) {
+                return Err(format!(
+                    "row: {record:?} at {point}, {bandwidth} is not {direct:?}"
+                ));
+            }
+        }
+    }
+    Ok(())
+}
+
 /// Steps over the same samples, refused ones among them: from a fresh record with edges that never
 /// fall, or from any valid one with points anywhere.
 fn steps(calls: &mut Calls, random: &mut Random) -> Found {

@@ -39,7 +39,7 @@ impl Buffers {
     }
 }
 
-/// 1,024 samples and 512 points, each number divided by `part`, spread over the same minutes, 10,000 to
+/// 1,024 readings and 512 marks, each number divided by `part`, spread over the same minutes, 10,000 to
 /// 65,242. Every number of the sheet has five digits if the bandwidth has.
 pub fn input(part: usize, bandwidth: u32) -> Input {
     let samples = 0..MAX_SAMPLES / part;

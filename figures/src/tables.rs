@@ -215,8 +215,8 @@ pub fn print(program: &str, plain: &str) -> Result<(), String> {
         "Before any time was taken the contestants gave equal answers and left equal buffers on {} inputs, those of
 the tables among them and most of the others with a fault, and the two programs wrote the same.
 
-Inputs: {} samples and {} points, minutes 10,000 to 65,242 every 54, marks 10,000 to 65,188 every 108,
-bandwidth {} where none is named: a sweep of {} passes. Their sheet has {} bytes, each number five
+Inputs: {} readings and {} marks, minutes 10,000 to 65,242 every 54, marks 10,000 to 65,188 every 108,
+half width {} where none is named: a sweep of {} passes. Their sheet has {} bytes, each number five
 digits, every reading kept. A half and a quarter have every second and every fourth minute and mark.
 
 Buffers: lists and sheets on the heap; the lent buffers (minutes and values 1,024 × 2 bytes, marks 512 × 2,
@@ -250,5 +250,6 @@ all, the loader's too.
 fn passes(given: &Input) -> u64 {
     let mut rows = vec![0; ROW_WIDTH * given.points.len()];
     let (minutes, values) = (&given.minutes, &given.values);
-    tankcurve::smooth(minutes, values, &given.points, &given.bandwidths, &mut rows).unwrap_or(0)
+    tankcurve::smooth(minutes, values, &given.points, &given.bandwidths, &mut rows)
+        .map_or(0, |curve| curve.passes)
 }

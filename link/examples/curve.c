@@ -1,6 +1,6 @@
 /*
  * Reads a sheet from standard input and writes its curve, or why it was refused; then the estimates of lists given here, five numbers a
- * point, and the passes.
+ * point, with a dash for a missing value, and the passes.
  */
 #include "tankcurve.h"
 
@@ -10,7 +10,7 @@
 /* Tells a report that this program's own lists and buffers should not earn; the status to end with. */
 static int refused(uint64_t answer)
 {
-    printf("report %d at %" PRIu64 "\n", (int)tankcurve_number(answer), tankcurve_detail(answer));
+    printf("report %d, %s, at %" PRIu64 "\n", (int)tankcurve_number(answer), tankcurve_word(tankcurve_number(answer)), tankcurve_detail(answer));
     return 1;
 }
 
@@ -41,7 +41,12 @@ int main(void)
         return refused(answer);
     for (size_t k = 0; k < 3; k++) {
         const uint64_t *row = rows + k * TANKCURVE_ROW_LEN;
-        printf("%" PRIu64 " %" PRIu64 " %" PRIu64 " %" PRIu64 " %" PRIu64 "\n", row[0], row[1], row[2], row[3], row[4]);
+        printf("%" PRIu64 " %" PRIu64 " %" PRIu64 " %" PRIu64, row[TANKCURVE_ROW_LEFT], row[TANKCURVE_ROW_RIGHT], row[TANKCURVE_ROW_WEIGHT],
+               row[TANKCURVE_ROW_SUM]);
+        if (tankcurve_present(row))
+            printf(" %" PRIu64 "\n", row[TANKCURVE_ROW_VALUE]);
+        else
+            printf(" -\n");
     }
     printf("passes %" PRIu64 "\n", tankcurve_detail(answer));
     return fflush(stdout) == 0 ? 0 : 1;

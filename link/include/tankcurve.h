@@ -1,29 +1,47 @@
 /*
  * The tank curve for C: Epanechnikov kernel regression in exact whole numbers, proved in Rattle. Link libtankcurve_abi.a, which
- * `rt staticlib tankcurve_abi` writes to target/staticlib.
+ * `rt staticlib tankcurve_abi` writes to target/staticlib; `link/install PREFIX` puts both with a pkg-config file under a prefix.
  *
  * A list is a pointer and its number of elements. Every call ends, whatever its lists contain and however long they are, so that nothing
- * has to be tested before it. What the calls mean stands in docs/SPECIFICATION.md; a title in square brackets names its section. Words in
- * quotes are the trade's. A minute counts from pitching; a value is in tenths of a microgram per litre.
+ * has to be tested before it. The calls use no heap and no global memory and keep nothing from call to call, so that they may run in several
+ * threads and in interrupts at once, each on lists of its own. What the calls mean stands in docs/SPECIFICATION.md; a title in square brackets
+ * names its section. Words in quotes are the trade's. A minute counts from pitching; a value is in tenths of a microgram per litre.
  *
- * Every call returns TANKCURVE_DETAIL_UNIT * detail + number. Number 0 means accepted; what the detail then is stands at each call. Number 1
- * to 13 is a report and the detail its place; every list that was lent then holds what it held before. Each call gives the first of its
- * reports whose condition holds, in the order that stands at it. A place is 0 unless something else is said there. A list for the answer
- * (row, bounds, record, counts, out) of another length than stated is report 8 at place 0, found before all else.
+ * Every call but tankcurve_version returns TANKCURVE_DETAIL_UNIT * detail + number. Number 0 means accepted; what the detail then is stands at
+ * each call. Number 1 to 13 is a report and the detail its place; every list that was lent then holds what it held before: a row that is
+ * still there is that of an earlier call. Each call gives the first of its reports whose condition holds, in the order that stands at it. A
+ * place is 0 unless something else is said there.
+ *
+ * Report 8 is about the lengths of the lists that the caller lends, found before all else, at place 0. A list for the answer (row, bounds,
+ * record, counts, out, and the reader's minutes, values, points and bandwidths) has exactly the length that is stated: a longer one is
+ * refused too. rows has exactly TANKCURVE_ROW_LEN times as many elements as there are points: pass that product and not what the array
+ * could hold. In tankcurve_read and tankcurve_text every other number is about the sheet, and its place a byte of the sheet, counted from 0;
+ * in all other calls a place is a position in a list, from 0.
+ *
+ * An empty list has length 0 and a pointer that is neither null nor misaligned; nothing is read or written there. Pass that of any object of
+ * the element's type, such as `uint16_t none;` and `&none, 0`.
+ *
+ * A sheet, in which LF is the byte 10 and no byte may stand that is not named here: no CR, no blank [The sheet]:
+ *   sheet   = "mark,half" LF, mark LF once or more, LF, "minute,inj,vdk" LF, reading LF any number of times
+ *   mark    = number "," number                   point and bandwidth, the point up to 65,535, the bandwidth 1 to 65,536
+ *   reading = number "," number "," number        minute and value up to 65,535; between them the injection, 1 to 65,535
+ *   number  = one to five digits, of which the first is not 0 unless it is the only one
+ * A reading of injection 1 or 2 is checked as every other, and the next one against its minute, but it is not kept.
  *
  * The proof is about the calls on Rattle's abstract machine, where a slice is what it says. Outside it are:
- *   - null pointers, also for empty lists: pass a non-null, aligned pointer with length 0;
+ *   - null pointers, also for empty lists;
  *   - dangling or misaligned pointers, and lengths that do not belong to their pointers;
  *   - a list that is written and overlaps another; lists that are only read may overlap;
  *   - lists that someone else writes, or reads while they are written, during the call;
  *   - the stack: on the largest sheet tankcurve_text took 35 KB and tankcurve_read less than 8 KB, the other calls under 1 KB;
  *   - the compiler's back end below the proof, memcpy and memset, which the archive takes from the host, the linker and the machine. The
  *     archive links only into programs for x86-64 Linux;
- *   - this header: nothing compares it with the Rattle source but link/tests/parameters.c and link/examples/curve.c.
+ *   - this header: nothing compares it with the Rattle source but the tests in link/tests and the examples in link/examples.
  */
 #ifndef TANKCURVE_H
 #define TANKCURVE_H
 
+#include <stdbool.h>
 #include <stddef.h>
 #include <stdint.h>
 
@@ -31,36 +49,90 @@
 extern "C" {
 #endif
 
+/* A call whose answer must not be dropped: a refusal that goes unseen leaves the numbers of an earlier call in place. */
+#if defined(__GNUC__) || defined(__clang__)
+#define TANKCURVE_ANSWER __attribute__((warn_unused_result))
+#else
+#define TANKCURVE_ANSWER
+#endif
+
+/*
+ * The version that this header belongs to, 1.0.0: major * 65536 + minor * 256 + patch. tankcurve_version gives that of the archive. What is
+ * counted by it stands in link/abi-1.0.0.
+ */
+#define TANKCURVE_VERSION 0x010000
+
 /* The lengths and limits. */
 #define TANKCURVE_MAX_SAMPLES 1024 /* samples ("readings") in a list, and the length of the reader's lists of them */
 #define TANKCURVE_MAX_POINTS 512   /* points ("marks") in a list, and the length of the reader's lists of them */
 #define TANKCURVE_MAX_SHEET 32768  /* bytes of a sheet, and the greatest place of a report */
 #define TANKCURVE_MAX_OUTPUT 31291 /* bytes of a text; the length of every out */
-#define TANKCURVE_ROW_LEN 5        /* left, right, weight, sum, value */
-#define TANKCURVE_BOUNDS_LEN 2     /* left, right */
-#define TANKCURVE_RECORD_LEN 8     /* left, right, s00, s10, s20, s01, s11, s21 */
-#define TANKCURVE_COUNTS_LEN 2     /* samples, points */
+#define TANKCURVE_ROW_LEN 5        /* enum tankcurve_row_field: left, right, weight, sum, value */
+#define TANKCURVE_BOUNDS_LEN 2     /* left, right, as in a row */
+#define TANKCURVE_RECORD_LEN 8     /* enum tankcurve_record_field: left, right, s00, s10, s20, s01, s11, s21 */
+#define TANKCURVE_COUNTS_LEN 2     /* enum tankcurve_counts_field: samples, points */
+
+/* Where a field stands in its list: row[TANKCURVE_ROW_VALUE]; that of row k of a sweep is rows[TANKCURVE_ROW_LEN * k + TANKCURVE_ROW_VALUE]. */
+enum tankcurve_row_field {
+    TANKCURVE_ROW_LEFT = 0,
+    TANKCURVE_ROW_RIGHT = 1,
+    TANKCURVE_ROW_WEIGHT = 2,
+    TANKCURVE_ROW_SUM = 3,
+    TANKCURVE_ROW_VALUE = 4
+};
+enum tankcurve_record_field {
+    TANKCURVE_RECORD_LEFT = 0,
+    TANKCURVE_RECORD_RIGHT = 1,
+    TANKCURVE_RECORD_S00 = 2,
+    TANKCURVE_RECORD_S10 = 3,
+    TANKCURVE_RECORD_S20 = 4,
+    TANKCURVE_RECORD_S01 = 5,
+    TANKCURVE_RECORD_S11 = 6,
+    TANKCURVE_RECORD_S21 = 7
+};
+enum tankcurve_counts_field {
+    TANKCURVE_COUNTS_SAMPLES = 0,
+    TANKCURVE_COUNTS_POINTS = 1
+};
 
 /* What one of a detail counts for in what a call returns; every number is below it. */
 #define TANKCURVE_DETAIL_UNIT 256
 
-/* The value of a row of weight 0: missing. */
+/*
+ * The value of a row of weight 0: missing. WARNING: it needs 17 bits. In a uint16_t, the type of every other value, it becomes 0, which reads
+ * as beer without diacetyl; -Wall -Wextra do not warn, -Wconversion does. Ask tankcurve_present before a value is used or stored. Never
+ * compare with this number instead: the value of a row of tankcurve_row may be 65,536 with a weight.
+ */
 #define TANKCURVE_MISSING 65536
+
+/* The greatest weight and sum of a row of readings: 1,024 samples at the point, the greatest bandwidth, and each value 65,535. */
+#define TANKCURVE_MAX_WEIGHT ((uint64_t)1 << 42)
+#define TANKCURVE_MAX_SUM (((uint64_t)1 << 58) - ((uint64_t)1 << 42))
 
 /* The least and the greatest bandwidth ("half width"). */
 #define TANKCURVE_MIN_BANDWIDTH 1
 #define TANKCURVE_MAX_BANDWIDTH 65536
 
+/* So that in C++ too every number that an answer can have is a value of the reports' type; without it one over 15 is undefined there. */
+#if defined(__cplusplus) && __cplusplus >= 201103L
+#define TANKCURVE_REPORT_TYPE : int
+#else
+#define TANKCURVE_REPORT_TYPE
+#endif
+
 /* The reports and their conditions [Reports]. */
-enum tankcurve_report {
+enum tankcurve_report TANKCURVE_REPORT_TYPE {
     TANKCURVE_ACCEPTED = 0,
     TANKCURVE_TOO_LONG = 1,               /* "overlong": a sheet has more than 32,768 bytes */
-    TANKCURVE_BAD_HEADER = 2,             /* "heading": a names line of a sheet is absent or another */
-    TANKCURVE_MALFORMED_LINE = 3,         /* "torn line": a line of a sheet has another form, or no end */
+    TANKCURVE_BAD_HEADER = 2,             /* "heading": where a names line of a sheet belongs, the sheet ends, or another text stands, or
+                                             no line feed follows it */
+    TANKCURVE_MALFORMED_LINE = 3,         /* "torn line": a line of a point or of a sample has another form, or a number that is out of
+                                             range (a bandwidth's range is report 9), or no line feed; or a sheet ends without an empty line
+                                             behind its points */
     TANKCURVE_SAMPLE_OUT_OF_ORDER = 4,    /* "early reading": a minute is below the one before */
     TANKCURVE_POINT_OUT_OF_ORDER = 5,     /* "early mark": a point is below the one before */
-    TANKCURVE_TOO_MANY = 6,               /* "crowded": more than 1,024 samples or 512 points */
-    TANKCURVE_NO_POINTS = 7,              /* "no marks" */
+    TANKCURVE_TOO_MANY = 6,               /* "crowded": more than 1,024 samples, on a sheet kept ones, or more than 512 points */
+    TANKCURVE_NO_POINTS = 7,              /* "no marks": there is no point */
     TANKCURVE_LENGTH_MISMATCH = 8,        /* "uneven": lists that belong together, or a list for the answer, have other lengths */
     TANKCURVE_BANDWIDTH_OUT_OF_RANGE = 9, /* "half width": a bandwidth is 0 or over 65,536 */
     TANKCURVE_EDGE_DECREASES = 10,        /* "edge back": point - bandwidth or point + bandwidth is below that of the point before */
@@ -81,20 +153,65 @@ static inline uint64_t tankcurve_detail(uint64_t answer)
     return answer / TANKCURVE_DETAIL_UNIT;
 }
 
+/* The trade's word for a report; "accepted" for 0, and "unknown" for a number that this header does not know. */
+static inline const char *tankcurve_word(enum tankcurve_report report)
+{
+    switch (report) {
+    case TANKCURVE_ACCEPTED: return "accepted";
+    case TANKCURVE_TOO_LONG: return "overlong";
+    case TANKCURVE_BAD_HEADER: return "heading";
+    case TANKCURVE_MALFORMED_LINE: return "torn line";
+    case TANKCURVE_SAMPLE_OUT_OF_ORDER: return "early reading";
+    case TANKCURVE_POINT_OUT_OF_ORDER: return "early mark";
+    case TANKCURVE_TOO_MANY: return "crowded";
+    case TANKCURVE_NO_POINTS: return "no marks";
+    case TANKCURVE_LENGTH_MISMATCH: return "uneven";
+    case TANKCURVE_BANDWIDTH_OUT_OF_RANGE: return "half width";
+    case TANKCURVE_EDGE_DECREASES: return "edge back";
+    case TANKCURVE_INVALID_RECORD: return "foreign record";
+    case TANKCURVE_UNKNOWN_PRESET: return "knob";
+    case TANKCURVE_GRID_OVERFLOW: return "past the clock";
+    }
+    return "unknown";
+}
+
+/* Whether a row, TANKCURVE_ROW_LEN numbers, has a value: its weight is not 0. Of row k of a sweep pass rows + TANKCURVE_ROW_LEN * k. */
+static inline bool tankcurve_present(const uint64_t *row)
+{
+    return row[TANKCURVE_ROW_WEIGHT] != 0;
+}
+
+/*
+ * Whether the numbers of a row are within what a row of readings has: weight and sum up to their greatest, and a value of 16 bits if one is
+ * present. False for many rows of tankcurve_row that are not of the record's last accepted step, since their weight or sum has wrapped around;
+ * not for all: what a row must have come by stands there.
+ */
+static inline bool tankcurve_of_readings(const uint64_t *row)
+{
+    return row[TANKCURVE_ROW_WEIGHT] <= TANKCURVE_MAX_WEIGHT && row[TANKCURVE_ROW_SUM] <= TANKCURVE_MAX_SUM &&
+           (!tankcurve_present(row) || row[TANKCURVE_ROW_VALUE] < TANKCURVE_MISSING);
+}
+
+/* The version of the archive, to be held against TANKCURVE_VERSION. It is no answer: it has neither number nor detail. */
+TANKCURVE_ANSWER
+uint32_t tankcurve_version(void);
+
 /*
  * The estimate at one point z with bandwidth h ("the question at one mark": the row) [The row]. row: 5 numbers. left: how many minutes are
  * below z - h; right: how many are at most z + h; weight: the sum over the run, the samples from position left up to but without right, of
  * h^2 - (minute - z)^2; sum: the same, each times its value; value: sum / weight to the nearest whole number, a half to the even neighbour,
- * or TANKCURVE_MISSING if weight is 0. Detail 0. Reports: 8 (minutes and values differ in length), 6, 4 (place: the lowest position that is
- * below the one before), 9.
+ * at most 65,535, or TANKCURVE_MISSING if weight is 0: ask tankcurve_present. Detail 0. Reports: 8 (minutes and values differ in length, or
+ * row has another length), 6, 4 (place: the lowest position that is below the one before), 9.
  */
+TANKCURVE_ANSWER
 uint64_t tankcurve_evaluate(const uint16_t *minutes, size_t minutes_len, const uint16_t *values, size_t values_len, uint16_t point,
                             uint32_t bandwidth, uint64_t *row, size_t row_len);
 
 /*
  * The samples inside the window of one point ("the question at one mark": the run) [The row]. bounds: 2 numbers, left and right: the run is
- * values from left up to but without right. Detail 0. Reports and places as for tankcurve_evaluate.
+ * values from left up to but without right. Detail 0. Reports and places as for tankcurve_evaluate, with bounds for row.
  */
+TANKCURVE_ANSWER
 uint64_t tankcurve_window(const uint16_t *minutes, size_t minutes_len, const uint16_t *values, size_t values_len, uint16_t point,
                           uint32_t bandwidth, uint64_t *bounds, size_t bounds_len);
 
@@ -104,16 +221,34 @@ uint64_t tankcurve_window(const uint16_t *minutes, size_t minutes_len, const uin
  * and then left, never back, adds the samples that right has reached and subtracts those that left has passed. From a fresh record, over the
  * same ordered minutes and with no accepted step whose edges lie back, the sums are those over the run of the last accepted point; of another
  * record only what was added and subtracted is said. The order of the minutes and of the edges is not looked at. Detail 0. Reports: 8
- * (minutes and values differ in length), 6, 11, 9.
+ * (minutes and values differ in length, or record has another length), 6, 11, 9.
  */
+TANKCURVE_ANSWER
 uint64_t tankcurve_advance(uint64_t *record, size_t record_len, const uint16_t *minutes, size_t minutes_len, const uint16_t *values,
                            size_t values_len, uint16_t point, uint32_t bandwidth);
+
+/*
+ * The row of a running record ("the row of a record") at one point z with bandwidth h [The running record and the book]. record: 8 numbers of
+ * any origin, which are read; row: 5 numbers. left and right are the record's; weight: (h^2 - z^2) * s00 + 2 * z * s10 - s20, and sum the same
+ * of s01, s11 and s21, both modulo 2^64; value: sum / weight to the nearest whole number, a half to the even neighbour, or TANKCURVE_MISSING if
+ * weight is 0.
+ *
+ * WARNING: pass the point and bandwidth of the last accepted step; at others the row may look like a good one with value 0 or 1. Where the
+ * record has the edges and sums of the window of z and h, as after an accepted tankcurve_advance at z with h from a fresh record, over the same
+ * ordered minutes and with no edge back, it is the row of tankcurve_evaluate, and a value that is present is at most 65,535. Of any other
+ * record, and at any other point or bandwidth, it may have all 64 bits: ask tankcurve_of_readings before it goes into a smaller type, which
+ * finds many of these rows and not all. Every point and every bandwidth is taken, 0 and those over 65,536 too. Detail 0. Report: 8 (record or
+ * row has another length).
+ */
+TANKCURVE_ANSWER
+uint64_t tankcurve_row(const uint64_t *record, size_t record_len, uint16_t point, uint32_t bandwidth, uint64_t *row, size_t row_len);
 
 /*
  * The estimates at all points ("the sweep") [The row]. rows: exactly TANKCURVE_ROW_LEN numbers a point, each as a row of tankcurve_evaluate.
  * Detail: the passes, last left plus last right. Reports: 8 (minutes with values, points with bandwidths, or rows), 6, 7, 4, 5, 9, 10; the
  * places of the last four are the lowest position at which the condition holds, for 4, 5 and 10 that of the later one.
  */
+TANKCURVE_ANSWER
 uint64_t tankcurve_smooth(const uint16_t *minutes, size_t minutes_len, const uint16_t *values, size_t values_len, const uint16_t *points,
                           size_t points_len, const uint32_t *bandwidths, size_t bandwidths_len, uint64_t *rows, size_t rows_len);
 
@@ -122,34 +257,39 @@ uint64_t tankcurve_smooth(const uint16_t *minutes, size_t minutes_len, const uin
  * preset, "the knob"'s position: from 0 to 5 it is 30, 45, 60, 90, 120 or 180, from 6 to 11 it is 240, 360, 480, 720, 1080 or 1440. Detail
  * 0. Reports: 8 (points and bandwidths differ in length), 7, 6, 12, 13.
  */
+TANKCURVE_ANSWER
 uint64_t tankcurve_fill(uint16_t first, uint16_t spacing, uint32_t preset, uint16_t *points, size_t points_len, uint32_t *bandwidths,
                         size_t bandwidths_len);
 
 /*
  * Reads a sheet ("the reader of the tank sheet") [The sheet]. minutes and values: 1,024 each; points and bandwidths: 512 each; counts: 2
  * numbers, how many samples are kept and how many points there are. The kept samples and the points stand at the front of their lists, and
- * what is behind them is untouched. Detail 0. Reports: 8, 1 (place 32,768), then line by line that of the first faulty line: 2, 7, or 3, 4 or
- * 5, 9, 10, 6. Its place is the offset of the line's first byte, counted from 0, and the sheet's length where the sheet ends in front of a
- * names line or the empty line. An empty line that is missing in the midst of a sheet is 3 at the first line that is no line of a point, as
- * a rule the second names line.
+ * what is behind them is untouched. Detail 0. Reports: 8 (any of the five lists has another length), 1 (place 32,768), then line by line that
+ * of the first faulty line: 2, 7, or 3, 4 or 5, 9, 10, 6. Its place is the offset of the line's first byte, counted from 0, and the sheet's
+ * length where the sheet ends in front of a names line or the empty line. An empty line that is missing in the midst of a sheet is 3 at the
+ * first line that is no line of a point, as a rule the second names line.
  */
+TANKCURVE_ANSWER
 uint64_t tankcurve_read(const uint8_t *sheet, size_t sheet_len, uint16_t *minutes, size_t minutes_len, uint16_t *values, size_t values_len,
                         uint16_t *points, size_t points_len, uint32_t *bandwidths, size_t bandwidths_len, uint64_t *counts,
                         size_t counts_len);
 
 /*
  * Writes the curve of a sheet, as the program writes it, to the start of out, which has TANKCURVE_MAX_OUTPUT bytes; what is behind it is
- * untouched [Output]. Detail: the bytes written. Reports: 8 (out has another length), then what tankcurve_read reports of the sheet, at the same place:
- * 1 (place 32,768), or that of the first faulty line, 2, 7, or 3, 4 or 5, 9, 10, 6. out is then as it was; tankcurve_refusal_text writes
- * what the program writes of that number and place.
+ * untouched [Output]. Detail: the bytes written. Reports: 8 (out has another length), then what tankcurve_read reports of the sheet, at the
+ * same place: 1 (place 32,768), or that of the first faulty line, 2, 7, or 3, 4 or 5, 9, 10, 6. out is then as it was;
+ * tankcurve_refusal_text writes what the program writes of that number and place.
  */
+TANKCURVE_ANSWER
 uint64_t tankcurve_text(const uint8_t *sheet, size_t sheet_len, uint8_t *out, size_t out_len);
 
 /*
  * Writes the text of a refusal, as the program writes it, to the start of out, which has TANKCURVE_MAX_OUTPUT bytes; what is behind it is
- * untouched [Output]. It is `refused,place` and, on a second line, number, a comma and place in decimal; each line ends in a line feed. number and
- * place may be any: whether a call reports them is not looked at. Detail: the bytes written, 18 to 56. Report: 8 (out has another length).
+ * untouched [Output]. It is `refused,place` and, on a second line, number, a comma and place in decimal; each line ends in a line feed.
+ * number and place may be any: whether a call reports them is not looked at. Detail: the bytes written, 18 to 56. Report: 8 (out has another
+ * length).
  */
+TANKCURVE_ANSWER
 uint64_t tankcurve_refusal_text(uint64_t number, uint64_t place, uint8_t *out, size_t out_len);
 
 #ifdef __cplusplus

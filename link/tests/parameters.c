@@ -138,6 +138,52 @@ static void smooth(void)
     same_list("smooth, rows", rows, after, sizeof after);
 }
 
+/* The row of a record: that of evaluate where the record is of its window, and modulo 2^64 for one of any origin. */
+static void row_of_a_record(void)
+{
+    const uint64_t before[] = {90, 91, 92, 93, 94, 95};
+    const uint64_t of_window[] = {1, 5, 74, 858, 12, 95};
+    const uint64_t foreign[TANKCURVE_RECORD_LEN + 1] = {3, 7, 100, 200, 300, 400, 500, 9, 8};
+    const uint64_t of_foreign[] = {3, 7, 20500, 73591, 4, 95};
+    const uint64_t wrapping[TANKCURVE_RECORD_LEN] = {3, 7, 2, 0, 0, UINT64_MAX, 0, 0};
+    const uint64_t of_wrapping[] = {3, 7, 2, UINT64_MAX, UINT64_C(9223372036854775808), 95};
+    uint64_t record[TANKCURVE_RECORD_LEN] = {0};
+    uint64_t row[TANKCURVE_ROW_LEN + 1] = {90, 91, 92, 93, 94, 95};
+    same("row, a longer record", tankcurve_row(foreign, TANKCURVE_RECORD_LEN + 1, 16, 20, row, TANKCURVE_ROW_LEN), TANKCURVE_LENGTH_MISMATCH);
+    same("row, a longer row", tankcurve_row(foreign, TANKCURVE_RECORD_LEN, 16, 20, row, TANKCURVE_ROW_LEN + 1), TANKCURVE_LENGTH_MISMATCH);
+    same_list("row, row of a refusal", row, before, sizeof before);
+    same("row, the step before", tankcurve_advance(record, TANKCURVE_RECORD_LEN, minutes, SAMPLES, values, SAMPLES, 14, 7), 0);
+    same("row", tankcurve_row(record, TANKCURVE_RECORD_LEN, 14, 7, row, TANKCURVE_ROW_LEN), 0);
+    same_list("row, row", row, of_window, sizeof of_window);
+    same("row, a foreign record", tankcurve_row(foreign, TANKCURVE_RECORD_LEN, 16, 20, row, TANKCURVE_ROW_LEN), 0);
+    same_list("row, row of a foreign record", row, of_foreign, sizeof of_foreign);
+    same("row, sums that wrap", tankcurve_row(wrapping, TANKCURVE_RECORD_LEN, 0, 1, row, TANKCURVE_ROW_LEN), 0);
+    same_list("row, row of sums that wrap", row, of_wrapping, sizeof of_wrapping);
+}
+
+/* Numbers of 32 bits arrive whole: a declaration of 16 bits would cut these to others. */
+static void widths(void)
+{
+    const uint32_t h = TANKCURVE_MAX_BANDWIDTH, greatest = UINT32_MAX, preset = 65536 + 4;
+    const uint64_t whole_row[] = {0, 6, 25769802857, 412316836773, 16};
+    const uint64_t whole_bounds[] = {0, 6};
+    const uint64_t whole_record[] = {0, 6, 6, 95, 2403, 96, 2203, 66511};
+    const uint64_t foreign[TANKCURVE_RECORD_LEN] = {3, 7, 100, 200, 300, 400, 500, 9};
+    const uint64_t of_greatest[] = {3, 7, UINT64_C(18446743214716073016), UINT64_C(18446740637735628807), 1};
+    uint64_t row[TANKCURVE_ROW_LEN], bounds[TANKCURVE_BOUNDS_LEN], record[TANKCURVE_RECORD_LEN] = {0};
+    uint16_t points[1];
+    uint32_t bandwidths[1];
+    same("evaluate, the greatest bandwidth", tankcurve_evaluate(minutes, SAMPLES, values, SAMPLES, 14, h, row, TANKCURVE_ROW_LEN), 0);
+    same_list("evaluate, row of the greatest bandwidth", row, whole_row, sizeof whole_row);
+    same("window, the greatest bandwidth", tankcurve_window(minutes, SAMPLES, values, SAMPLES, 14, h, bounds, TANKCURVE_BOUNDS_LEN), 0);
+    same_list("window, bounds of the greatest bandwidth", bounds, whole_bounds, sizeof whole_bounds);
+    same("advance, the greatest bandwidth", tankcurve_advance(record, TANKCURVE_RECORD_LEN, minutes, SAMPLES, values, SAMPLES, 14, h), 0);
+    same_list("advance, record of the greatest bandwidth", record, whole_record, sizeof whole_record);
+    same("row, a bandwidth of 32 bits", tankcurve_row(foreign, TANKCURVE_RECORD_LEN, 16, greatest, row, TANKCURVE_ROW_LEN), 0);
+    same_list("row, row of a bandwidth of 32 bits", row, of_greatest, sizeof of_greatest);
+    same("fill, a preset of 17 bits", tankcurve_fill(100, 7, preset, points, 1, bandwidths, 1), TANKCURVE_UNKNOWN_PRESET);
+}
+
 /* As many points as samples, so that no exchange of lists shows in their lengths. */
 static void smooth_lists_of_one_length(void)
 {
@@ -269,6 +315,8 @@ int main(void)
     window();
     advance();
     smooth();
+    row_of_a_record();
+    widths();
     smooth_lists_of_one_length();
     fill();
     read();

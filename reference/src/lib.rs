@@ -243,6 +243,36 @@ pub fn step(
     })
 }
 
+/// The row of a record of any origin at a mark with a half width, both any
+/// numbers: the edges are the record's, weight and sum the formula of the
+/// running sums, whole numbers of any size of which the remainder modulo 2^64
+/// counts, and the value their rounded quotient [The running record and the
+/// book].
+pub fn record_row(record: Record, mark: u16, half: u32) -> [u64; ROW_WIDTH] {
+    let (z, h) = (i128::from(mark), i128::from(half));
+    // A product of two remainders has 128 bits, so each is taken for itself.
+    let remainder = |exact: i128| exact.rem_euclid(1 << 64);
+    let times = |a: i128, b: u64| (remainder(a) as u128 * u128::from(b) % (1 << 64)) as i128;
+    let formula = |s: &[u64]| {
+        let exact = times(h * h - z * z, s[0]) + times(2 * z, s[1]) - i128::from(s[2]);
+        remainder(exact)
+    };
+    let weight = formula(&record.sums[..3]);
+    let sum = formula(&record.sums[3..]);
+    let value = if weight == 0 {
+        i128::from(MISSING)
+    } else {
+        nearest(sum, weight)
+    };
+    [
+        record.left,
+        record.right,
+        weight as u64,
+        sum as u64,
+        value as u64,
+    ]
+}
+
 /// The whole sweep: each mark's row into `rows`, and the passes, both edges of
 /// the last row added up; or the first of the reports 8, 6, 7, 4, 5, 9 and 10
 /// that holds, at its lowest position [The running record and the book;

@@ -1,3 +1,4 @@
 pub mod OneSample
+pub mod Products
 pub mod Quotients
 pub mod Wrapping

@@ -9,7 +9,7 @@ use Rattle.meanings.specs.Running.{six, sum-at, minus}
 use Rattle.meanings.proofs.Moments.{power-one, power-two}
 use Rattle.arithmetic.proofs.Wrapping.{wraps-back-is-minus}
 
-product-fits : {a b : ℕ} (j k : ℕ) → a < 2 ^ j → b < 2 ^ k → a * b < 2 ^ (j + k)
+pub product-fits : {a b : ℕ} (j k : ℕ) → a < 2 ^ j → b < 2 ^ k → a * b < 2 ^ (j + k)
 product-fits {a} {b} j k l m =
     rw (pow-add 2 j k)
     (omega (arith, mul-le-mul-left {m = b} {n = 2 ^ k} a (omega arith), mul-lt-mul-of-pos-right l (pow-pos k)))

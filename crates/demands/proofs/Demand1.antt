@@ -2,11 +2,12 @@
 -- at exit is what it was wherever that list finds one. That the code ends on every input is the proof of each function itself.
 use Prim.Native.Nat.{ℕ, _+_}
 use mathlib.Core.Path.{_≡_, refl, sym, ap, _∙_}
-use mathlib.Core.List.{List, [], _++_}
+use mathlib.Core.List.{List, [], _∷_, _++_}
 use mathlib.Core.Option.{Option}
 use native.Mathlib.Omega.{arith}
 use denote.Ref.{RefT}
 use lib.ListN.{length, getD, drop, replicate}
+use Rattle.meanings.specs.declared.Estimate.{Estimate}
 use Rattle.meanings.specs.declared.RunningSums.{RunningSums}
 use Rattle.meanings.specs.declared.Evaluation.{Evaluation}
 use Rattle.meanings.specs.declared.Advance.{Advance}
@@ -16,10 +17,10 @@ use Rattle.meanings.specs.declared.Parsing.{Parsing}
 use Rattle.meanings.specs.declared.Writing.{Writing}
 use Rattle.meanings.specs.Limits.{full, row-width}
 use Rattle.meanings.specs.Moves.{moves}
-use Rattle.meanings.specs.Reports.{Fault, refused, accepted-or}
+use Rattle.meanings.specs.Reports.{Fault, Answer, given, refused, accepted-or}
 use Rattle.meanings.specs.Reports.{first-of, evaluate-checks, advance-checks, read-checks, buffer-checks}
 use Rattle.meanings.specs.Estimate.{estimate, run-of, fields, rows}
-use Rattle.meanings.specs.Running.{fresh, moved, advance, passes}
+use Rattle.meanings.specs.Running.{fresh, moved, advance, passes, record-row}
 use Rattle.meanings.specs.Grid.{presets, grid}
 use Rattle.meanings.specs.Claim.{refusal}
 use Rattle.meanings.specs.Sheet.{or-next, read-sheet}
@@ -33,6 +34,7 @@ use Rattle.tankcurve_abi.specs.Answers.{sized, bounds, count-numbers, record-nu
 use Rattle.estimator.proofs.evaluate.Met as evaluate-met
 use Rattle.estimator.proofs.window.Met as window-met
 use Rattle.estimator.proofs.advance.Met as advance-met
+use Rattle.estimator.proofs.record_row.Met as record-row-met
 use Rattle.estimator.proofs.smooth.Met as smooth-met
 use Rattle.grid.proofs.fill_grid.Met as fill-grid-met
 use Rattle.sheet.proofs.read_sheet.Met as read-sheet-met
@@ -41,20 +43,24 @@ use Rattle.text.proofs.refusal_text.Met as refusal-text-met
 use Rattle.tankcurve_abi.proofs.tankcurve_evaluate.Met as exported-evaluate-met
 use Rattle.tankcurve_abi.proofs.tankcurve_window.Met as exported-window-met
 use Rattle.tankcurve_abi.proofs.tankcurve_advance.Met as exported-advance-met
+use Rattle.tankcurve_abi.proofs.tankcurve_row.Met as exported-record-row-met
 use Rattle.tankcurve_abi.proofs.tankcurve_smooth.Met as exported-smooth-met
 use Rattle.tankcurve_abi.proofs.tankcurve_fill.Met as exported-fill-met
 use Rattle.tankcurve_abi.proofs.tankcurve_read.Met as exported-read-met
 use Rattle.tankcurve_abi.proofs.tankcurve_text.Met as exported-text-met
 use Rattle.tankcurve_abi.proofs.tankcurve_refusal_text.Met as exported-refusal-text-met
+use Rattle.tankcurve_abi.proofs.tankcurve_version.Met as exported-version-met
 use Rattle.demands.specs.Calls.{Place, EveryInputTaken, EvaluateCall, WindowCall, AdvanceCall, SmoothCall}
 use Rattle.demands.specs.Calls.{FillCall, ReadCall, TextCall, RefusalTextCall, ExportedEvaluate, ExportedWindow}
-use Rattle.demands.specs.Calls.{ExportedAdvance, ExportedSmooth, ExportedFill, ExportedRead, ExportedText, ExportedRefusalText}
+use Rattle.demands.specs.Calls.{ExportedAdvance, ExportedRecordRow, ExportedSmooth, ExportedFill, ExportedRead, ExportedText}
+use Rattle.demands.specs.Calls.{ExportedRefusalText}
 use Rattle.demands.specs.Conditions.{RefusedExactly, FirstFault, FirstOrElse, evaluate-conditions, advance-conditions}
-use Rattle.demands.specs.Conditions.{smooth-conditions, fill-conditions, read-conditions, buffer-conditions, length-first, code-refusal}
+use Rattle.demands.specs.Conditions.{smooth-conditions, fill-conditions, read-conditions, buffer-conditions, length-first}
+use Rattle.demands.specs.Conditions.{no-more, record-row-conditions, code-refusal}
 use Rattle.demands.specs.Demands.{RefusedAndStays}
-use Rattle.demands.proofs.FirstFaults.{refused-exactly}
+use Rattle.demands.proofs.FirstFaults.{FindAll, refused-exactly}
 use Rattle.demands.proofs.CallChecks.{evaluate-finds, advance-finds, smooth-finds, fill-finds, read-finds, buffer-finds}
-use Rattle.demands.proofs.Refusals.{decided-exactly, decided-stays, sheet-exactly, length-first-finds}
+use Rattle.demands.proofs.Refusals.{decided-exactly, decided-stays, sheet-exactly, length-check, length-first-finds}
 use Rattle.demands.proofs.Refusals.{sized-is-checked, sized-sheet-is-checked, stored-stays, first-numbered, first-or-else-numbered}
 use Rattle.demands.proofs.Refusals.{exported-refusal, exported-stays, counts-refused, size-refused, front-stays}
 
@@ -66,6 +72,8 @@ every-input = record {
   window-asks-nothing = λ κs a. tt;
   advance-ends = advance-met.met;
   advance-asks-nothing = λ κs a. tt;
+  record-row-ends = record-row-met.met;
+  record-row-asks-nothing = λ κs a. tt;
   smooth-ends = smooth-met.met;
   smooth-asks-nothing = λ κs a. tt;
   fill-ends = fill-grid-met.met;
@@ -82,6 +90,8 @@ every-input = record {
   exported-window-asks-nothing = λ κs a. tt;
   exported-advance-ends = exported-advance-met.met;
   exported-advance-asks-nothing = λ κs a. tt;
+  exported-record-row-ends = exported-record-row-met.met;
+  exported-record-row-asks-nothing = λ κs a. tt;
   exported-smooth-ends = exported-smooth-met.met;
   exported-smooth-asks-nothing = λ κs a. tt;
   exported-fill-ends = exported-fill-met.met;
@@ -92,6 +102,8 @@ every-input = record {
   exported-text-asks-nothing = λ κs a. tt;
   exported-refusal-text-ends = exported-refusal-text-met.met;
   exported-refusal-text-asks-nothing = λ κs a. tt;
+  exported-version-ends = exported-version-met.met;
+  exported-version-asks-nothing = λ κs a. tt;
 }
 
 pub evaluate-refused : (ts vs : List ℕ) (z h : ℕ) (a : Evaluation) → EvaluateCall ts vs z h a
@@ -227,6 +239,27 @@ exported-advance-refused xs ts vs z h c xs′ k =
     let t = sized 8 xs (advance ts vs (record-of xs) z h) in
     exported-stays t c _ (advance-coded xs ts vs z h c (k .ensured .0)) (advance-exactly xs ts vs z h)
     (xs′ ≡ xs) (λ e q. k .ensured .1 ∙ stored-stays record-numbers t xs e q)
+
+-- the row of a record of eight numbers, behind a list of five
+module _ (xs : List ℕ) (z h : ℕ) (row : List ℕ) where
+  abbrev pub row-coded : Answer Estimate
+  row-coded = sized 8 xs (sized 5 row (given (record-row (record-of xs) z h)))
+
+  record-row-exactly : RefusedExactly (refusal row-coded) (FirstFault (record-row-conditions xs row))
+  record-row-exactly =
+      let e = record-row (record-of xs) z h in
+      let nothing : FindAll [] no-more = record { each = tt } in
+      decided-exactly e (length-first-finds 8 xs (length-first-finds 5 row nothing))
+      (ap (sized 8 xs) (sized-is-checked 5 row [] e) ∙ sized-is-checked 8 xs (length-check 5 row ∷ []) e)
+
+  pub record-row-coded : (c : ℕ) → c ≡ answered no-detail row-coded → code-refusal c ≡ refusal row-coded
+  record-row-coded c q = exported-refusal no-detail row-coded c _ q (first-numbered (record-row-conditions xs row) refl) record-row-exactly
+
+pub exported-record-row-refused : (xs : List ℕ) (z h : ℕ) (row : List ℕ) (c : ℕ) (row′ : List ℕ) → ExportedRecordRow xs z h row c row′
+    → RefusedAndStays (code-refusal c) (FirstFault (record-row-conditions xs row)) (row′ ≡ row)
+exported-record-row-refused xs z h row c row′ k =
+    exported-stays (row-coded xs z h row) c _ (record-row-coded xs z h row c (k .ensured .0)) (record-row-exactly xs z h row)
+    (row′ ≡ row) (λ e q. k .ensured .1 ∙ stored-stays fields (row-coded xs z h row) row e q)
 
 -- the sweep
 module _ (ts vs zs hs rs : List ℕ) where

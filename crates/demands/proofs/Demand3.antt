@@ -15,6 +15,7 @@ use Rattle.meanings.specs.Lists.{AtMost}
 use Rattle.meanings.specs.Limits.{full, max-u16}
 use Rattle.meanings.specs.Moves.{Move, moves}
 use Rattle.meanings.specs.Reports.{Fault, Answer, given, refused}
+use Rattle.meanings.specs.Estimate.{fields}
 use Rattle.meanings.specs.Running.{fresh, advance, next-record, after-step, after, record-row}
 use Rattle.meanings.specs.EventLog.{EventLog}
 use Rattle.meanings.specs.Claim.{StepHolds, refusal, record-after}
@@ -32,6 +33,8 @@ use Rattle.demands.specs.Calls.{ExportedAdvance}
 use Rattle.demands.specs.Conditions.{code-refusal}
 use Rattle.demands.specs.Demands.{held, Steps, ExportedSteps, OrderedSteps, LogMatches, Demand3}
 use Rattle.demands.specs.Demands as demands
+use Rattle.demands.proofs.RecordRows.{row-of-window-record, last-question, row-after-steps, answered-row}
+use Rattle.demands.proofs.RecordRows.{exported-record-row-gives, exported-evaluate-gives}
 use Rattle.demands.proofs.Refusals.{accepted-given}
 use Rattle.demands.proofs.Demand1.{advance-coded, smooth-coded}
 use Rattle.demands.proofs.Rows.{five-are-row}
@@ -138,6 +141,18 @@ demand-3-of-calls = record {
   exported-step-accepted = λ xs ts vs z h c xs′ k q.
       let t = sized 8 xs (advance ts vs (record-of xs) z h) in
       k .ensured .0 ∙ ap (answered no-detail) (accepted-given t (sym (advance-coded xs ts vs z h c (k .ensured .0)) ∙ q) .1);
+  window-record-row = λ ts vs z h r e e′ v left right sums q c.
+      c .ensured ∙ row-of-window-record ts vs z h r e′ v left right sums (sym (q .ensured));
+  steps-row = λ ts vs ms m r a e o s last q c.
+      answered-row a e
+      (q .ensured
+      ∙ last-question ts vs ms m o last
+      ∙ ap given (sym (c .ensured ∙ row-after-steps ts vs ms m o last r (left-by-steps s))));
+  exported-steps-row = λ ts vs ms m xs row₁ c₁ row₁′ row c row′ o s last five₁ five q k.
+      let l = left-by-exported s refl in
+      let a = exported-evaluate-gives ts vs (m .point) (m .bandwidth) row₁ c₁ row₁′ _ five₁ (last-question ts vs ms m o last) q in
+      let b = exported-record-row-gives xs (m .point) (m .bandwidth) row c row′ (l .0) five k in
+      (a .0, b .0, b .1 ∙ ap fields (row-after-steps ts vs ms m o last (record-of xs) (l .1)) ∙ sym (a .1));
   smooth-steps = λ ts vs zs hs rs n rs′ k t v c l. row-of-steps ts vs zs hs rs rs′ n t v (sym (c .ensured .0)) (c .ensured .1) k l;
   smooth-passes = λ ts vs zs hs rs n rs′ t v c. smooth-passes full (same-limits full) ts vs zs hs t v rs n (sym (c .ensured .0));
   exported-smooth-steps = λ ts vs zs hs rs c rs′ k t v x q l.

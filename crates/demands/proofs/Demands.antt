@@ -3,8 +3,8 @@ use Rattle.meanings.proofs.Cases.{document-cases-hold}
 use Rattle.demands.specs.Demands.{Demands}
 use Rattle.demands.proofs.Demand1.{every-input, evaluate-refused, window-refused, advance-refused, smooth-refused, fill-refused, read-refused}
 use Rattle.demands.proofs.Demand1.{text-refused, refusal-text-refused, exported-evaluate-refused, exported-window-refused, exported-advance-refused}
-use Rattle.demands.proofs.Demand1.{exported-smooth-refused, exported-fill-refused, exported-read-refused, exported-text-refused}
-use Rattle.demands.proofs.Demand1.{exported-refusal-text-refused}
+use Rattle.demands.proofs.Demand1.{exported-record-row-refused, exported-smooth-refused, exported-fill-refused, exported-read-refused}
+use Rattle.demands.proofs.Demand1.{exported-text-refused, exported-refusal-text-refused}
 use Rattle.demands.proofs.Demand2.{demand-2}
 use Rattle.demands.proofs.Demand3.{demand-3-of-calls}
 use Rattle.demands.proofs.OtherCalls.{other-calls}
@@ -26,6 +26,7 @@ demands = record {
     exported-evaluate-refused = exported-evaluate-refused;
     exported-window-refused = exported-window-refused;
     exported-advance-refused = exported-advance-refused;
+    exported-record-row-refused = exported-record-row-refused;
     exported-smooth-refused = exported-smooth-refused;
     exported-fill-refused = exported-fill-refused;
     exported-read-refused = exported-read-refused;

@@ -6,5 +6,6 @@ pub mod Demands
 pub mod FirstFaults
 pub mod OtherCalls
 pub mod Program
+pub mod RecordRows
 pub mod Refusals
 pub mod Rows

@@ -1,12 +1,16 @@
--- What the filler, the reader and the writers give where they accept: by their contracts what their meanings give.
+-- What the row of a record, the filler, the reader and the writers give where they accept: by their contracts what their meanings give.
 use Prim.Native.Nat.{ℕ, _+_, _*_}
 use mathlib.Core.Path.{_≡_, refl, sym, ap, _∙_}
 use mathlib.Core.List.{List, _++_}
 use mathlib.Core.Option.{Option, none, some}
 use native.Mathlib.Omega.{arith}
 use lib.ListN.{length, getD, drop, replicate, length-replicate, getD-replicate}
-use Rattle.meanings.specs.Limits.{full}
-use Rattle.meanings.specs.Reports.{Fault, given, refused, accepted-or, first-of, read-checks}
+use Rattle.meanings.specs.declared.Estimate.{Estimate}
+use Rattle.meanings.specs.Limits.{full, row-width}
+use Rattle.meanings.specs.Reports.{Fault, Answer, given, refused, accepted-or, first-of, read-checks}
+use Rattle.meanings.specs.Estimate.{fields}
+use Rattle.meanings.specs.Running.{record-row}
+use Rattle.meanings.specs.Claim.{refusal}
 use Rattle.meanings.specs.Grid.{presets, grid}
 use Rattle.meanings.specs.Sheet.{Contents, Outcome, or-next, read-sheet}
 use Rattle.meanings.specs.SheetForm.{IsSheet}
@@ -17,11 +21,12 @@ use Rattle.meanings.proofs.Checks.{given-accepted}
 use Rattle.meanings.proofs.Grids.{fill-accepts, grid-length, grid-at}
 use Rattle.laws_sheet.proofs.Outcomes.{read-is-printed}
 use Rattle.meanings.specs.Codes.{detail-unit, answered, no-detail}
-use Rattle.tankcurve_abi.specs.Answers.{sized, stored, count-numbers}
+use Rattle.tankcurve_abi.specs.Answers.{sized, stored, count-numbers, record-of}
 use Rattle.demands.specs.Demands.{FilledGrid, SheetRead, OtherCalls}
 use Rattle.demands.proofs.Refusals.{accepted-given, sized-opens, counts-refused}
-use Rattle.demands.proofs.Demand1.{fill-coded, read-coded, text-coded, refusal-text-coded}
+use Rattle.demands.proofs.Demand1.{row-coded, record-row-coded, fill-coded, read-coded, text-coded, refusal-text-coded}
 use Rattle.demands.proofs.Program.{text-in-front}
+use Rattle.demands.proofs.RecordRows.{record-row-is, one-record-row}
 
 filled-grid : (z₀ spacing preset : ℕ) (zs hs zs′ hs′ : List ℕ) → fill full z₀ spacing preset zs hs ≡ given tt
     → zs′ ≡ fill-points full z₀ spacing preset zs hs → hs′ ≡ fill-bandwidths full z₀ spacing preset zs hs
@@ -76,6 +81,8 @@ refusal-in-front n p out k out′ a b =
 
 pub other-calls : OtherCalls
 other-calls = record {
+  record-row-is = λ r z h e c. rw (c .ensured) (record-row-is r z h);
+  one-record-row = one-record-row;
   fill-fills = λ z₀ spacing preset zs hs zs′ hs′ c.
       filled-grid z₀ spacing preset zs hs zs′ hs′ (sym (c .ensured .0)) (c .ensured .1 .0) (c .ensured .1 .1);
   read-fills = λ s ts vs zs hs n m ts′ vs′ zs′ hs′ k.
@@ -89,6 +96,17 @@ other-calls = record {
         ),
       );
   refusal-text-writes = λ n p out k out′ c. refusal-in-front n p out k out′ (c .ensured .0) (c .ensured .1);
+  exported-record-row-is = λ xs z h row c row′ k q.
+      let t : Answer Estimate = given (record-row (record-of xs) z h) in
+      let o = row-coded xs z h row in
+      let n = sym (record-row-coded xs z h row c (k .ensured .0)) ∙ q in
+      let opens = sized-opens 8 xs (sized row-width row t) n in
+      let whole : o ≡ t = opens ∙ sized-opens row-width row t (sym (ap refusal opens) ∙ n) in
+      let stored-row : row′ ≡ fields (record-row (record-of xs) z h) = k .ensured .1 ∙ ap (λ (a : Answer Estimate). stored fields a row) whole in (
+        k .ensured .0 ∙ ap (answered no-detail) whole,
+        ap length stored-row,
+        rw stored-row (record-row-is (record-of xs) z h),
+      );
   exported-fill-fills = λ z₀ spacing preset zs hs c zs′ hs′ k q.
       let t = fill full z₀ spacing preset zs hs in
       let g = accepted-given t (sym (fill-coded z₀ spacing preset zs hs c (k .ensured .0)) ∙ q) in
@@ -117,4 +135,5 @@ other-calls = record {
       let g = accepted-given (write-refusal-text n p out) (sym (refusal-text-coded n p out c (k .ensured .0)) ∙ q) in
       let w = refusal-in-front n p out (g .0) out′ (sym (g .1)) (k .ensured .1) in
       (k .ensured .0 ∙ ap (answered (λ n. n)) (g .1) ∙ ap (λ (n : ℕ). detail-unit * n) (w .0), w .1);
+  exported-version-is = λ v c. c .ensured;
 }

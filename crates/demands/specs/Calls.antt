@@ -7,6 +7,7 @@ use mathlib.Core.List.{List}
 use denote.Ref.{RefT, Gone}
 use contract.Lifetimes.{Lfts}
 use borrow.Fn.Kinds.{Dens}
+use Rattle.meanings.specs.declared.Estimate.{Estimate}
 use Rattle.meanings.specs.declared.RunningSums.{RunningSums}
 use Rattle.meanings.specs.declared.Evaluation.{Evaluation}
 use Rattle.meanings.specs.declared.Advance.{Advance}
@@ -17,6 +18,7 @@ use Rattle.meanings.specs.declared.Writing.{Writing}
 use Rattle.estimator.proofs.evaluate.Reads as evaluate
 use Rattle.estimator.proofs.window.Reads as window
 use Rattle.estimator.proofs.advance.Reads as advance
+use Rattle.estimator.proofs.record_row.Reads as record-row
 use Rattle.estimator.proofs.smooth.Reads as smooth
 use Rattle.grid.proofs.fill_grid.Reads as fill-grid
 use Rattle.sheet.proofs.read_sheet.Reads as read-sheet
@@ -25,17 +27,21 @@ use Rattle.text.proofs.refusal_text.Reads as refusal-text
 use Rattle.tankcurve_abi.proofs.tankcurve_evaluate.Reads as exported-evaluate
 use Rattle.tankcurve_abi.proofs.tankcurve_window.Reads as exported-window
 use Rattle.tankcurve_abi.proofs.tankcurve_advance.Reads as exported-advance
+use Rattle.tankcurve_abi.proofs.tankcurve_row.Reads as exported-record-row
 use Rattle.tankcurve_abi.proofs.tankcurve_smooth.Reads as exported-smooth
 use Rattle.tankcurve_abi.proofs.tankcurve_fill.Reads as exported-fill
 use Rattle.tankcurve_abi.proofs.tankcurve_read.Reads as exported-read
 use Rattle.tankcurve_abi.proofs.tankcurve_text.Reads as exported-text
 use Rattle.tankcurve_abi.proofs.tankcurve_refusal_text.Reads as exported-refusal-text
+use Rattle.tankcurve_abi.proofs.tankcurve_version.Reads as exported-version
 use Rattle.estimator.proofs.evaluate.Kinds as evaluate-kinds
 use Rattle.estimator.proofs.evaluate.Statement as evaluate-code
 use Rattle.estimator.proofs.window.Kinds as window-kinds
 use Rattle.estimator.proofs.window.Statement as window-code
 use Rattle.estimator.proofs.advance.Kinds as advance-kinds
 use Rattle.estimator.proofs.advance.Statement as advance-code
+use Rattle.estimator.proofs.record_row.Kinds as record-row-kinds
+use Rattle.estimator.proofs.record_row.Statement as record-row-code
 use Rattle.estimator.proofs.smooth.Kinds as smooth-kinds
 use Rattle.estimator.proofs.smooth.Statement as smooth-code
 use Rattle.grid.proofs.fill_grid.Kinds as fill-grid-kinds
@@ -52,6 +58,8 @@ use Rattle.tankcurve_abi.proofs.tankcurve_window.Kinds as exported-window-kinds
 use Rattle.tankcurve_abi.proofs.tankcurve_window.Statement as exported-window-code
 use Rattle.tankcurve_abi.proofs.tankcurve_advance.Kinds as exported-advance-kinds
 use Rattle.tankcurve_abi.proofs.tankcurve_advance.Statement as exported-advance-code
+use Rattle.tankcurve_abi.proofs.tankcurve_row.Kinds as exported-record-row-kinds
+use Rattle.tankcurve_abi.proofs.tankcurve_row.Statement as exported-record-row-code
 use Rattle.tankcurve_abi.proofs.tankcurve_smooth.Kinds as exported-smooth-kinds
 use Rattle.tankcurve_abi.proofs.tankcurve_smooth.Statement as exported-smooth-code
 use Rattle.tankcurve_abi.proofs.tankcurve_fill.Kinds as exported-fill-kinds
@@ -62,6 +70,8 @@ use Rattle.tankcurve_abi.proofs.tankcurve_text.Kinds as exported-text-kinds
 use Rattle.tankcurve_abi.proofs.tankcurve_text.Statement as exported-text-code
 use Rattle.tankcurve_abi.proofs.tankcurve_refusal_text.Kinds as exported-refusal-text-kinds
 use Rattle.tankcurve_abi.proofs.tankcurve_refusal_text.Statement as exported-refusal-text-code
+use Rattle.tankcurve_abi.proofs.tankcurve_version.Kinds as exported-version-kinds
+use Rattle.tankcurve_abi.proofs.tankcurve_version.Statement as exported-version-code
 
 -- where a lent list lies: ptr is the block and the byte in it
 abbrev pub Place : Type 0
@@ -92,6 +102,10 @@ pub record AdvanceCall (r : RunningSums) (ts vs : List ℕ) (z h : ℕ) (a : Adv
   pub ensured :
       advance.Post lifetimes (r, (lent minutes-at ts, (lent values-at vs, (z, (h, tt))))) a
       (r, (lent minutes-at ts, (lent values-at vs, (z, (h, tt)))))
+
+pub record RecordRowCall (r : RunningSums) (z h : ℕ) (e : Estimate) : Type 0 where
+  pub lifetimes : Lfts 0
+  pub ensured : record-row.Post lifetimes (r, (z, (h, tt))) e (r, (z, (h, tt)))
 
 -- rs and rs′ are the rows at entry and at exit, and so for every list below
 pub record SmoothCall (ts vs zs hs rs : List ℕ) (a : Smoothing) (rs′ : List ℕ) : Type 0 where
@@ -164,6 +178,15 @@ pub record ExportedAdvance (xs ts vs : List ℕ) (z h c : ℕ) (xs′ : List ℕ
       exported-advance.Post lifetimes (lent running-at xs, (lent minutes-at ts, (lent values-at vs, (z, (h, tt))))) c
       (lent running-at xs′, (lent minutes-at ts, (lent values-at vs, (z, (h, tt)))))
 
+-- the record is lent to be read
+pub record ExportedRecordRow (xs : List ℕ) (z h : ℕ) (row : List ℕ) (c : ℕ) (row′ : List ℕ) : Type 0 where
+  pub lifetimes : Lfts 2
+  pub running-at : Place
+  pub stored-row : Place
+  pub ensured :
+      exported-record-row.Post lifetimes (lent running-at xs, (z, (h, (lent stored-row row, tt)))) c
+      (lent running-at xs, (z, (h, (lent stored-row row′, tt))))
+
 pub record ExportedSmooth (ts vs zs hs rs : List ℕ) (c : ℕ) (rs′ : List ℕ) : Type 0 where
   pub lifetimes : Lfts 5
   pub minutes-at : Place
@@ -212,6 +235,11 @@ pub record ExportedRefusalText (n p : ℕ) (out : List ℕ) (c : ℕ) (out′ : 
   pub out-at : Place
   pub ensured : exported-refusal-text.Post lifetimes (n, (p, (lent out-at out, tt))) c (n, (p, (lent out-at out′, tt)))
 
+-- which build it is: this number is no answer
+pub record ExportedVersion (v : ℕ) : Type 0 where
+  pub lifetimes : Lfts 0
+  pub ensured : exported-version.Post lifetimes tt v tt
+
 -- Each call of SPECIFICATION, "The calls": its code is proved to come to an end on every input with an outcome of which its contract holds
 -- (`statement`, which Rattle makes of contract and code), and to ask nothing of its caller beforehand (`Asked`, the contract's `requires`).
 -- Every other function that another crate can reach is held to the same by tests/public-calls.
@@ -222,6 +250,8 @@ pub record EveryInputTaken : Type 2 where
   pub window-asks-nothing : (κs : Lfts 2) (a : Dens κs window-kinds.ps) → window.Asked κs a
   pub advance-ends : {M : Type 1} → advance-code.statement M
   pub advance-asks-nothing : (κs : Lfts 2) (a : Dens κs advance-kinds.ps) → advance.Asked κs a
+  pub record-row-ends : {M : Type 1} → record-row-code.statement M
+  pub record-row-asks-nothing : (κs : Lfts 0) (a : Dens κs record-row-kinds.ps) → record-row.Asked κs a
   pub smooth-ends : {M : Type 1} → smooth-code.statement M
   pub smooth-asks-nothing : (κs : Lfts 5) (a : Dens κs smooth-kinds.ps) → smooth.Asked κs a
   pub fill-ends : {M : Type 1} → fill-grid-code.statement M
@@ -238,6 +268,8 @@ pub record EveryInputTaken : Type 2 where
   pub exported-window-asks-nothing : (κs : Lfts 3) (a : Dens κs exported-window-kinds.ps) → exported-window.Asked κs a
   pub exported-advance-ends : {M : Type 1} → exported-advance-code.statement M
   pub exported-advance-asks-nothing : (κs : Lfts 3) (a : Dens κs exported-advance-kinds.ps) → exported-advance.Asked κs a
+  pub exported-record-row-ends : {M : Type 1} → exported-record-row-code.statement M
+  pub exported-record-row-asks-nothing : (κs : Lfts 2) (a : Dens κs exported-record-row-kinds.ps) → exported-record-row.Asked κs a
   pub exported-smooth-ends : {M : Type 1} → exported-smooth-code.statement M
   pub exported-smooth-asks-nothing : (κs : Lfts 5) (a : Dens κs exported-smooth-kinds.ps) → exported-smooth.Asked κs a
   pub exported-fill-ends : {M : Type 1} → exported-fill-code.statement M
@@ -248,3 +280,5 @@ pub record EveryInputTaken : Type 2 where
   pub exported-text-asks-nothing : (κs : Lfts 2) (a : Dens κs exported-text-kinds.ps) → exported-text.Asked κs a
   pub exported-refusal-text-ends : {M : Type 1} → exported-refusal-text-code.statement M
   pub exported-refusal-text-asks-nothing : (κs : Lfts 1) (a : Dens κs exported-refusal-text-kinds.ps) → exported-refusal-text.Asked κs a
+  pub exported-version-ends : {M : Type 1} → exported-version-code.statement M
+  pub exported-version-asks-nothing : (κs : Lfts 0) (a : Dens κs exported-version-kinds.ps) → exported-version.Asked κs a

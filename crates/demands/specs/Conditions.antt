@@ -140,6 +140,10 @@ buffer-conditions out = condition 8 (AtZero (¬ (length out ≡ max-output))) no
 abbrev pub length-first : ℕ → List ℕ → Conditions → Conditions
 length-first n xs cs = condition 8 (AtZero (¬ (length xs ≡ n))) cs
 
+-- the row of a record, as exported: eight numbers, then five, and nothing else is refused
+abbrev pub record-row-conditions : List ℕ → List ℕ → Conditions
+record-row-conditions xs row = length-first 8 xs (length-first 5 row no-more)
+
 -- what the one number of an exported answer says: a report, its number and its place as detail, or that the call is accepted
 abbrev pub code-refusal : ℕ → Option Fault
 code-refusal c = pick (eqb (c % detail-unit) 0) none (some (record { number = c % detail-unit; place = c / detail-unit }))

@@ -5,7 +5,7 @@
 -- about a list of steps in EventLog.antt and Claim.antt, the texts in Output.antt.
 -- ts are minutes, vs values, z a mark, h a half width, zs and hs lists of these, rs rows, s the bytes of a sheet; a list at exit has a prime.
 -- `AtMost max-u16` says that a list's numbers have 16 bits, as the type of the lent list has it; it stands where a bound is needed.
-use Prim.Native.Nat.{ℕ, suc, _+_, _-_, _*_, _≤_, _<_}
+use Prim.Native.Nat.{ℕ, suc, _+_, _-_, _*_, _%_, _^_, _≤_, _<_}
 use mathlib.Core.Path.{_≡_}
 use mathlib.Core.Logic.{_⊎_}
 use mathlib.Core.List.{List, [], _∷_, _++_}
@@ -30,11 +30,11 @@ use Rattle.meanings.specs.Lists.{AtMost, Ordered}
 use Rattle.meanings.specs.Limits.{full, max-u16, row-width, max-sheet, max-output}
 use Rattle.meanings.specs.Moves.{Move, moves}
 use Rattle.meanings.specs.Reports.{Fault, given}
-use Rattle.meanings.specs.Estimate.{estimate}
-use Rattle.meanings.specs.PublishedRow.{PublishedRow}
-use Rattle.meanings.specs.Running.{fresh, after, passes, record-row}
+use Rattle.meanings.specs.Estimate.{left-of, right-of, missing, estimate}
+use Rattle.meanings.specs.PublishedRow.{Nearest, PublishedRow}
+use Rattle.meanings.specs.Running.{window-sums, fresh, after, passes, record-row}
 use Rattle.meanings.specs.EventLog.{empty-log, log-after, insertion-count, eviction-count, log-refusal}
-use Rattle.meanings.specs.Claim.{NoEdgeBack, StepHolds, refusal, between, log-after-steps}
+use Rattle.meanings.specs.Claim.{last-accepted, NoEdgeBack, StepHolds, refusal, between, log-after-steps}
 use Rattle.meanings.specs.Grid.{presets}
 use Rattle.meanings.specs.Sheet.{Contents}
 use Rattle.meanings.specs.SheetForm.{IsSheet, Refused}
@@ -45,11 +45,14 @@ use Rattle.meanings.specs.Calls.{evaluation-answer, advance-answer, smoothing-a
 use Rattle.text.specs.Table.{stored-row}
 use Rattle.meanings.specs.Codes.{detail-unit}
 use Rattle.tankcurve_abi.specs.Answers.{record-of}
-use Rattle.demands.specs.Calls.{Place, EveryInputTaken, EvaluateCall, WindowCall, AdvanceCall, SmoothCall}
+use Rattle.tankcurve_abi.specs.Version.{version}
+use Rattle.demands.specs.Calls.{Place, EveryInputTaken, EvaluateCall, WindowCall, AdvanceCall, RecordRowCall, SmoothCall}
 use Rattle.demands.specs.Calls.{FillCall, ReadCall, TextCall, RefusalTextCall, ExportedEvaluate, ExportedWindow}
-use Rattle.demands.specs.Calls.{ExportedAdvance, ExportedSmooth, ExportedFill, ExportedRead, ExportedText, ExportedRefusalText}
+use Rattle.demands.specs.Calls.{ExportedAdvance, ExportedRecordRow, ExportedSmooth, ExportedFill, ExportedRead, ExportedText}
+use Rattle.demands.specs.Calls.{ExportedRefusalText, ExportedVersion}
 use Rattle.demands.specs.Conditions.{RefusedExactly, NoFault, FirstFault, FirstOrElse, evaluate-conditions, advance-conditions}
-use Rattle.demands.specs.Conditions.{smooth-conditions, fill-conditions, read-conditions, buffer-conditions, length-first, code-refusal}
+use Rattle.demands.specs.Conditions.{smooth-conditions, fill-conditions, read-conditions, buffer-conditions, length-first}
+use Rattle.demands.specs.Conditions.{record-row-conditions, code-refusal}
 
 -- how many readings the event log of these steps, empty at first, inserts and evicts
 abbrev pub log-passes : List ℕ → List ℕ → List Move → ℕ
@@ -153,6 +156,9 @@ pub record Demand1 : Type 2 where
   pub exported-advance-refused : (xs ts vs : List ℕ) (z h c : ℕ) (xs′ : List ℕ) → ExportedAdvance xs ts vs z h c xs′
       → RefusedAndStays (code-refusal c)
       (FirstFault (length-first 8 xs (advance-conditions ts vs (record-of xs .left) (record-of xs .right) h))) (xs′ ≡ xs)
+  -- the row of a record, which refuses nothing in Rattle, has two lists of fixed length here
+  pub exported-record-row-refused : (xs : List ℕ) (z h : ℕ) (row : List ℕ) (c : ℕ) (row′ : List ℕ) → ExportedRecordRow xs z h row c row′
+      → RefusedAndStays (code-refusal c) (FirstFault (record-row-conditions xs row)) (row′ ≡ row)
   pub exported-smooth-refused : (ts vs zs hs rs : List ℕ) (c : ℕ) (rs′ : List ℕ) → ExportedSmooth ts vs zs hs rs c rs′
       → RefusedAndStays (code-refusal c) (FirstFault (smooth-conditions ts vs zs hs (length rs))) (rs′ ≡ rs)
   pub exported-fill-refused : (z₀ spacing preset : ℕ) (zs hs : List ℕ) (c : ℕ) (zs′ hs′ : List ℕ)
@@ -261,6 +267,18 @@ pub record Demand3 : Type 0 where
   pub exported-steps-leave : (ts vs xs xs′ : List ℕ) (ms : List Move) → length xs ≡ 8 → ExportedSteps ts vs xs ms xs′
       → (length xs′ ≡ 8) × (record-of xs′ ≡ after ts vs (record-of xs) ms)
   pub exported-step-accepted : (xs ts vs : List ℕ) (z h c : ℕ) (xs′ : List ℕ) → ExportedAdvance xs ts vs z h c xs′ → code-refusal c ≡ none → c ≡ 0
+  -- a record with the edges and sums of a mark's window, whatever it has come by, gives the row of the question at that mark
+  pub window-record-row : (ts vs : List ℕ) (z h : ℕ) (r : RunningSums) (e e′ : Estimate) → AtMost max-u16 vs → r .left ≡ left-of ts z h
+      → r .right ≡ right-of ts z h → r .sums ≡ window-sums ts vs z h → EvaluateCall ts vs z h (Row e′) → RecordRowCall r z h e → e ≡ e′
+  -- so does the record after each list of steps with an accepted one, at the mark and half width of the last of these
+  pub steps-row : (ts vs : List ℕ) (ms : List Move) (m : Move) (r : RunningSums) (a : Evaluation) (e : Estimate) → OrderedSteps ts vs ms
+      → Steps ts vs fresh ms r → last-accepted ts vs ms ≡ some m → EvaluateCall ts vs (m .point) (m .bandwidth) a
+      → RecordRowCall r (m .point) (m .bandwidth) e → a ≡ Row e
+  -- the same of the calls for C and Rust: both are accepted and store the same five numbers
+  pub exported-steps-row : (ts vs : List ℕ) (ms : List Move) (m : Move) (xs row₁ : List ℕ) (c₁ : ℕ) (row₁′ row : List ℕ) (c : ℕ) (row′ : List ℕ)
+      → OrderedSteps ts vs ms → ExportedSteps ts vs zeros ms xs → last-accepted ts vs ms ≡ some m → length row₁ ≡ 5 → length row ≡ 5
+      → ExportedEvaluate ts vs (m .point) (m .bandwidth) row₁ c₁ row₁′ → ExportedRecordRow xs (m .point) (m .bandwidth) row c row′
+      → (c₁ ≡ 0) × (c ≡ 0) × (row′ ≡ row₁′)
   -- an accepted sweep gives what one step a mark gives: the five numbers of mark k are the row of the record after k + 1 steps from fresh
   pub smooth-steps : (ts vs zs hs rs : List ℕ) (n : ℕ) (rs′ : List ℕ) (k : ℕ) → AtMost max-u16 ts → AtMost max-u16 vs
       → SmoothCall ts vs zs hs rs (Passes n) rs′ → k < length zs
@@ -293,7 +311,22 @@ pub record SheetRead (s : List ℕ) (c : Contents) (ts vs zs hs ts′ vs′ zs�
   pub points : zs′ ≡ c .points ++ drop (length (c .points)) zs
   pub bandwidths : hs′ ≡ c .bandwidths ++ drop (length (c .bandwidths)) hs
 
+-- the row e of a record of any origin: its edges, weight and sum by the formulas over its sums, with what is subtracted on the other side and
+-- modulo 2^64, and their quotient to the nearest whole number
+pub record RowOfRecord (r : RunningSums) (z h : ℕ) (e : Estimate) : Type 0 where
+  pub left-is : e .left ≡ r .left
+  pub right-is : e .right ≡ r .right
+  pub weight-fits : e .weight < 2 ^ 64
+  pub weight-is : (e .weight + (z * z * r .sums .s00 + r .sums .s20)) % 2 ^ 64 ≡ (h * h * r .sums .s00 + 2 * z * r .sums .s10) % 2 ^ 64
+  pub sum-fits : e .sum < 2 ^ 64
+  pub sum-is : (e .sum + (z * z * r .sums .s01 + r .sums .s21)) % 2 ^ 64 ≡ (h * h * r .sums .s01 + 2 * z * r .sums .s11) % 2 ^ 64
+  pub value-is : 0 < e .weight → Nearest (e .sum) (e .weight) (e .value)
+  pub value-missing : e .weight ≡ 0 → e .value ≡ missing
+
 pub record OtherCalls : Type 0 where
+  -- the row of a record, at any mark and half width; there is one such row
+  pub record-row-is : (r : RunningSums) (z h : ℕ) (e : Estimate) → RecordRowCall r z h e → RowOfRecord r z h e
+  pub one-record-row : (r : RunningSums) (z h : ℕ) (d e : Estimate) → RowOfRecord r z h d → RowOfRecord r z h e → d ≡ e
   pub fill-fills : (z₀ spacing preset : ℕ) (zs hs zs′ hs′ : List ℕ) → FillCall z₀ spacing preset zs hs Filled zs′ hs′
       → FilledGrid z₀ spacing preset (length zs) zs′ hs′
   -- n readings are kept, and there are m marks
@@ -304,6 +337,8 @@ pub record OtherCalls : Type 0 where
       → (k ≡ length (refusal-text (record { number = n; place = p })))
       × (out′ ≡ refusal-text (record { number = n; place = p }) ++ drop (length (refusal-text (record { number = n; place = p }))) out)
   -- the same of the calls for C and Rust
+  pub exported-record-row-is : (xs : List ℕ) (z h : ℕ) (row : List ℕ) (c : ℕ) (row′ : List ℕ) → ExportedRecordRow xs z h row c row′
+      → code-refusal c ≡ none → (c ≡ 0) × (length row′ ≡ 5) × RowOfRecord (record-of xs) z h (stored-row row′ 0)
   pub exported-fill-fills : (z₀ spacing preset : ℕ) (zs hs : List ℕ) (c : ℕ) (zs′ hs′ : List ℕ) → ExportedFill z₀ spacing preset zs hs c zs′ hs′
       → code-refusal c ≡ none → (c ≡ 0) × FilledGrid z₀ spacing preset (length zs) zs′ hs′
   pub exported-read-fills : (s ts vs zs hs ns : List ℕ) (c : ℕ) (ts′ vs′ zs′ hs′ ns′ : List ℕ)
@@ -314,6 +349,8 @@ pub record OtherCalls : Type 0 where
   pub exported-refusal-text-writes : (n p : ℕ) (out : List ℕ) (c : ℕ) (out′ : List ℕ) → ExportedRefusalText n p out c out′ → code-refusal c ≡ none
       → (c ≡ detail-unit * length (refusal-text (record { number = n; place = p })))
       × (out′ ≡ refusal-text (record { number = n; place = p }) ++ drop (length (refusal-text (record { number = n; place = p }))) out)
+  -- which build it is
+  pub exported-version-is : (v : ℕ) → ExportedVersion v → v ≡ version
 
 -- ---------------------------------------------------------------------------------------------------------------------------------------
 -- All of it, and the worked cases of SPECIFICATION 7.6, 7.9 and 7.10

@@ -1,4 +1,5 @@
--- A row that is made of the direct sums over a window's run is the meaning's row: the formula over six sums fixes weight and sum.
+-- A row that is made of the direct sums over a window's run is the meaning's row: the formula over six sums fixes weight and sum. The row of a
+-- record is made of any six sums, by the same formula modulo 2^64.
 use Prim.Native.Nat.{ℕ, _-_, _*_, _^_, _≤_, _<_}
 use mathlib.Core.Path.{_≡_, ap, _∙_}
 use mathlib.Core.List.{List}
@@ -9,10 +10,11 @@ use mir.Val.{Fits}
 use mir.Syntax.{w16}
 use Rattle.meanings.specs.declared.Estimate.{Estimate}
 use Rattle.meanings.specs.declared.PowerSums.{PowerSums}
+use Rattle.meanings.specs.declared.RunningSums.{RunningSums}
 use Rattle.meanings.specs.Lists.{Ordered}
 use Rattle.meanings.specs.Limits.{full, max-bandwidth}
 use Rattle.meanings.specs.Estimate.{left-of, right-of, weight-of, sum-of, value-of, estimate}
-use Rattle.meanings.specs.Running.{six, sum-at, plus, power-sum, window-sum, window-sums}
+use Rattle.meanings.specs.Running.{six, sum-at, plus, power-sum, window-sum, window-sums, combined, record-row}
 use Rattle.meanings.proofs.Checks.{EvaluateAccepted}
 use Rattle.meanings.proofs.Moments.{weight-formula, sum-formula}
 use Rattle.meanings.proofs.Steps.{Small, power-sum-at-most, power-sum-bound, six-agree, six-at}
@@ -104,3 +106,12 @@ module _ {ts vs : List ℕ} {z h : ℕ} {s : Span} (a : EvaluateAccepted ts vs h
 
     pub row-of-span : {r : Estimate} → RowOf (s .left) (s .right) q z h r → r ≡ estimate ts vs z h
     row-of-span {r} o = row-of-window ts vs z h (a .ordered) r (rw (sums-are, i .left-is, i .right-is) at o)
+
+-- the row of a record
+pub row-of-record : (r : RunningSums) (z h weight sum value : ℕ)
+    → weight ≡ combined 64 z h (r .sums .s00) (r .sums .s10) (r .sums .s20)
+    → sum ≡ combined 64 z h (r .sums .s01) (r .sums .s11) (r .sums .s21)
+    → value ≡ value-of sum weight
+    → _≡_ {A = Estimate} (record { left = r .left; right = r .right; weight = weight; sum = sum; value = value }) (record-row r z h)
+unfolding record-row
+row-of-record r z h weight sum value a b c = rw (c, a, b)

@@ -1,4 +1,4 @@
-// The Epanechnikov estimator over readings: the question at one mark, the single step and the whole sweep.
+// The Epanechnikov estimator over readings: the question at one mark, the single step, the row of a record and the whole sweep.
 mod edges;
 mod point;
 mod row;
@@ -6,10 +6,13 @@ mod smoothing;
 mod step;
 mod sums;
 
+use arithmetic::value;
+use arithmetic::wrapping_combined;
 use checks::full;
 use checks_point::advance_fault;
 use checks_point::evaluate_fault;
 use meanings::Advance;
+use meanings::Estimate;
 use meanings::Evaluation;
 use meanings::RunningSums;
 use meanings::Smoothing;
@@ -18,7 +21,7 @@ ghost use mathlib.Core.Path.{_≡_};
 ghost use Prim.Native.Nat.{_+_, _*_};
 ghost use denote.Ref.{ptr};
 ghost use Rattle.meanings.specs.Limits.{full as full-limits};
-ghost use Rattle.meanings.specs.Running.{advance as advance-meaning};
+ghost use Rattle.meanings.specs.Running.{advance as advance-meaning, record-row};
 ghost use Rattle.meanings.specs.Calls.{evaluation-answer, advance-answer, smoothing-answer, evaluate as evaluate-meaning, window as window-meaning, window-start, smooth as smooth-meaning, smooth-rows};
 ghost use Rattle.estimator.specs.Rows.{Judged};
 
@@ -75,6 +78,22 @@ pub fn advance(
     ) {
         Verdict::Faulty(refusal) => Advance::Refused(refusal),
         Verdict::Fit => Advance::Moved(step::moved(running, minutes, values, point, bandwidth)),
+    }
+}
+
+// The row of a record of any origin at a mark with any half width: its edges, and the formulas over its six sums modulo 2^64.
+pub fn record_row(running: RunningSums, point: u16, bandwidth: u32) -> Estimate
+    ensures { λ r. ⌜ r ≡ record-row running point bandwidth ⌝ }
+{
+    let s = running.sums;
+    let weight = wrapping_combined(s.s00, s.s10, s.s20, point, bandwidth);
+    let sum = wrapping_combined(s.s01, s.s11, s.s21, point, bandwidth);
+    Estimate {
+        left: running.left as u64,
+        right: running.right as u64,
+        weight,
+        sum,
+        value: value(sum, weight),
     }
 }
 

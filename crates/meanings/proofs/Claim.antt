@@ -92,7 +92,7 @@ refusal-unless none a = refl
 refusal-unless (some e) a = refl
 
 -- the record of the last accepted step's window; before any it is fresh
-abbrev record-at : List ℕ → List ℕ → Option Move → RunningSums
+abbrev pub record-at : List ℕ → List ℕ → Option Move → RunningSums
 record-at ts vs none = fresh
 record-at ts vs (some m) = at-window ts vs (m .point) (m .bandwidth)
 
@@ -176,7 +176,7 @@ module _ (ts vs : List ℕ) (minutes : AtMost max-u16 ts) (values : AtMost max-u
   log-stands o (m ∷ ms) e = rw (log-steps o m (e .0)) (log-stands (accepted-next ts vs o m) ms (e .1))
 
   -- from fresh: the window of the list's last accepted step, and a book of what the record's edges have passed
-  record-follows : (ms : List Move) → NoEdgeBack ts vs ms → record-after ts vs ms ≡ record-at ts vs (last-accepted ts vs ms)
+  pub record-follows : (ms : List Move) → NoEdgeBack ts vs ms → record-after ts vs ms ≡ record-at ts vs (last-accepted ts vs ms)
   record-follows ms e = record-stands none ms e
 
   pub log-follows : (ms : List Move) → NoEdgeBack ts vs ms → log-after-steps ts vs ms ≡ log-of (record-after ts vs ms)
@@ -299,6 +299,7 @@ pub record Inhabited : Type 0 where
   pub ordered : Ordered some-minutes
   pub no-edge-back : NoEdgeBack some-minutes some-values some-steps
   pub refusals : map (log-refusal some-minutes some-values) some-steps ≡ none ∷ refused-with-9 ∷ refused-with-9 ∷ none ∷ []
+  pub last : last-accepted some-minutes some-values some-steps ≡ some (record { point = 9; bandwidth = 1 })
   pub second-is-back : ¬ NotBelow (some (record { point = 2; bandwidth = 1 })) (record { point = 0; bandwidth = 70000 })
   pub third-is-back : ¬ NotBelow (some (record { point = 2; bandwidth = 1 })) (record { point = 0; bandwidth = 0 })
   pub after-first : log-after-steps some-minutes some-values (take 1 some-steps) ≡ record { inserted = 0 ∷ []; evicted = [] }
@@ -313,6 +314,7 @@ inhabited = record {
   ordered = no-decrease-ordered some-minutes refl;
   no-edge-back = (λ e. tt, (λ e. refused-not-accepted e, (λ e. refused-not-accepted e, (λ e. omega arith, tt))));
   refusals = refl;
+  last = refl;
   second-is-back = λ e. omega arith;
   third-is-back = λ e. omega arith;
   after-first = refl;

@@ -16,8 +16,8 @@ use Rattle.meanings.specs.Lists.{AtMost, Ordered}
 use Rattle.meanings.specs.Limits.{full, LimitsWithin, max-u16, row-width}
 use Rattle.meanings.specs.Moves.{Move, moves}
 use Rattle.meanings.specs.Reports.{given, first-of, bad-bandwidth, uneven-rows, order-checks, windows-checks, smooth-checks}
-use Rattle.meanings.specs.Estimate.{WithinLimits, weight-of, sum-of, estimate, fields, rows}
-use Rattle.meanings.specs.Running.{fresh, next-record, after-step, after, passes, window-sum, combined, record-row}
+use Rattle.meanings.specs.Estimate.{WithinLimits, left-of, right-of, weight-of, sum-of, estimate, fields, rows}
+use Rattle.meanings.specs.Running.{fresh, next-record, after-step, after, passes, window-sum, window-sums, combined, record-row}
 use Rattle.meanings.specs.Calls.{evaluate, evaluate-refusal, smooth, smooth-refusal, smooth-rows}
 use Rattle.meanings.proofs.Bounds.{weight-bound, sum-bound}
 use Rattle.meanings.proofs.Checks.{differ-same, given-accepted, none-holds, curve-sizes-accept}
@@ -108,6 +108,15 @@ window-gives-row ts vs z h o f = rw (weight-had, sum-had)
 
     sum-had : combined 64 z h (window-sum ts vs z h 0 1) (window-sum ts vs z h 1 1) (window-sum ts vs z h 2 1) ≡ sum-of ts vs z h
     sum-had = combined-exact 64 z h _ _ _ (sum-of ts vs z h) (sum-formula ts vs z h o) (omega (arith, sum-bound ts vs z h f))
+
+-- so does a record of any origin that has the window's edges and sums
+pub record-of-window-gives-row : (ts vs : List ℕ) (z h : ℕ) (r : RunningSums) → Ordered ts → WithinLimits ts vs h → r .left ≡ left-of ts z h
+    → r .right ≡ right-of ts z h → r .sums ≡ window-sums ts vs z h → record-row r z h ≡ estimate ts vs z h
+record-of-window-gives-row ts vs z h r o f left right sums =
+    ap (λ (x : RunningSums). record-row x z h) same ∙ window-gives-row ts vs z h o f
+  where
+    same : r ≡ at-window ts vs z h
+    same = λ i. record { left = left i; right = right i; sums = sums i }
 
 -- the five numbers of mark k are those of the row that the record after k + 1 steps gives
 pub smooth-row-is-record-row : (L : Limits) → LimitsWithin L full → (ts vs zs hs rs : List ℕ) (n k : ℕ) → AtMost max-u16 ts → AtMost max-u16 vs

@@ -327,6 +327,14 @@ record-cases =
     ∷ record-gives (is-record 5 2 (is-sums 0 0 1 0 0 2)) 0 1 ⇒ estimated (is-row 5 2 (2 ^ 64 - 1) (2 ^ 64 - 2) 1)
     ∷ record-gives (is-record 0 1 (is-sums 0 0 0 7 0 0)) 0 1 ⇒ estimated (is-row 0 1 0 7 65536)
     ∷ record-gives (is-record 0 1 (is-sums 0 5 3 0 7 4)) 2 1 ⇒ estimated (is-row 0 1 17 24 1)
+    -- half widths that no step takes: none, and the widest of 32 bits, whose square times a sum wraps
+    ∷ record-gives (is-record 2 1 (is-sums 1 5 3 2 9 4)) 3 0 ⇒ estimated (is-row 2 1 18 32 2)
+    ∷ record-gives (is-record 9 4 (is-sums 1 0 0 3 0 0)) 0 4294967295 ⇒ estimated (is-row 9 4 18446744065119617025 18446744047939747843 1)
+    -- every product wraps
+    ∷ record-gives (is-record 0 0 (is-sums (2 ^ 64 - 1) (2 ^ 64 - 1) (2 ^ 64 - 1) (2 ^ 64 - 2) 5 (2 ^ 64 - 1))) 65535 4294967295
+    ⇒ estimated (is-row 0 0 12884639747 25770196983 2)
+    -- the greatest value
+    ∷ record-gives (is-record 0 0 (is-sums 0 0 (2 ^ 64 - 1) 0 0 1)) 0 1 ⇒ estimated (is-row 0 0 1 (2 ^ 64 - 1) (2 ^ 64 - 1))
     ∷ []
 
 -- halves go to the even neighbour, down and up; what lies beside a half goes to its nearest, over an odd quotient and over an even one

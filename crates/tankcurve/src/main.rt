@@ -79,11 +79,13 @@ fn answer(sheet: &[u8], out: &mut [u8]) -> usize
     }
 }
 
-// Writes the answer in one call. Where that fails nothing more is written.
+// Writes the answer, a short write being written on. Where a write fails, what has been written may be a text cut short, and standard error says so.
 fn write_answer(sheet: &[u8]) {
     let mut out = [0u8; MAX_OUTPUT];
     let n = answer(sheet, &mut out);
-    io::write_all(OUT, &out[..n]);
+    if !io::write_all(OUT, &out[..n]) {
+        io::write_all(ERR, b"tankcurve: standard output cannot be written\n");
+    }
 }
 
 fn main() {

@@ -5,14 +5,16 @@ use mathlib.Core.Bool.{Bool, true, false, true≢false}
 use mathlib.Core.List.{List, [], _∷_}
 use borrow.Author.Tests.{eq-eqb, ne-eqb}
 use lib.ListN.{length}
+use Rattle.meanings.specs.declared.Estimate.{Estimate}
 use Rattle.meanings.specs.declared.Refusal.{Refusal}
 use Rattle.meanings.specs.declared.RunningSums.{RunningSums}
 use Rattle.meanings.specs.declared.Advance.{Advance}
 use Rattle.meanings.specs.declared.Parsing.{Parsing}
 use Rattle.meanings.specs.declared.Parsing.the-variants.{Used}
-use Rattle.meanings.specs.Limits.{max-sheet}
+use Rattle.meanings.specs.Limits.{max-sheet, row-width}
 use Rattle.meanings.specs.Reports.{Fault, Answer, given, refused, fault-of}
-use Rattle.meanings.specs.Running.{advance}
+use Rattle.meanings.specs.Estimate.{fields}
+use Rattle.meanings.specs.Running.{advance, record-row}
 use Rattle.meanings.specs.Sheet.{Outcome}
 use Rattle.meanings.specs.Calls.{Counts, advance-answer, parsing-answer, counts}
 use Rattle.meanings.specs.Codes.{detail-unit, code, answered, no-detail}
@@ -68,8 +70,8 @@ module _ {A : Type 0} (n : ℕ) (xs : List ℕ) (a : Answer A) (other : length x
   pub other-code : 8 ≡ answered no-detail (sized n xs a)
   other-code = ap (answered no-detail) other-size
 
-  pub other-stays : (numbers : A → List ℕ) → xs ≡ stored numbers (sized n xs a) xs
-  other-stays numbers = ap (λ (o : Answer A). stored numbers o xs) other-size
+  pub other-stays : (numbers : A → List ℕ) (ys : List ℕ) → ys ≡ stored numbers (sized n xs a) ys
+  other-stays numbers ys = ap (λ (o : Answer A). stored numbers o ys) other-size
 
 -- at the right length the call below decides
 pub right-size : {A : Type 0} (n : ℕ) (xs : List ℕ) → length xs ≡ n → (a : Answer A) → a ≡ sized n xs a
@@ -85,6 +87,32 @@ pub step-answer : (r : Advance) (ts vs : List ℕ) (s : RunningSums) (z h : ℕ)
     → length xs ≡ 8 → advance-answer r ≡ sized 8 xs (advance ts vs (record-of xs) z h)
 step-answer r ts vs s z h answer xs e right =
     answer ∙ ap (λ (t : RunningSums). advance ts vs t z h) e ∙ right-size 8 xs right (advance ts vs (record-of xs) z h)
+
+-- two lists of set length: the second is looked at where the first is right
+module _ {A : Type 0} (n : ℕ) (xs : List ℕ) (right : length xs ≡ n) (m : ℕ) (ys : List ℕ) (a : Answer A) where
+  second-size : sized m ys a ≡ sized n xs (sized m ys a)
+  second-size = right-size n xs right (sized m ys a)
+
+  pub second-other-code : (length ys ≡ m → ⊥) → 8 ≡ answered no-detail (sized n xs (sized m ys a))
+  second-other-code other = other-code m ys a other ∙ ap (answered no-detail) second-size
+
+  pub second-other-stays : (length ys ≡ m → ⊥) → (numbers : A → List ℕ) → ys ≡ stored numbers (sized n xs (sized m ys a)) ys
+  second-other-stays other numbers = other-stays m ys a other numbers ys ∙ ap (λ (o : Answer A). stored numbers o ys) second-size
+
+  both-sizes : length ys ≡ m → a ≡ sized n xs (sized m ys a)
+  both-sizes right-too = right-size m ys right-too a ∙ second-size
+
+-- the row of the record that the eight numbers are
+module _ (xs : List ℕ) (eight : length xs ≡ 8) (ys : List ℕ) (five : length ys ≡ row-width) where
+  pub row-code : (e : Estimate) → 0 ≡ answered no-detail (sized 8 xs (sized row-width ys (given e)))
+  row-code e = ap (answered no-detail) (both-sizes 8 xs eight row-width ys (given e) five)
+
+  pub row-stored : (r : RunningSums) (z h : ℕ) (e : Estimate) (zs : List ℕ) → r ≡ record-of xs → e ≡ record-row r z h → zs ≡ fields e
+      → zs ≡ stored fields (sized 8 xs (sized row-width ys (given (record-row (record-of xs) z h)))) ys
+  row-stored r z h e zs p q s =
+      s
+      ∙ ap fields (q ∙ ap (λ (x : RunningSums). record-row x z h) p)
+      ∙ ap (λ (o : Answer Estimate). stored fields o ys) (both-sizes 8 xs eight row-width ys (given (record-row (record-of xs) z h)) five)
 
 -- the reader, with a list for its counts
 module _ (cs : List ℕ) (o : Outcome) where

@@ -1,3 +1,4 @@
 pub mod Answered
 pub mod Places
 pub mod Stores
+pub mod WrongAnswers

@@ -1,5 +1,6 @@
 // The calls for programs in C and Rust: numbers and slices of numbers only. Each answer is one number, DETAIL_UNIT × detail + report: report 0
-// is accepted, and its detail the passes of a sweep, the bytes of a text, else 0; the detail of a report is its place.
+// is accepted, and its detail the passes of a sweep, the bytes of a text, else 0; the detail of a report is its place. What tankcurve_version
+// gives is no such answer.
 mod lists;
 
 use crate::lists::put_estimate;
@@ -9,6 +10,7 @@ use crate::lists::record_of;
 use crate::lists::refusal_code;
 use estimator::advance;
 use estimator::evaluate;
+use estimator::record_row;
 use estimator::smooth;
 use grid::fill_grid;
 use meanings::Advance;
@@ -24,11 +26,16 @@ use text::curve_text;
 use text::refusal_text;
 ghost use mathlib.Core.Path.{_≡_};
 ghost use Rattle.meanings.specs.Limits.{full, row-width};
+ghost use Rattle.meanings.specs.Reports.{given};
 ghost use Rattle.meanings.specs.Estimate.{fields};
-ghost use Rattle.meanings.specs.Running.{advance as advance-meaning};
+ghost use Rattle.meanings.specs.Running.{advance as advance-meaning, record-row};
 ghost use Rattle.meanings.specs.Calls.{evaluate as evaluate-meaning, smooth as smooth-meaning, smooth-rows, fill, fill-points, fill-bandwidths, counts as counts-of, read, read-minutes, read-values, read-evaluation-points, read-bandwidths, write, write-buffer, write-refusal-text, refusal-buffer};
 ghost use Rattle.meanings.specs.Codes.{answered, no-detail};
 ghost use Rattle.tankcurve_abi.specs.Answers.{sized, stored, bounds as bounds-of, count-numbers, record-numbers, record-of as record-meaning};
+ghost use Rattle.tankcurve_abi.specs.Version.{version};
+
+// Which build this is: version of specs/Version.antt.
+pub const VERSION: u32 = 65536;
 
 // The question at one mark. row: five numbers, left, right, weight, sum, value.
 #[no_mangle]
@@ -100,6 +107,24 @@ pub extern "C" fn tankcurve_advance(
             0
         }
     }
+}
+
+// The row that a running record gives at a mark. running: eight numbers of any origin; row: five numbers. Every half width is taken.
+#[no_mangle]
+pub extern "C" fn tankcurve_row(running: &[u64], point: u16, bandwidth: u32, row: &mut [u64]) -> u64
+    ensures { λ r. ⌜ r ≡ answered no-detail (sized 8 (now (running .entry)) (sized row-width (now (row .entry)) (given (record-row (record-meaning (now (running .entry))) point bandwidth)))) ⌝ }
+    ensures { λ _. ⌜ now (row .exit) ≡ stored fields (sized 8 (now (running .entry)) (sized row-width (now (row .entry)) (given (record-row (record-meaning (now (running .entry))) point bandwidth)))) (now (row .entry)) ⌝ }
+{
+    let numbers = running.len();
+    if numbers != 8 {
+        return 8;
+    }
+    let width = row.len();
+    if width != ROW_WIDTH {
+        return 8;
+    }
+    put_estimate(row, record_row(record_of(running), point, bandwidth));
+    0
 }
 
 // The whole sweep: rows receives five numbers a mark, and the detail is the passes.
@@ -193,4 +218,12 @@ pub extern "C" fn tankcurve_refusal_text(number: u64, place: u64, out: &mut [u8]
         Writing::Refused(refusal) => refusal_code(refusal),
         Writing::Written(bytes) => DETAIL_UNIT * bytes as u64,
     }
+}
+
+// Which build this is.
+#[no_mangle]
+pub extern "C" fn tankcurve_version() -> u32
+    ensures { λ r. ⌜ r ≡ version ⌝ }
+{
+    VERSION
 }

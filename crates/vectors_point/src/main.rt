@@ -1,7 +1,8 @@
-// The calls at one mark and the single step on the vectors of stdin: each answer, with the lent list whole. What is written is held to the
+// The calls at one mark, the single step and the row of a record on the vectors of stdin: each answer, with the lent list whole. What is written is held to the
 // file stdout. Both files are made by the second implementation: bin gate_vectors of reference/, which says their form.
 use tankcurve_abi::tankcurve_advance;
 use tankcurve_abi::tankcurve_evaluate;
+use tankcurve_abi::tankcurve_row;
 use tankcurve_abi::tankcurve_window;
 use vectors_io::MOST_BYTES;
 use vectors_io::MOST_CASES;
@@ -93,6 +94,28 @@ fn advance_case(input: &[u8], from: usize) {
     );
 }
 
+fn row_with(record: &[u64], point: u16, bandwidth: u32, out: &mut [u64]) {
+    show_answer(tankcurve_row(record, point, bandwidth, out));
+    show_u64(out);
+}
+
+fn row_case(input: &[u8], from: usize) {
+    let mut record = [0u64; 16];
+    let mut out = [7u64; 8];
+    let r = list_u64(input, from, &mut record);
+    let point = number(input, r.next);
+    let bandwidth = number(input, point.next);
+    let lent = lent_u64(input, bandwidth.next, &out);
+    let rc = r.count;
+    let n = lent.count;
+    row_with(
+        &record[..rc],
+        narrow_u16(point.value),
+        narrow_u32(bandwidth.value),
+        &mut out[..n],
+    );
+}
+
 // A case begins with its call's number.
 fn case(input: &[u8]) {
     let call = number(input, 0);
@@ -102,6 +125,7 @@ fn case(input: &[u8]) {
         1 => point_case(input, from, false),
         2 => point_case(input, from, true),
         3 => advance_case(input, from),
+        4 => row_case(input, from),
         _ => (),
     }
 }

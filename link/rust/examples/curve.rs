@@ -1,5 +1,5 @@
 //! Reads a sheet from standard input and writes its curve, or why it was refused; then the estimates of
-//! lists given here, five numbers a point, and the passes.
+//! lists given here, five numbers a point with a dash for a missing value, and the passes.
 
 use std::io::{self, Read, Write};
 use tankcurve::{Error, ROW_WIDTH};
@@ -26,14 +26,15 @@ fn main() -> io::Result<()> {
     let points = [20, 25, 60];
     let bandwidths = [10, 15, 20];
     let mut rows = [0; 3 * ROW_WIDTH];
-    let passes = tankcurve::smooth(&minutes, &values, &points, &bandwidths, &mut rows)
+    let curve = tankcurve::smooth(&minutes, &values, &points, &bandwidths, &mut rows)
         .map_err(io::Error::other)?;
-    for row in rows.chunks_exact(ROW_WIDTH) {
-        writeln!(
-            standard,
-            "{} {} {} {} {}",
-            row[0], row[1], row[2], row[3], row[4]
-        )?;
+    for row in curve.rows {
+        let (left, right, weight, sum) = (row.left(), row.right(), row.weight(), row.sum());
+        write!(standard, "{left} {right} {weight} {sum} ")?;
+        match row.value() {
+            Some(value) => writeln!(standard, "{value}")?,
+            None => writeln!(standard, "-")?,
+        }
     }
-    writeln!(standard, "passes {passes}")
+    writeln!(standard, "passes {}", curve.passes)
 }

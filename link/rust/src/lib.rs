@@ -2,160 +2,193 @@
 //!
 //! Every call takes every content and every length of its lists and answers with what was asked for
 //! or with a [`Refusal`]; on a refusal every lent list holds what it held before. Nothing here changes
-//! what the proved calls answer; an answer that this crate does not know is [`Error::Unknown`]. Where a length is part of a type here, [`slices`] has the
-//! same call over slices of any length.
+//! what the proved calls answer; an answer that this crate does not know is [`Error::Unknown`]. Where
+//! a length is part of a type here, [`slices`] has the same call over slices of any length.
 //!
-//! What the calls mean stands in `docs/SPECIFICATION.md`; the quoted words are the trade's.
-//! `link/include/tankcurve.h` tells what lies outside the proof; of that, safe Rust leaves the stack,
-//! the compiler's back end and the declarations in `slices`, which `tests/parameters.rs` tests.
+//! ```
+//! # fn main() -> Result<(), tankcurve::Error> {
+//! let (minutes, values) = ([10, 20, 20, 35], [40, 60, 80, 20]);
+//! let mut rows = [0; 2 * tankcurve::ROW_WIDTH];
+//! let curve = tankcurve::smooth(&minutes, &values, &[20, 60], &[10, 20], &mut rows)?;
+//! // At minute 60 there is no reading in the window: the value is missing.
+//! let values: Vec<Option<u16>> = curve.rows.map(|row| row.value()).collect();
+//! assert_eq!(values, [Some(70), None]);
+//! # Ok(())
+//! # }
+//! ```
+//!
+//! The crate uses neither `std` nor a heap, and no memory but its callers'. What the calls mean stands
+//! in `docs/SPECIFICATION.md`; the quoted words are the trade's. `link/include/tankcurve.h` has the
+//! grammar of a sheet, and tells what lies outside the proof; of that, safe Rust leaves the stack, the
+//! compiler's back end and the declarations in `slices`, which `tests/parameters.rs` tests.
 
-#![deny(unsafe_code)]
+#![no_std]
+#![deny(missing_docs, unsafe_code)]
 
+mod report;
+mod row;
 pub mod slices;
 
-use std::fmt;
+pub use report::{Error, Refusal, Report};
+pub use row::{Estimate, NoEstimate, RecordRow, Rows};
+
+/// The version that this crate belongs to: major × 65,536 + minor × 256 + patch. [`version`] gives that
+/// of the linked archive.
+///
+/// ```
+/// assert_eq!(tankcurve::VERSION, 0x01_00_00);
+/// ```
+pub const VERSION: u32 = 0x01_00_00;
 
 /// How many samples ("readings") there may be, and how many places the reader's lists of them have.
+///
+/// ```
+/// use tankcurve::{evaluate, MAX_SAMPLES};
+/// assert!(evaluate(&[0; MAX_SAMPLES], &[0; MAX_SAMPLES], 0, 1).is_ok());
+/// assert!(evaluate(&[0; MAX_SAMPLES + 1], &[0; MAX_SAMPLES + 1], 0, 1).is_err());
+/// ```
 pub const MAX_SAMPLES: usize = 1024;
 
 /// How many points ("marks") there may be, and how many places the reader's lists of them have.
+///
+/// ```
+/// use tankcurve::{fill, MAX_POINTS};
+/// assert!(fill(0, 1, 0, &mut [0; MAX_POINTS], &mut [0; MAX_POINTS]).is_ok());
+/// assert!(fill(0, 1, 0, &mut [0; MAX_POINTS + 1], &mut [0; MAX_POINTS + 1]).is_err());
+/// ```
 pub const MAX_POINTS: usize = 512;
 
 /// How many bytes a sheet may have; no place is greater.
+///
+/// ```
+/// let mut out = [0; tankcurve::MAX_OUTPUT];
+/// let refused = tankcurve::text(&[0; tankcurve::MAX_SHEET + 1], &mut out);
+/// assert_eq!(refused.unwrap_err().to_string(), "report 1, overlong, at 32768");
+/// ```
 pub const MAX_SHEET: usize = 32_768;
 
 /// How many bytes the buffer of [`text`] and of [`refusal_text`] has; no text is longer.
+///
+/// ```
+/// let mut out = [0; tankcurve::MAX_OUTPUT];
+/// assert!(tankcurve::text(b"mark,half\n20,10\n\nminute,inj,vdk\n", &mut out).is_ok());
+/// ```
 pub const MAX_OUTPUT: usize = 31_291;
 
-/// How many numbers a row has.
+/// How many numbers a row has: left, right, weight, sum, value.
+///
+/// ```
+/// let row = [0; tankcurve::ROW_WIDTH];
+/// assert!(tankcurve::Estimate::try_from(row).is_ok());
+/// ```
 pub const ROW_WIDTH: usize = 5;
 
-/// The value of a row of weight 0.
+/// How many numbers a record has: left, right, s00, s10, s20, s01, s11, s21.
+///
+/// ```
+/// let fresh = [0; tankcurve::RECORD_WIDTH];
+/// assert_eq!(tankcurve::RunningSums::from(fresh), tankcurve::RunningSums::default());
+/// ```
+pub const RECORD_WIDTH: usize = 8;
+
+/// The number that a row of weight 0 has for its value: missing.
+///
+/// It needs 17 bits: cast to `u16`, the type of every other value, it is 0, which reads as beer without
+/// diacetyl. [`Estimate::value`] gives `None` instead. Whether a value is there is told by the weight,
+/// never by this number: the value of a [`RecordRow`] may be 65,536 with a weight.
+///
+/// ```
+/// assert!(u16::try_from(tankcurve::MISSING).is_err());
+/// ```
 pub const MISSING: u64 = 65_536;
 
-/// Why a call refused, under the numbers of the instrument's reports.
-#[derive(Clone, Copy, Debug, PartialEq, Eq)]
-pub enum Report {
-    /// "overlong"
-    TooLong = 1,
-    /// "heading"
-    BadHeader = 2,
-    /// "torn line"
-    MalformedLine = 3,
-    /// "early reading"
-    SampleOutOfOrder = 4,
-    /// "early mark"
-    PointOutOfOrder = 5,
-    /// "crowded"
-    TooMany = 6,
-    /// "no marks"
-    NoPoints = 7,
-    /// "uneven"
-    LengthMismatch = 8,
-    /// "half width"
-    BandwidthOutOfRange = 9,
-    /// "edge back"
-    EdgeDecreases = 10,
-    /// "foreign record"
-    InvalidRecord = 11,
-    /// "knob"
-    UnknownPreset = 12,
-    /// "past the clock"
-    GridOverflow = 13,
-}
+/// The greatest weight that a row of readings has: that of as many samples as there may be, all at the
+/// point, with the greatest bandwidth.
+///
+/// ```
+/// use tankcurve::{MAX_BANDWIDTH, MAX_SAMPLES, MAX_WEIGHT};
+/// let there = [0; MAX_SAMPLES];
+/// let row = tankcurve::evaluate(&there, &there, 0, MAX_BANDWIDTH).unwrap();
+/// assert_eq!(row.weight(), MAX_WEIGHT);
+/// ```
+pub const MAX_WEIGHT: u64 = 1 << 42;
 
-impl Report {
-    /// The report with this number, if there is one.
-    pub fn from_number(number: u64) -> Option<Report> {
-        Some(match number {
-            1 => Report::TooLong,
-            2 => Report::BadHeader,
-            3 => Report::MalformedLine,
-            4 => Report::SampleOutOfOrder,
-            5 => Report::PointOutOfOrder,
-            6 => Report::TooMany,
-            7 => Report::NoPoints,
-            8 => Report::LengthMismatch,
-            9 => Report::BandwidthOutOfRange,
-            10 => Report::EdgeDecreases,
-            11 => Report::InvalidRecord,
-            12 => Report::UnknownPreset,
-            13 => Report::GridOverflow,
-            _ => return None,
-        })
-    }
-}
+/// The greatest sum that a row of readings has: [`MAX_WEIGHT`] times the greatest value.
+///
+/// ```
+/// use tankcurve::{MAX_BANDWIDTH, MAX_SAMPLES, MAX_SUM};
+/// let (there, values) = ([0; MAX_SAMPLES], [65_535; MAX_SAMPLES]);
+/// let row = tankcurve::evaluate(&there, &values, 0, MAX_BANDWIDTH).unwrap();
+/// assert_eq!(row.sum(), MAX_SUM);
+/// ```
+pub const MAX_SUM: u64 = (1 << 58) - (1 << 42);
 
-/// A report with its place: a byte of the sheet, a position in a list, or 0.
-#[derive(Clone, Copy, Debug, PartialEq, Eq)]
-pub struct Refusal {
-    pub report: Report,
-    pub place: u64,
-}
+/// The least bandwidth ("half width").
+///
+/// ```
+/// use tankcurve::{evaluate, MIN_BANDWIDTH};
+/// assert!(evaluate(&[], &[], 0, MIN_BANDWIDTH).is_ok());
+/// assert!(evaluate(&[], &[], 0, MIN_BANDWIDTH - 1).is_err());
+/// ```
+pub const MIN_BANDWIDTH: u32 = 1;
 
-/// Why a call gave nothing.
-#[derive(Clone, Copy, Debug, PartialEq, Eq)]
-pub enum Error {
-    /// The call refused.
-    Refused(Refusal),
-    /// The linked archive returned this, whose number is none of [`Report`]: it is of another version.
-    Unknown(u64),
-}
+/// The greatest bandwidth ("half width").
+///
+/// ```
+/// use tankcurve::{evaluate, MAX_BANDWIDTH};
+/// assert!(evaluate(&[], &[], 0, MAX_BANDWIDTH).is_ok());
+/// assert!(evaluate(&[], &[], 0, MAX_BANDWIDTH + 1).is_err());
+/// ```
+pub const MAX_BANDWIDTH: u32 = 65_536;
 
-impl fmt::Display for Error {
-    fn fmt(&self, f: &mut fmt::Formatter<'_>) -> fmt::Result {
-        match self {
-            Error::Refused(Refusal { report, place }) => write!(f, "{report:?} at {place}"),
-            Error::Unknown(answer) => write!(f, "unknown answer {answer}"),
-        }
-    }
-}
-
-impl std::error::Error for Error {}
-
-/// The estimate at a point ("row").
-#[derive(Clone, Copy, Debug, PartialEq, Eq)]
-pub struct Estimate {
-    /// How many samples lie before the window.
-    pub left: u64,
-    /// How many samples lie before the window's right edge or on it.
-    pub right: u64,
-    /// The sum of the weights.
-    pub weight: u64,
-    /// The sum of the weights, each times its sample's value.
-    pub sum: u64,
-    /// The sum divided by the weight to the nearest whole number, a half to the even neighbour, or [`MISSING`].
-    pub value: u64,
-}
-
-impl From<[u64; ROW_WIDTH]> for Estimate {
-    fn from([left, right, weight, sum, value]: [u64; ROW_WIDTH]) -> Estimate {
-        Estimate {
-            left,
-            right,
-            weight,
-            sum,
-            value,
-        }
-    }
-}
-
-/// The running sums ("running record"); the default is the fresh record. `spq` is the sum over the
-/// run of minute to the power p times value to the power q, modulo 2^64.
+/// The running sums ("running record"); the default is the fresh record. `spq` adds up minute to the
+/// power p times value to the power q, modulo 2^64, of the samples that steps have added and not
+/// subtracted. Those are the run of the last accepted point if the steps were as [`advance`] says.
+///
+/// ```
+/// let fresh = tankcurve::RunningSums::default();
+/// assert_eq!(<[u64; tankcurve::RECORD_WIDTH]>::from(fresh), [0; 8]);
+/// ```
 #[derive(Clone, Copy, Debug, Default, PartialEq, Eq)]
+#[must_use]
 pub struct RunningSums {
+    /// The position up to which the samples are subtracted again.
     pub left: u64,
+    /// The position up to which the samples are added.
     pub right: u64,
+    /// The number of samples.
     pub s00: u64,
+    /// The sum of the minutes.
     pub s10: u64,
+    /// The sum of the squared minutes.
     pub s20: u64,
+    /// The sum of the values.
     pub s01: u64,
+    /// The sum of minute times value.
     pub s11: u64,
+    /// The sum of squared minute times value.
     pub s21: u64,
 }
 
-impl From<[u64; 8]> for RunningSums {
-    fn from([left, right, s00, s10, s20, s01, s11, s21]: [u64; 8]) -> RunningSums {
+impl RunningSums {
+    /// The row of this record at a point, as [`row()`]: pass the point and bandwidth of the last accepted
+    /// step.
+    ///
+    /// ```
+    /// # fn main() -> Result<(), tankcurve::Error> {
+    /// let mut record = tankcurve::RunningSums::default();
+    /// tankcurve::advance(&mut record, &[5, 9], &[2, 3], 9, 1)?;
+    /// assert_eq!(record.row(9, 1)?.value(), Some(3));
+    /// # Ok(())
+    /// # }
+    /// ```
+    pub fn row(self, point: u16, bandwidth: u32) -> Result<RecordRow, Error> {
+        row(self, point, bandwidth)
+    }
+}
+
+impl From<[u64; RECORD_WIDTH]> for RunningSums {
+    fn from([left, right, s00, s10, s20, s01, s11, s21]: [u64; RECORD_WIDTH]) -> RunningSums {
         RunningSums {
             left,
             right,
@@ -169,20 +202,74 @@ impl From<[u64; 8]> for RunningSums {
     }
 }
 
-impl From<RunningSums> for [u64; 8] {
-    fn from(r: RunningSums) -> [u64; 8] {
+impl From<RunningSums> for [u64; RECORD_WIDTH] {
+    fn from(r: RunningSums) -> [u64; RECORD_WIDTH] {
         [r.left, r.right, r.s00, r.s10, r.s20, r.s01, r.s11, r.s21]
     }
 }
 
 /// How many samples and points a sheet has.
+///
+/// ```
+/// use tankcurve::{Counts, MAX_POINTS, MAX_SAMPLES};
+/// let used = tankcurve::read(
+///     b"mark,half\n20,10\n\nminute,inj,vdk\n10,3,40\n11,3,41\n",
+///     &mut [0; MAX_SAMPLES],
+///     &mut [0; MAX_SAMPLES],
+///     &mut [0; MAX_POINTS],
+///     &mut [0; MAX_POINTS],
+/// );
+/// assert_eq!(used, Ok(Counts { samples: 2, points: 1 }));
+/// ```
 #[derive(Clone, Copy, Debug, PartialEq, Eq)]
 pub struct Counts {
+    /// The kept samples.
     pub samples: u64,
+    /// The points.
     pub points: u64,
 }
 
+/// What a sweep gives: the passes, and the rows as they stand in the lent list.
+///
+/// ```
+/// # fn main() -> Result<(), tankcurve::Error> {
+/// let mut rows = [0; tankcurve::ROW_WIDTH];
+/// let mut curve = tankcurve::smooth(&[5, 9], &[2, 3], &[9], &[1], &mut rows)?;
+/// assert_eq!((curve.passes, curve.rows.len()), (3, 1));
+/// assert_eq!(curve.rows.next().and_then(|row| row.value()), Some(3));
+/// # Ok(())
+/// # }
+/// ```
+#[derive(Clone, Debug)]
+#[must_use]
+pub struct Smoothed<'a> {
+    /// The passes: the last row's left plus its right.
+    pub passes: u64,
+    /// The rows, one a point.
+    pub rows: Rows<'a>,
+}
+
+/// The version of the linked archive.
+///
+/// ```
+/// assert_eq!(tankcurve::version(), tankcurve::VERSION);
+/// ```
+#[must_use]
+pub fn version() -> u32 {
+    slices::version()
+}
+
 /// The estimate at one point ("the question at one mark": the row). Reports 8, 6, 4, 9.
+///
+/// ```
+/// # fn main() -> Result<(), tankcurve::Error> {
+/// let row = tankcurve::evaluate(&[10, 20, 20, 35], &[40, 60, 80, 20], 20, 10)?;
+/// assert_eq!((row.left(), row.right(), row.value()), (0, 3, Some(70)));
+/// // A reading on the edge has no weight: the value is missing.
+/// assert_eq!(tankcurve::evaluate(&[10], &[40], 20, 10)?.value(), None);
+/// # Ok(())
+/// # }
+/// ```
 pub fn evaluate(
     minutes: &[u16],
     values: &[u16],
@@ -190,14 +277,21 @@ pub fn evaluate(
     bandwidth: u32,
 ) -> Result<Estimate, Error> {
     let mut row = [0; ROW_WIDTH];
-    outcome(slices::evaluate(
-        minutes, values, point, bandwidth, &mut row,
-    ))?;
-    Ok(Estimate::from(row))
+    let answer = slices::evaluate(minutes, values, point, bandwidth, &mut row);
+    report::outcome(answer)?;
+    Estimate::try_from(row).map_err(|_| Error::Unknown(answer))
 }
 
 /// The values inside the window of one point ("the question at one mark": the run), as that part of
 /// `values`. Reports 8, 6, 4, 9.
+///
+/// ```
+/// # fn main() -> Result<(), tankcurve::Error> {
+/// let values = [40, 60, 80, 20];
+/// assert_eq!(tankcurve::window(&[10, 20, 20, 35], &values, 20, 10)?, [40, 60, 80]);
+/// # Ok(())
+/// # }
+/// ```
 pub fn window<'a>(
     minutes: &[u16],
     values: &'a [u16],
@@ -205,20 +299,27 @@ pub fn window<'a>(
     bandwidth: u32,
 ) -> Result<&'a [u16], Error> {
     let mut bounds = [0; 2];
-    outcome(slices::window(
-        minutes,
-        values,
-        point,
-        bandwidth,
-        &mut bounds,
-    ))?;
-    let [left, right] = bounds;
-    Ok(values
-        .get(left as usize..right as usize)
-        .unwrap_or_default())
+    let answer = slices::window(minutes, values, point, bandwidth, &mut bounds);
+    report::outcome(answer)?;
+    part(values, bounds).ok_or(Error::Unknown(answer))
 }
 
 /// Moves the running sums to the next point ("a step"). Reports 8, 6, 11, 9.
+///
+/// The step moves right and then left, never back, adds the samples that right has reached and subtracts
+/// those that left has passed. From a fresh record, over the same ordered minutes and with no accepted step
+/// whose edges lie back, the sums are those over the run of the last accepted point; of another record only
+/// what was added and subtracted is said. The order of the minutes and of the edges is not looked at.
+///
+/// ```
+/// # fn main() -> Result<(), tankcurve::Error> {
+/// let (minutes, values) = ([10, 20, 20, 35], [40, 60, 80, 20]);
+/// let mut record = tankcurve::RunningSums::default();
+/// tankcurve::advance(&mut record, &minutes, &values, 20, 10)?;
+/// assert_eq!((record.s00, record.s10, record.s01), (3, 50, 180));
+/// # Ok(())
+/// # }
+/// ```
 pub fn advance(
     record: &mut RunningSums,
     minutes: &[u16],
@@ -226,25 +327,77 @@ pub fn advance(
     point: u16,
     bandwidth: u32,
 ) -> Result<(), Error> {
-    let mut numbers = <[u64; 8]>::from(*record);
+    let mut numbers = <[u64; RECORD_WIDTH]>::from(*record);
     let answer = slices::advance(&mut numbers, minutes, values, point, bandwidth);
     *record = RunningSums::from(numbers);
-    outcome(answer).map(|_| ())
+    report::outcome(answer).map(|_| ())
 }
 
-/// The estimates at all points ("the sweep"): [`ROW_WIDTH`] numbers a point in `rows`, and the passes.
-/// Reports 8, 6, 7, 4, 5, 9, 10.
-pub fn smooth(
+/// The row of a running record of any origin at one point. Pass the point and bandwidth of the last accepted
+/// step; at others the row may look like a good one with value 0 or 1.
+///
+/// Where the record has the edges and sums of the window of point and bandwidth, as after an accepted
+/// [`advance`] to it from a fresh record, over the same ordered minutes and with no edge back, it is the row
+/// of [`evaluate`]. Convert it to [`Estimate`] then: some rows of other records are told by that, not all.
+/// Every point and every bandwidth is taken. A record of this type earns no report.
+///
+/// ```
+/// # fn main() -> Result<(), tankcurve::Error> {
+/// let (minutes, values) = ([10, 20, 20, 35], [40, 60, 80, 20]);
+/// let mut record = tankcurve::RunningSums::default();
+/// tankcurve::advance(&mut record, &minutes, &values, 20, 10)?;
+/// let row = tankcurve::row(record, 20, 10)?;
+/// assert_eq!(row.value(), Some(70));
+/// assert_eq!(tankcurve::Estimate::try_from(row).unwrap().value(), Some(70));
+/// # Ok(())
+/// # }
+/// ```
+pub fn row(record: RunningSums, point: u16, bandwidth: u32) -> Result<RecordRow, Error> {
+    let mut row = [0; ROW_WIDTH];
+    let numbers = <[u64; RECORD_WIDTH]>::from(record);
+    report::outcome(slices::row(&numbers, point, bandwidth, &mut row))?;
+    Ok(RecordRow::from(row))
+}
+
+/// The estimates at all points ("the sweep"): exactly [`ROW_WIDTH`] numbers a point in `rows`, and the
+/// passes. Reports 8, 6, 7, 4, 5, 9, 10.
+///
+/// ```
+/// # fn main() -> Result<(), tankcurve::Error> {
+/// let (minutes, values) = ([10, 20, 20, 35], [40, 60, 80, 20]);
+/// let mut rows = [0; 3 * tankcurve::ROW_WIDTH];
+/// let curve = tankcurve::smooth(&minutes, &values, &[20, 25, 60], &[10, 15, 20], &mut rows)?;
+/// assert_eq!(curve.passes, 8);
+/// for (row, value) in curve.rows.zip([Some(70), Some(58), None]) {
+///     assert_eq!(row.value(), value);
+/// }
+/// # Ok(())
+/// # }
+/// ```
+pub fn smooth<'a>(
     minutes: &[u16],
     values: &[u16],
     points: &[u16],
     bandwidths: &[u32],
-    rows: &mut [u64],
-) -> Result<u64, Error> {
-    outcome(slices::smooth(minutes, values, points, bandwidths, rows))
+    rows: &'a mut [u64],
+) -> Result<Smoothed<'a>, Error> {
+    let answer = slices::smooth(minutes, values, points, bandwidths, rows);
+    let passes = report::outcome(answer)?;
+    let rows = Rows::try_from(&*rows).map_err(|_| Error::Unknown(answer))?;
+    Ok(Smoothed { passes, rows })
 }
 
-/// Fills an evaluation grid ("the mark filler"). Reports 8, 7, 6, 12, 13.
+/// Fills an evaluation grid ("the mark filler"): point k, from 0, is `first` + k × `spacing`, and every
+/// bandwidth is that of `preset`, the "knob"'s position from 0 to 11. Reports 8, 7, 6, 12, 13.
+///
+/// ```
+/// # fn main() -> Result<(), tankcurve::Error> {
+/// let (mut points, mut bandwidths) = ([0; 3], [0; 3]);
+/// tankcurve::fill(100, 7, 4, &mut points, &mut bandwidths)?;
+/// assert_eq!((points, bandwidths), ([100, 107, 114], [120; 3]));
+/// # Ok(())
+/// # }
+/// ```
 pub fn fill(
     first: u16,
     spacing: u16,
@@ -252,11 +405,25 @@ pub fn fill(
     points: &mut [u16],
     bandwidths: &mut [u32],
 ) -> Result<(), Error> {
-    outcome(slices::fill(first, spacing, preset, points, bandwidths)).map(|_| ())
+    report::outcome(slices::fill(first, spacing, preset, points, bandwidths)).map(|_| ())
 }
 
 /// Reads a sheet ("the reader of the tank sheet"): its kept samples and its points at the front of the
 /// lists, whose rest is untouched. Reports 1, then line by line 2, 7, or 3, 4 or 5, 9, 10, 6.
+///
+/// ```
+/// # fn main() -> Result<(), tankcurve::Error> {
+/// use tankcurve::{MAX_POINTS, MAX_SAMPLES};
+/// let (mut minutes, mut values) = ([0; MAX_SAMPLES], [0; MAX_SAMPLES]);
+/// let (mut points, mut bandwidths) = ([0; MAX_POINTS], [0; MAX_POINTS]);
+/// let sheet = b"mark,half\n20,10\n\nminute,inj,vdk\n10,3,40\n12,1,900\n";
+/// let used = tankcurve::read(sheet, &mut minutes, &mut values, &mut points, &mut bandwidths)?;
+/// // The second reading is the first injection after a change of the column.
+/// assert_eq!((used.samples, used.points), (1, 1));
+/// assert_eq!((minutes[0], values[0], points[0], bandwidths[0]), (10, 40, 20, 10));
+/// # Ok(())
+/// # }
+/// ```
 pub fn read(
     sheet: &[u8],
     minutes: &mut [u16; MAX_SAMPLES],
@@ -265,7 +432,7 @@ pub fn read(
     bandwidths: &mut [u32; MAX_POINTS],
 ) -> Result<Counts, Error> {
     let mut counts = [0; 2];
-    outcome(slices::read(
+    report::outcome(slices::read(
         sheet,
         minutes,
         values,
@@ -279,71 +446,42 @@ pub fn read(
 
 /// The curve of a sheet, as the program writes it: the front part of `out`, whose rest is untouched.
 /// Reports and places are those of [`read`]; [`refusal_text`] says them as the program does.
+///
+/// ```
+/// # fn main() -> Result<(), tankcurve::Error> {
+/// let mut out = [0; tankcurve::MAX_OUTPUT];
+/// let sheet = b"mark,half\n20,10\n\nminute,inj,vdk\n15,3,40\n";
+/// let curve = b"mark,half,left,right,weight,sum,vdk\n20,10,0,1,75,3000,40\n\nkept,passes\n1,1\n";
+/// assert_eq!(tankcurve::text(sheet, &mut out)?, curve);
+/// # Ok(())
+/// # }
+/// ```
 pub fn text<'a>(sheet: &[u8], out: &'a mut [u8; MAX_OUTPUT]) -> Result<&'a [u8], Error> {
-    let length = outcome(slices::text(sheet, out))?;
-    Ok(front(out, length))
+    let answer = slices::text(sheet, out);
+    let length = report::outcome(answer)?;
+    part(out, [0, length]).ok_or(Error::Unknown(answer))
 }
 
 /// The text of a refusal, as the program writes it: the front part of `out`, whose rest is untouched.
 /// A buffer of this type earns no report.
+///
+/// ```
+/// # fn main() -> Result<(), tankcurve::Error> {
+/// use tankcurve::Error;
+/// let mut out = [0; tankcurve::MAX_OUTPUT];
+/// if let Err(Error::Refused(refusal)) = tankcurve::text(b"mark,half\n\n", &mut out) {
+///     assert_eq!(tankcurve::refusal_text(refusal, &mut out)?, b"refused,place\n7,10\n");
+/// }
+/// # Ok(())
+/// # }
+/// ```
 pub fn refusal_text(refusal: Refusal, out: &mut [u8; MAX_OUTPUT]) -> Result<&[u8], Error> {
-    let number = refusal.report as u64;
-    let length = outcome(slices::refusal_text(number, refusal.place, out))?;
-    Ok(front(out, length))
+    let answer = slices::refusal_text(refusal.report.number(), refusal.place, out);
+    let length = report::outcome(answer)?;
+    part(out, [0, length]).ok_or(Error::Unknown(answer))
 }
 
-/// The first bytes of a buffer.
-fn front(out: &[u8; MAX_OUTPUT], length: u64) -> &[u8] {
-    out.get(..length as usize).unwrap_or_default()
-}
-
-/// What a call returned, as its detail or its refusal.
-fn outcome(answer: u64) -> Result<u64, Error> {
-    let detail = slices::detail(answer);
-    let number = slices::number(answer);
-    if number == 0 {
-        return Ok(detail);
-    }
-    Err(match Report::from_number(number) {
-        Some(report) => Error::Refused(Refusal {
-            report,
-            place: detail,
-        }),
-        None => Error::Unknown(answer),
-    })
-}
-
-#[cfg(test)]
-mod tests {
-    use super::*;
-    use slices::DETAIL_UNIT;
-
-    /// Every number that an answer can have, with places at both ends of what fits.
-    #[test]
-    fn every_number_of_an_answer() {
-        for place in [0, 1, MAX_SHEET as u64, u64::MAX / DETAIL_UNIT] {
-            assert_eq!(outcome(DETAIL_UNIT * place), Ok(place));
-            for number in 1..DETAIL_UNIT {
-                let answer = DETAIL_UNIT * place + number;
-                match outcome(answer) {
-                    Err(Error::Refused(refusal)) => {
-                        assert!(number <= 13);
-                        assert_eq!((refusal.report as u64, refusal.place), (number, place));
-                    }
-                    Err(Error::Unknown(whole)) => {
-                        assert!(number > 13);
-                        assert_eq!(whole, answer);
-                    }
-                    Ok(_) => panic!("number {number} was accepted"),
-                }
-            }
-        }
-    }
-
-    #[test]
-    fn numbers_of_no_report() {
-        for number in [0, 14, 15, 255, DETAIL_UNIT, DETAIL_UNIT + 1, u64::MAX] {
-            assert_eq!(Report::from_number(number), None);
-        }
-    }
+/// A part of a list, if the bounds are within it.
+fn part<T>(list: &[T], [left, right]: [u64; 2]) -> Option<&[T]> {
+    list.get(usize::try_from(left).ok()?..usize::try_from(right).ok()?)
 }

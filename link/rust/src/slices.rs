@@ -3,10 +3,36 @@
 //! Every call returns [`DETAIL_UNIT`] × detail + number. Number 0 means accepted; 1 to 13 is a report and
 //! the detail its place. A slice for the answer of another length than stated gets report 8 at place 0,
 //! found before all else.
+//!
+//! ```
+//! use tankcurve::slices::{detail, evaluate, number};
+//! let mut row = [0; 5];
+//! let answer = evaluate(&[20, 10], &[40, 60], 20, 10, &mut row);
+//! // The minute at position 1 is below the one before.
+//! assert_eq!((number(answer), detail(answer)), (4, 1));
+//! ```
+//!
+//! An answer that is not looked at is a warning, since the numbers of an earlier call then stand in
+//! place of a refusal:
+//!
+//! ```compile_fail
+//! #![deny(unused_must_use)]
+//! tankcurve::slices::evaluate(&[20, 10], &[40, 60], 20, 10, &mut [0; 5]);
+//! ```
+//!
+//! ```
+//! #![deny(unused_must_use)]
+//! let _ = tankcurve::slices::evaluate(&[20, 10], &[40, 60], 20, 10, &mut [0; 5]);
+//! ```
 
 #![allow(unsafe_code)]
 
 /// What one of a detail counts for in what a call returns; every number is below it.
+///
+/// ```
+/// use tankcurve::slices::{detail, DETAIL_UNIT};
+/// assert_eq!(detail(DETAIL_UNIT * 52 + 4), 52);
+/// ```
 pub const DETAIL_UNIT: u64 = 256;
 
 /// The exports of libtankcurve_abi.a: a slice is a pointer and its number of elements.
@@ -43,6 +69,15 @@ mod exports {
             values_len: usize,
             point: u16,
             bandwidth: u32,
+        ) -> u64;
+
+        pub fn tankcurve_row(
+            record: *const u64,
+            record_len: usize,
+            point: u16,
+            bandwidth: u32,
+            row: *mut u64,
+            row_len: usize,
         ) -> u64;
 
         pub fn tankcurve_smooth(
@@ -92,6 +127,8 @@ mod exports {
 
         pub fn tankcurve_refusal_text(number: u64, place: u64, out: *mut u8, out_len: usize)
             -> u64;
+
+        pub fn tankcurve_version() -> u32;
     }
 }
 
@@ -100,17 +137,34 @@ mod exports {
 // and every length.
 
 /// The number of what a call returned: 0 or a report.
+///
+/// ```
+/// assert_eq!(tankcurve::slices::number(256 * 52 + 4), 4);
+/// ```
+#[must_use]
 pub fn number(answer: u64) -> u64 {
     answer % DETAIL_UNIT
 }
 
 /// The detail of what a call returned: of a report its place.
+///
+/// ```
+/// assert_eq!(tankcurve::slices::detail(256 * 52 + 4), 52);
+/// ```
+#[must_use]
 pub fn detail(answer: u64) -> u64 {
     answer / DETAIL_UNIT
 }
 
 /// The estimate at one point. `row`: [`crate::ROW_WIDTH`] numbers: left, right, weight, sum, value.
 /// Detail 0.
+///
+/// ```
+/// let mut row = [0; 5];
+/// assert_eq!(tankcurve::slices::evaluate(&[0, 0], &[2, 3], 0, 1, &mut row), 0);
+/// assert_eq!(row, [0, 2, 2, 5, 2]);
+/// ```
+#[must_use]
 pub fn evaluate(
     minutes: &[u16],
     values: &[u16],
@@ -133,6 +187,13 @@ pub fn evaluate(
 }
 
 /// The samples inside the window of one point. `bounds`: 2 numbers: left, right. Detail 0.
+///
+/// ```
+/// let mut bounds = [0; 2];
+/// assert_eq!(tankcurve::slices::window(&[5, 9], &[2, 3], 9, 1, &mut bounds), 0);
+/// assert_eq!(bounds, [1, 2]);
+/// ```
+#[must_use]
 pub fn window(
     minutes: &[u16],
     values: &[u16],
@@ -154,8 +215,16 @@ pub fn window(
     }
 }
 
-/// Moves the running sums to the next point. `record`: 8 numbers, read and written: left, right, s00,
-/// s10, s20, s01, s11, s21. Detail 0.
+/// Moves the running sums to the next point. `record`: [`crate::RECORD_WIDTH`] numbers, read and written:
+/// left, right, s00, s10, s20, s01, s11, s21. The order of the minutes and of the edges is not looked at, as
+/// [`crate::advance`] says. Detail 0.
+///
+/// ```
+/// let mut record = [0; 8];
+/// assert_eq!(tankcurve::slices::advance(&mut record, &[5, 9], &[2, 3], 9, 1), 0);
+/// assert_eq!(record, [1, 2, 1, 9, 81, 3, 27, 243]);
+/// ```
+#[must_use]
 pub fn advance(
     record: &mut [u64],
     minutes: &[u16],
@@ -177,7 +246,40 @@ pub fn advance(
     }
 }
 
+/// The row of a record of any origin. `record`: [`crate::RECORD_WIDTH`] numbers, read: left, right, s00, s10,
+/// s20, s01, s11, s21; `row`: [`crate::ROW_WIDTH`] numbers: left, right, weight, sum, value. Pass the point and
+/// bandwidth of the last accepted step; at others the row may look like a good one with value 0 or 1.
+/// Detail 0.
+///
+/// ```
+/// use tankcurve::slices;
+/// let mut row = [0; 5];
+/// assert_eq!(slices::row(&[3, 7, 100, 200, 300, 400, 500, 9], 16, 20, &mut row), 0);
+/// assert_eq!(row, [3, 7, 20_500, 73_591, 4]);
+/// assert_eq!(slices::row(&[0; 7], 16, 20, &mut row), 8);
+/// ```
+#[must_use]
+pub fn row(record: &[u64], point: u16, bandwidth: u32, row: &mut [u64]) -> u64 {
+    unsafe {
+        exports::tankcurve_row(
+            record.as_ptr(),
+            record.len(),
+            point,
+            bandwidth,
+            row.as_mut_ptr(),
+            row.len(),
+        )
+    }
+}
+
 /// The estimates at all points. `rows`: [`crate::ROW_WIDTH`] numbers a point. Detail: the passes.
+///
+/// ```
+/// let mut rows = [0; 10];
+/// let answer = tankcurve::slices::smooth(&[50], &[9], &[0, 100], &[1, 1], &mut rows);
+/// assert_eq!((answer, rows), (256 * 2, [0, 0, 0, 0, 65_536, 1, 1, 0, 0, 65_536]));
+/// ```
+#[must_use]
 pub fn smooth(
     minutes: &[u16],
     values: &[u16],
@@ -202,6 +304,12 @@ pub fn smooth(
 }
 
 /// Fills an evaluation grid. Detail 0.
+///
+/// ```
+/// let (mut points, mut bandwidths) = ([0; 2], [0; 2]);
+/// assert_eq!(tankcurve::slices::fill(65_535, 1, 0, &mut points, &mut bandwidths), 13);
+/// ```
+#[must_use]
 pub fn fill(
     first: u16,
     spacing: u16,
@@ -224,6 +332,21 @@ pub fn fill(
 
 /// Reads a sheet. `minutes` and `values`: 1,024 each; `points` and `bandwidths`: 512 each; `counts`: 2
 /// numbers: samples, points. Detail 0.
+///
+/// ```
+/// let (mut minutes, mut values) = ([0; 1024], [0; 1024]);
+/// let (mut points, mut bandwidths, mut counts) = ([0; 512], [0; 512], [0; 2]);
+/// let answer = tankcurve::slices::read(
+///     b"mark,half\n20,10\n\nminute,inj,vdk\n",
+///     &mut minutes,
+///     &mut values,
+///     &mut points,
+///     &mut bandwidths,
+///     &mut counts,
+/// );
+/// assert_eq!((answer, counts), (0, [0, 1]));
+/// ```
+#[must_use]
 pub fn read(
     sheet: &[u8],
     minutes: &mut [u16],
@@ -250,14 +373,37 @@ pub fn read(
     }
 }
 
-/// The curve of a sheet, as the program writes it. `out`: [`crate::MAX_OUTPUT`] bytes. Detail: the bytes written;
-/// of a refused sheet its number and place, and `out` is untouched.
+/// The curve of a sheet, as the program writes it. `out`: [`crate::MAX_OUTPUT`] bytes. Detail: the bytes
+/// written; of a refused sheet its number and place, and `out` is untouched.
+///
+/// ```
+/// let mut out = [0; tankcurve::MAX_OUTPUT];
+/// assert_eq!(tankcurve::slices::text(b"mark,half\n\n", &mut out), 256 * 10 + 7);
+/// ```
+#[must_use]
 pub fn text(sheet: &[u8], out: &mut [u8]) -> u64 {
     unsafe { exports::tankcurve_text(sheet.as_ptr(), sheet.len(), out.as_mut_ptr(), out.len()) }
 }
 
 /// The text of a refusal with any number and place, as the program writes it. `out`: [`crate::MAX_OUTPUT`]
 /// bytes. Detail: the bytes written.
+///
+/// ```
+/// let mut out = [0; tankcurve::MAX_OUTPUT];
+/// assert_eq!(tankcurve::slices::refusal_text(4, 52, &mut out), 256 * 19);
+/// assert_eq!(out[..19], *b"refused,place\n4,52\n");
+/// ```
+#[must_use]
 pub fn refusal_text(number: u64, place: u64, out: &mut [u8]) -> u64 {
     unsafe { exports::tankcurve_refusal_text(number, place, out.as_mut_ptr(), out.len()) }
+}
+
+/// The version of the linked archive, which is no answer: it has neither number nor detail.
+///
+/// ```
+/// assert_eq!(tankcurve::slices::version(), tankcurve::VERSION);
+/// ```
+#[must_use]
+pub fn version() -> u32 {
+    unsafe { exports::tankcurve_version() }
 }

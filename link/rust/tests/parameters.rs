@@ -4,7 +4,7 @@
 //! The expected numbers are those of the second implementation in `reference/`.
 
 use tankcurve::slices::{self, DETAIL_UNIT};
-use tankcurve::{Counts, Error, Estimate, Refusal, Report, RunningSums, MAX_OUTPUT, ROW_WIDTH};
+use tankcurve::{Counts, Error, RecordRow, Refusal, Report, RunningSums, MAX_OUTPUT, ROW_WIDTH};
 
 const MINUTES: [u16; 6] = [3, 8, 8, 15, 21, 40];
 const VALUES: [u16; 6] = [5, 7, 11, 13, 29, 31];
@@ -37,14 +37,11 @@ fn evaluate() {
     assert_eq!(slices::evaluate(&MINUTES, &VALUES, 14, 7, &mut long), 8);
     assert_eq!(long, [90; ROW_WIDTH + 1]);
 
-    let estimate = Estimate {
-        left: 1,
-        right: 5,
-        weight: 74,
-        sum: 858,
-        value: 12,
-    };
-    assert_eq!(tankcurve::evaluate(&MINUTES, &VALUES, 14, 7), Ok(estimate));
+    let estimate = tankcurve::evaluate(&MINUTES, &VALUES, 14, 7).unwrap();
+    assert_eq!((estimate.left(), estimate.right()), (1, 5));
+    assert_eq!((estimate.weight(), estimate.sum()), (74, 858));
+    assert_eq!((estimate.value(), estimate.raw_value()), (Some(12), 12));
+    assert_eq!(<[u64; ROW_WIDTH]>::from(estimate), row);
     assert_eq!(
         tankcurve::evaluate(&FALLING, &VALUES, 14, 7),
         refused(Report::SampleOutOfOrder, 4)
@@ -54,17 +51,15 @@ fn evaluate() {
 /// Empty lists, whose pointers lead nowhere: case C4, and an empty sheet.
 #[test]
 fn empty_lists() {
-    let missing = Estimate {
-        left: 0,
-        right: 0,
-        weight: 0,
-        sum: 0,
-        value: tankcurve::MISSING,
-    };
-    assert_eq!(tankcurve::evaluate(&[], &[], 5, 1), Ok(missing));
+    let missing = tankcurve::evaluate(&[], &[], 5, 1).unwrap();
+    assert_eq!(
+        <[u64; ROW_WIDTH]>::from(missing),
+        [0, 0, 0, 0, tankcurve::MISSING]
+    );
+    assert_eq!(missing.value(), None);
     assert_eq!(tankcurve::window(&[], &[], 5, 1), Ok(&[][..]));
     assert_eq!(
-        tankcurve::smooth(&[], &[], &[], &[], &mut []),
+        tankcurve::smooth(&[], &[], &[], &[], &mut []).map(|curve| curve.passes),
         refused(Report::NoPoints, 0)
     );
     assert_eq!(
@@ -154,6 +149,62 @@ fn advance() {
     assert_eq!(running, moved);
 }
 
+/// The row of a record: that of `evaluate` where the record is of its window, and modulo 2^64 for one
+/// of any origin.
+#[test]
+fn row() {
+    let foreign = [3, 7, 100, 200, 300, 400, 500, 9];
+    let mut row = [90; ROW_WIDTH + 1];
+    assert_eq!(slices::row(&foreign[..7], 16, 20, &mut row[..5]), 8);
+    assert_eq!(slices::row(&foreign, 16, 20, &mut row), 8);
+    assert_eq!(row, [90; ROW_WIDTH + 1]);
+    assert_eq!(slices::row(&foreign, 16, 20, &mut row[..5]), 0);
+    assert_eq!(row, [3, 7, 20_500, 73_591, 4, 90]);
+
+    let typed = tankcurve::row(RunningSums::from(foreign), 16, 20);
+    assert_eq!(typed, Ok(RecordRow::from([3, 7, 20_500, 73_591, 4])));
+    let wrapping = RunningSums::from([3, 7, 2, 0, 0, u64::MAX, 0, 0]);
+    assert_eq!(
+        wrapping.row(0, 1),
+        Ok(RecordRow::from([3, 7, 2, u64::MAX, 1 << 63]))
+    );
+
+    let mut record = RunningSums::default();
+    assert_eq!(
+        tankcurve::advance(&mut record, &MINUTES, &VALUES, 14, 7),
+        Ok(())
+    );
+    assert_eq!(record.row(14, 7), Ok(RecordRow::from([1, 5, 74, 858, 12])));
+}
+
+/// Numbers of 32 bits arrive whole: a declaration of 16 bits would cut these to others.
+#[test]
+fn widths() {
+    let greatest = tankcurve::MAX_BANDWIDTH;
+    let mut row = [0; ROW_WIDTH];
+    assert_eq!(
+        slices::evaluate(&MINUTES, &VALUES, 14, greatest, &mut row),
+        0
+    );
+    assert_eq!(row, [0, 6, 25769802857, 412316836773, 16]);
+    let mut bounds = [0; 2];
+    assert_eq!(
+        slices::window(&MINUTES, &VALUES, 14, greatest, &mut bounds),
+        0
+    );
+    assert_eq!(bounds, [0, 6]);
+    let mut record = [0; 8];
+    assert_eq!(
+        slices::advance(&mut record, &MINUTES, &VALUES, 14, greatest),
+        0
+    );
+    assert_eq!(record, [0, 6, 6, 95, 2403, 96, 2203, 66511]);
+    let foreign = [3, 7, 100, 200, 300, 400, 500, 9];
+    assert_eq!(slices::row(&foreign, 16, u32::MAX, &mut row), 0);
+    assert_eq!(row, [3, 7, 18446743214716073016, 18446740637735628807, 1]);
+    assert_eq!(slices::fill(100, 7, 65_540, &mut [0], &mut [0]), 12);
+}
+
 #[test]
 fn smooth() {
     let before: [u64; 3 * ROW_WIDTH] = std::array::from_fn(|i| 90 + i as u64);
@@ -178,13 +229,15 @@ fn smooth() {
 
     let mut typed = before;
     assert_eq!(
-        tankcurve::smooth(&MINUTES, &VALUES, &[9, 14, 22], &[6, 7, 16], &mut typed),
+        tankcurve::smooth(&MINUTES, &VALUES, &[9, 14, 22], &[6, 7, 16], &mut typed)
+            .map(|curve| curve.passes),
         refused(Report::EdgeDecreases, 2)
     );
-    assert_eq!(
-        tankcurve::smooth(&MINUTES, &VALUES, &[9, 14, 22], &[6, 7, 8], &mut typed),
-        Ok(8)
-    );
+    assert_eq!(typed, before);
+    let curve = tankcurve::smooth(&MINUTES, &VALUES, &[9, 14, 22], &[6, 7, 8], &mut typed).unwrap();
+    assert_eq!((curve.passes, curve.rows.len()), (8, 3));
+    let rows: Vec<[u64; ROW_WIDTH]> = curve.rows.map(Into::into).collect();
+    assert_eq!(rows.concat(), after);
     assert_eq!(typed, after);
 }
 

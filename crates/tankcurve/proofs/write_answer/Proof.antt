@@ -19,8 +19,17 @@ slice-aggregate-write-all c = search output-count
 write-all-requires : tie.Need-write-all-requires
 write-all-requires c κs = search needs
 
+slice-aggregate-write-all-2 : tie.Need-slice-aggregate-write-all-2
+slice-aggregate-write-all-2 c = search needs
+
+write-all-requires-2 : tie.Need-write-all-requires-2
+write-all-requires-2 c κs = search needs
+
 returns : tie.Need-returns
 returns c = search needs
+
+returns-2 : tie.Need-returns-2
+returns-2 c = search needs
 
 pub write-answer-spec : {M : Type 1} → statement M
 write-answer-spec =
@@ -31,4 +40,7 @@ write-answer-spec =
     array-share-prefix-out
     slice-aggregate-write-all
     write-all-requires
-    returns)
+    slice-aggregate-write-all-2
+    write-all-requires-2
+    returns
+    returns-2)

@@ -3,8 +3,8 @@
 use crate::files::{Answer, Cases, Program};
 use reference::exported::{BOUNDS, COUNTS, READER, RECORD};
 use reference::{
-    fill, one_mark, one_mark_run, read, refusal_text, step, sweep, text, Record, Refusal,
-    MOST_OUTPUT, ROW_WIDTH,
+    fill, one_mark, one_mark_run, read, record_row, refusal_text, step, sweep, text, Record,
+    Refusal, MOST_OUTPUT, ROW_WIDTH,
 };
 
 /// The most minutes, values, points or bandwidths: vectors_io's MOST_ELEMENTS.
@@ -49,6 +49,17 @@ fn sized(length: usize, wanted: usize) -> Result<(), Refusal> {
             number: 8,
             place: 0,
         })
+    }
+}
+
+/// A record of its eight numbers.
+fn record_of(numbers: &[u64]) -> Record {
+    let mut sums = [0; RECORD - 2];
+    sums.copy_from_slice(&numbers[2..]);
+    Record {
+        left: numbers[0],
+        right: numbers[1],
+        sums,
     }
 }
 
@@ -128,16 +139,8 @@ impl Cases {
         numbers.extend(listed(values, MOST_ELEMENTS));
         numbers.extend([u64::from(point), u64::from(bandwidth)]);
         self.case(Program::Point, &numbers, b"");
-        let result = sized(record.len(), RECORD).and_then(|()| {
-            let before = Record {
-                left: record[0],
-                right: record[1],
-                sums: [
-                    record[2], record[3], record[4], record[5], record[6], record[7],
-                ],
-            };
-            step(before, minutes, values, point, bandwidth)
-        });
+        let result = sized(record.len(), RECORD)
+            .and_then(|()| step(record_of(record), minutes, values, point, bandwidth));
         let list = match result {
             Ok(after) => [&[after.left, after.right], &after.sums[..]].concat(),
             Err(_) => record.to_vec(),
@@ -149,6 +152,23 @@ impl Cases {
             b"",
             vec![list],
         )
+    }
+
+    /// The row of a record, of which `record` has the numbers.
+    pub fn record_row(&mut self, record: &[u64], point: u16, bandwidth: u32, row: usize) -> Answer {
+        let mut numbers = vec![4];
+        numbers.extend(listed(record, MOST_RECORD));
+        numbers.extend([
+            u64::from(point),
+            u64::from(bandwidth),
+            length(row, MOST_NUMBERS),
+        ]);
+        self.case(Program::Point, &numbers, b"");
+        let result = sized(record.len(), RECORD)
+            .and_then(|()| sized(row, ROW_WIDTH))
+            .map(|()| record_row(record_of(record), point, bandwidth));
+        let list = result.map_or(vec![7; row], |five| five.to_vec());
+        self.answer(Program::Point, "row", result.map(|_| 0), b"", vec![list])
     }
 
     /// Steps that each take the record the one before returned or left; gives

@@ -15,6 +15,7 @@
 //! 1 evaluate(minutes, values, point, bandwidth, row*)      the question at one mark: its row
 //! 2 window(minutes, values, point, bandwidth, bounds*)     the same question: its run
 //! 3 advance(record*, minutes, values, point, bandwidth)    the single step
+//! 4 row(record, point, bandwidth, row*)                    the row of a record
 //!
 //! vectors_sweep
 //! 1 smooth(minutes, values, points, bandwidths, rows*)     the sweep
@@ -49,6 +50,7 @@
 //! vectors_point   1 MINUTES VALUES point bandwidth length-of-row
 //!                 2 MINUTES VALUES point bandwidth length-of-bounds
 //!                 3 RECORD MINUTES VALUES point bandwidth
+//!                 4 RECORD point bandwidth length-of-row
 //! vectors_sweep   1 MINUTES VALUES POINTS BANDWIDTHS length-of-rows
 //!                 2 first spacing preset length-of-points length-of-bandwidths
 //! vectors_sheet   1 length-of-minutes -values -points -bandwidths -counts SHEET
@@ -68,8 +70,8 @@
 //! For each case a line `number detail`, then each lent list as it is after the
 //! call, whole, a line each. A list is written as runs of equal elements, each
 //! `VALUE` or, for more than one, `VALUE*COUNT`, and a space behind each run.
-//! Before the call a lent list holds 7 everywhere, except the record, which the
-//! case gives. For an accepted text the bytes written stand as they are before
+//! Before the call a lent list holds 7 everywhere, except the record of a step,
+//! which the case gives. For an accepted text the bytes written stand as they are before
 //! the line of out's other bytes.
 
 mod calls;

@@ -58,6 +58,7 @@ pub fn cases(cases: &mut Cases) {
     one_mark(cases);
     halves(cases);
     steps(cases);
+    rows_of_records(cases);
     order(cases);
     lengths(cases);
 }
@@ -157,6 +158,35 @@ fn steps(cases: &mut Cases) {
     cases.advance(&one, &[], &[], 9, 1).refused(11, 0);
     cases.steps(FRESH, &[1, 9, 1], &[1, 1, 1], &[(1, 1)]);
     cases.advance(&FRESH, &[1], &[1], 1, 0).refused(9, 0);
+}
+
+/// A record's row: after each of C1 to C3 that of the question at the mark, and of records that no steps lead to.
+#[rustfmt::skip]
+fn rows_of_records(cases: &mut Cases) {
+    let (m, v) = ([10, 20, 20, 35], [40, 60, 80, 20]);
+    let mut record = FRESH.to_vec();
+    for (point, bandwidth) in [(20, 10), (25, 15), (60, 20)] {
+        let five = cases.evaluate(&m, &v, point, bandwidth, ROW_WIDTH).lists[0].clone();
+        record = cases.advance(&record, &m, &v, point, bandwidth).lists[0].clone();
+        cases.record_row(&record, point, bandwidth, ROW_WIDTH).accepted(0, &five);
+    }
+    for (point, bandwidth) in [(0, 0), (0, 1), (65535, 0), (65535, 65536), (1, u32::MAX), (65535, u32::MAX)] {
+        for numbers in [FRESH, [!0; RECORD], [3, 1, 2, 0, 0, 5, 0, 0], [0, 0, 1 << 63, 1 << 62, 1, !1, 7, !0]] {
+            cases.record_row(&numbers, point, bandwidth, ROW_WIDTH);
+        }
+    }
+    // A half over an even number and over an odd one, and over a sum near 2^64.
+    cases.record_row(&[0, 2, 2, 0, 0, 5, 0, 0], 0, 1, ROW_WIDTH).accepted(0, &[0, 2, 2, 5, 2]);
+    cases.record_row(&[0, 2, 2, 0, 0, 7, 0, 0], 0, 1, ROW_WIDTH).accepted(0, &[0, 2, 2, 7, 4]);
+    cases.record_row(&[0, 2, 2, 0, 0, !0, 0, 0], 0, 1, ROW_WIDTH).accepted(0, &[0, 2, 2, !0, 1 << 63]);
+    // Records and rows of another length.
+    let numbers = [1, 2, 3, 4, 5, 6, 7, 8, 9, 10, 11, 12, 13, 14, 15, 16];
+    for length in [RECORD - 1, RECORD + 1, 0, 1, 16] {
+        cases.record_row(&numbers[..length], 20, 10, ROW_WIDTH).refused(8, 0);
+    }
+    for row in [ROW_WIDTH - 1, ROW_WIDTH + 1, 0, 8] {
+        cases.record_row(&FRESH, 20, 10, row).refused(8, 0);
+    }
 }
 
 /// Each case has the fault of its report and the faults of those that come

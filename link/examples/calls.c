@@ -1,0 +1,115 @@
+/*
+ * Every call once, as a panel would make them: reads a sheet from standard input, draws its curve by the sweep and, mark by mark, by a running
+ * record; asks at one mark; draws once more at marks of the filler; writes the text. Says each report by its number, word and place.
+ */
+#include "tankcurve.h"
+
+#include <inttypes.h>
+#include <stdio.h>
+
+static uint16_t minutes[TANKCURVE_MAX_SAMPLES], values[TANKCURVE_MAX_SAMPLES], points[TANKCURVE_MAX_POINTS];
+static uint32_t bandwidths[TANKCURVE_MAX_POINTS];
+static uint64_t rows[TANKCURVE_MAX_POINTS * TANKCURVE_ROW_LEN];
+static uint8_t out[TANKCURVE_MAX_OUTPUT];
+/* One byte more than a sheet may have decides that it is too long. */
+static uint8_t sheet[TANKCURVE_MAX_SHEET + 1];
+
+/* Whether a call has accepted; says the report if not. */
+static bool accepted(const char *call, uint64_t answer)
+{
+    enum tankcurve_report report = tankcurve_number(answer);
+    if (report == TANKCURVE_ACCEPTED)
+        return true;
+    printf("%s: report %d, %s, at %" PRIu64 "\n", call, (int)report, tankcurve_word(report), tankcurve_detail(answer));
+    return false;
+}
+
+/* A missing value is a dash: the number that stands for it is no value. */
+static void show(const char *call, const uint64_t *row)
+{
+    printf("%s: left %" PRIu64 ", right %" PRIu64 ", weight %" PRIu64 ", sum %" PRIu64 ", value ", call, row[TANKCURVE_ROW_LEFT],
+           row[TANKCURVE_ROW_RIGHT], row[TANKCURVE_ROW_WEIGHT], row[TANKCURVE_ROW_SUM]);
+    if (tankcurve_present(row))
+        printf("%" PRIu64 "\n", row[TANKCURVE_ROW_VALUE]);
+    else
+        printf("-\n");
+}
+
+/* The whole curve in one call: exactly five numbers a point. */
+static bool sweep(size_t samples, size_t marks)
+{
+    uint64_t answer = tankcurve_smooth(minutes, samples, values, samples, points, marks, bandwidths, marks, rows, marks * TANKCURVE_ROW_LEN);
+    if (!accepted("smooth", answer))
+        return false;
+    for (size_t k = 0; k < marks; k++)
+        show("smooth", rows + k * TANKCURVE_ROW_LEN);
+    printf("smooth: passes %" PRIu64 "\n", tankcurve_detail(answer));
+    return true;
+}
+
+/* The same curve mark by mark, from a record that begins as all zero; a row is asked at the mark and half width of the step before it. */
+static bool steps(size_t samples, size_t marks)
+{
+    uint64_t record[TANKCURVE_RECORD_LEN] = {0}, row[TANKCURVE_ROW_LEN];
+    for (size_t k = 0; k < marks; k++) {
+        if (!accepted("advance", tankcurve_advance(record, TANKCURVE_RECORD_LEN, minutes, samples, values, samples, points[k], bandwidths[k])) ||
+            !accepted("row", tankcurve_row(record, TANKCURVE_RECORD_LEN, points[k], bandwidths[k], row, TANKCURVE_ROW_LEN)))
+            return false;
+        if (!tankcurve_of_readings(row)) {
+            printf("row: no row of readings\n");
+            return false;
+        }
+        show("row", row);
+    }
+    return true;
+}
+
+/* The question at one mark: its row, and the values inside its window. */
+static bool one_mark(size_t samples, uint16_t point, uint32_t bandwidth)
+{
+    uint64_t row[TANKCURVE_ROW_LEN], bounds[TANKCURVE_BOUNDS_LEN];
+    if (!accepted("evaluate", tankcurve_evaluate(minutes, samples, values, samples, point, bandwidth, row, TANKCURVE_ROW_LEN)) ||
+        !accepted("window", tankcurve_window(minutes, samples, values, samples, point, bandwidth, bounds, TANKCURVE_BOUNDS_LEN)))
+        return false;
+    show("evaluate", row);
+    printf("window:");
+    for (uint64_t k = bounds[TANKCURVE_ROW_LEFT]; k < bounds[TANKCURVE_ROW_RIGHT]; k++)
+        printf(" %" PRIu16, values[k]);
+    printf("\n");
+    return true;
+}
+
+/* What the program writes of the sheet: its curve, or its refusal. */
+static bool text(size_t sheet_len)
+{
+    uint64_t answer = tankcurve_text(sheet, sheet_len, out, TANKCURVE_MAX_OUTPUT);
+    if (!accepted("text", answer))
+        answer = tankcurve_refusal_text(tankcurve_number(answer), tankcurve_detail(answer), out, TANKCURVE_MAX_OUTPUT);
+    return accepted("refusal_text", answer) && fwrite(out, 1, tankcurve_detail(answer), stdout) == tankcurve_detail(answer);
+}
+
+int main(void)
+{
+    /* A header of another version may have other numbers and lengths. */
+    if (tankcurve_version() != TANKCURVE_VERSION) {
+        fputs("calls: the archive is of another version than the header\n", stderr);
+        return 1;
+    }
+    size_t sheet_len = fread(sheet, 1, sizeof sheet, stdin);
+    if (ferror(stdin)) {
+        fputs("calls: standard input cannot be read\n", stderr);
+        return 1;
+    }
+    uint64_t counts[TANKCURVE_COUNTS_LEN];
+    uint64_t answer = tankcurve_read(sheet, sheet_len, minutes, TANKCURVE_MAX_SAMPLES, values, TANKCURVE_MAX_SAMPLES, points,
+                                     TANKCURVE_MAX_POINTS, bandwidths, TANKCURVE_MAX_POINTS, counts, TANKCURVE_COUNTS_LEN);
+    bool well = text(sheet_len);
+    if (accepted("read", answer)) {
+        size_t samples = counts[TANKCURVE_COUNTS_SAMPLES], marks = counts[TANKCURVE_COUNTS_POINTS];
+        printf("read: %zu samples, %zu points\n", samples, marks);
+        well = well && sweep(samples, marks) && steps(samples, marks) && one_mark(samples, points[0], bandwidths[0]);
+        /* Four marks from minute 10, one every 15 minutes, with the half width of the knob's position 0. */
+        well = well && accepted("fill", tankcurve_fill(10, 15, 0, points, 4, bandwidths, 4)) && sweep(samples, 4);
+    }
+    return well && fflush(stdout) == 0 ? 0 : 1;
+}

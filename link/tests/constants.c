@@ -1,0 +1,283 @@
+/*
+ * Holds every constant and every enumerator of tankcurve.h against the archive: each limit is the last that is accepted, each length the only
+ * one, and each report is got once by its name, with its word. Ends with a message and status 1 at the first difference.
+ */
+#include "tankcurve.h"
+
+#include <inttypes.h>
+#include <stdio.h>
+#include <stdlib.h>
+#include <string.h>
+
+/* Lists that are longer than any limit. */
+static uint16_t minutes[2 * TANKCURVE_MAX_SAMPLES], values[2 * TANKCURVE_MAX_SAMPLES], points[2 * TANKCURVE_MAX_POINTS];
+static uint32_t bandwidths[2 * TANKCURVE_MAX_POINTS];
+static uint64_t numbers[16];
+static uint8_t out[2 * TANKCURVE_MAX_OUTPUT];
+static char sheet[2 * TANKCURVE_MAX_SHEET];
+
+static int compared;
+
+/* An answer has this number, and this place if it is a report. */
+static void gives(const char *what, uint64_t answer, enum tankcurve_report report, uint64_t place)
+{
+    if (tankcurve_number(answer) != report || (report != TANKCURVE_ACCEPTED && tankcurve_detail(answer) != place)) {
+        printf("constants: %s: %s (%d) at %" PRIu64 " and not %s (%d) at %" PRIu64 "\n", what, tankcurve_word(tankcurve_number(answer)),
+               (int)tankcurve_number(answer), tankcurve_detail(answer), tankcurve_word(report), (int)report, place);
+        exit(1);
+    }
+    compared++;
+}
+
+static void same(const char *what, uint64_t got, uint64_t expected)
+{
+    if (got != expected) {
+        printf("constants: %s: %" PRIu64 " and not %" PRIu64 "\n", what, got, expected);
+        exit(1);
+    }
+    compared++;
+}
+
+static uint64_t evaluate(size_t samples, uint32_t bandwidth, size_t row_len)
+{
+    return tankcurve_evaluate(minutes, samples, values, samples, 0, bandwidth, numbers, row_len);
+}
+
+static uint64_t read_lists(const char *text, size_t length, size_t samples_len, size_t points_len, size_t counts_len)
+{
+    return tankcurve_read((const uint8_t *)text, length, minutes, samples_len, values, samples_len, points, points_len, bandwidths, points_len,
+                          numbers, counts_len);
+}
+
+static uint64_t read_sheet(const char *text)
+{
+    return read_lists(text, strlen(text), TANKCURVE_MAX_SAMPLES, TANKCURVE_MAX_POINTS, TANKCURVE_COUNTS_LEN);
+}
+
+/* Both calls that read a sheet answer with this report and place. */
+static void reads(const char *what, const char *text, enum tankcurve_report report, uint64_t place)
+{
+    gives(what, read_sheet(text), report, place);
+    gives(what, tankcurve_text((const uint8_t *)text, strlen(text), out, TANKCURVE_MAX_OUTPUT), report, place);
+}
+
+/* A sheet without a fault of this many bytes: readings of injection 1, which are not kept, fill it up. */
+static void fill_sheet(size_t length)
+{
+    const char head[] = "mark,half\n0,1\n\nminute,inj,vdk\n";
+    size_t done = strlen(head);
+    memcpy(sheet, head, done);
+    while (done < length) {
+        const char *line = (length - done) % 6 == 0 ? "0,1,0\n" : "0,1,10\n";
+        memcpy(sheet + done, line, strlen(line));
+        done += strlen(line);
+    }
+    same("the made sheet's length", done, length);
+}
+
+/* A sheet with this many points and kept samples; gives where its last line begins. */
+static size_t many(int marks, int readings)
+{
+    size_t done = 0, last = 0;
+    done += (size_t)sprintf(sheet + done, "mark,half\n");
+    for (int k = 0; k < marks; k++)
+        done += (size_t)sprintf(sheet + (last = done), "0,1\n");
+    if (marks > TANKCURVE_MAX_POINTS)
+        return last;
+    done += (size_t)sprintf(sheet + done, "\nminute,inj,vdk\n");
+    for (int k = 0; k < readings; k++)
+        done += (size_t)sprintf(sheet + (last = done), "0,3,0\n");
+    return last;
+}
+
+static void limits(void)
+{
+    gives("the most samples", evaluate(TANKCURVE_MAX_SAMPLES, 1, TANKCURVE_ROW_LEN), TANKCURVE_ACCEPTED, 0);
+    gives("a sample more", evaluate(TANKCURVE_MAX_SAMPLES + 1, 1, TANKCURVE_ROW_LEN), TANKCURVE_TOO_MANY, 0);
+    gives("the most points", tankcurve_fill(0, 0, 0, points, TANKCURVE_MAX_POINTS, bandwidths, TANKCURVE_MAX_POINTS), TANKCURVE_ACCEPTED, 0);
+    gives("a point more", tankcurve_fill(0, 0, 0, points, TANKCURVE_MAX_POINTS + 1, bandwidths, TANKCURVE_MAX_POINTS + 1), TANKCURVE_TOO_MANY,
+          0);
+    gives("the least bandwidth", evaluate(1, TANKCURVE_MIN_BANDWIDTH, TANKCURVE_ROW_LEN), TANKCURVE_ACCEPTED, 0);
+    gives("a bandwidth less", evaluate(1, TANKCURVE_MIN_BANDWIDTH - 1, TANKCURVE_ROW_LEN), TANKCURVE_BANDWIDTH_OUT_OF_RANGE, 0);
+    gives("the greatest bandwidth", evaluate(1, TANKCURVE_MAX_BANDWIDTH, TANKCURVE_ROW_LEN), TANKCURVE_ACCEPTED, 0);
+    gives("a bandwidth more", evaluate(1, TANKCURVE_MAX_BANDWIDTH + 1, TANKCURVE_ROW_LEN), TANKCURVE_BANDWIDTH_OUT_OF_RANGE, 0);
+    fill_sheet(TANKCURVE_MAX_SHEET);
+    gives("the longest sheet", tankcurve_text((const uint8_t *)sheet, TANKCURVE_MAX_SHEET, out, TANKCURVE_MAX_OUTPUT), TANKCURVE_ACCEPTED, 0);
+    fill_sheet(TANKCURVE_MAX_SHEET + 1);
+    gives("a byte more", tankcurve_text((const uint8_t *)sheet, TANKCURVE_MAX_SHEET + 1, out, TANKCURVE_MAX_OUTPUT), TANKCURVE_TOO_LONG,
+          TANKCURVE_MAX_SHEET);
+}
+
+/* Each length of a list is accepted; one less and one more are not. */
+static void lengths(void)
+{
+    const char text[] = "mark,half\n0,1\n\nminute,inj,vdk\n";
+    for (int by = -1; by <= 1; by++) {
+        enum tankcurve_report report = by == 0 ? TANKCURVE_ACCEPTED : TANKCURVE_LENGTH_MISMATCH;
+        size_t d = (size_t)by;
+        gives("row", evaluate(1, 1, TANKCURVE_ROW_LEN + d), report, 0);
+        gives("rows", tankcurve_smooth(minutes, 1, values, 1, points, 2, bandwidths, 2, numbers, 2 * TANKCURVE_ROW_LEN + d), report, 0);
+        gives("bounds", tankcurve_window(minutes, 1, values, 1, 0, 1, numbers, TANKCURVE_BOUNDS_LEN + d), report, 0);
+        memset(numbers, 0, sizeof numbers);
+        gives("record", tankcurve_advance(numbers, TANKCURVE_RECORD_LEN + d, minutes, 1, values, 1, 0, 1), report, 0);
+        gives("record of a row", tankcurve_row(numbers, TANKCURVE_RECORD_LEN + d, 0, 1, numbers + 10, TANKCURVE_ROW_LEN), report, 0);
+        gives("row of a record", tankcurve_row(numbers, TANKCURVE_RECORD_LEN, 0, 1, numbers + 10, TANKCURVE_ROW_LEN + d), report, 0);
+        gives("samples", read_lists(text, strlen(text), TANKCURVE_MAX_SAMPLES + d, TANKCURVE_MAX_POINTS, TANKCURVE_COUNTS_LEN), report, 0);
+        gives("points", read_lists(text, strlen(text), TANKCURVE_MAX_SAMPLES, TANKCURVE_MAX_POINTS + d, TANKCURVE_COUNTS_LEN), report, 0);
+        gives("counts", read_lists(text, strlen(text), TANKCURVE_MAX_SAMPLES, TANKCURVE_MAX_POINTS, TANKCURVE_COUNTS_LEN + d), report, 0);
+        gives("text", tankcurve_text((const uint8_t *)text, strlen(text), out, TANKCURVE_MAX_OUTPUT + d), report, 0);
+        gives("text of a refusal", tankcurve_refusal_text(1, 2, out, TANKCURVE_MAX_OUTPUT + d), report, 0);
+    }
+}
+
+/* One sheet or call for each report, by its name, and its word. */
+static void reports(void)
+{
+    const char head[] = "mark,half\n5,2\n\nminute,inj,vdk\n";
+    char text[100];
+    fill_sheet(TANKCURVE_MAX_SHEET + 1);
+    reads("accepted", head, TANKCURVE_ACCEPTED, 0);
+    reads("too long", sheet, TANKCURVE_TOO_LONG, TANKCURVE_MAX_SHEET);
+    reads("bad header", "mark,half\n5,2\n\nminute,inj\n", TANKCURVE_BAD_HEADER, 15);
+    reads("malformed line", "mark,half\n5,2\n5;2\n", TANKCURVE_MALFORMED_LINE, 14);
+    sprintf(text, "%s7,3,1\n6,3,1\n", head);
+    reads("sample out of order", text, TANKCURVE_SAMPLE_OUT_OF_ORDER, strlen(head) + 6);
+    reads("point out of order", "mark,half\n5,2\n4,2\n", TANKCURVE_POINT_OUT_OF_ORDER, 14);
+    size_t last = many(TANKCURVE_MAX_POINTS + 1, 0);
+    reads("too many points", sheet, TANKCURVE_TOO_MANY, last);
+    last = many(1, TANKCURVE_MAX_SAMPLES + 1);
+    reads("too many samples", sheet, TANKCURVE_TOO_MANY, last);
+    reads("no points", "mark,half\n\n", TANKCURVE_NO_POINTS, 10);
+    gives("length mismatch", tankcurve_evaluate(minutes, 2, values, 1, 0, 1, numbers, TANKCURVE_ROW_LEN), TANKCURVE_LENGTH_MISMATCH, 0);
+    reads("bandwidth out of range", "mark,half\n5,2\n5,65537\n", TANKCURVE_BANDWIDTH_OUT_OF_RANGE, 14);
+    reads("edge decreases", "mark,half\n5,2\n6,4\n", TANKCURVE_EDGE_DECREASES, 14);
+    uint64_t record[TANKCURVE_RECORD_LEN] = {1, 0, 0, 0, 0, 0, 0, 0};
+    gives("invalid record", tankcurve_advance(record, TANKCURVE_RECORD_LEN, minutes, 1, values, 1, 0, 1), TANKCURVE_INVALID_RECORD, 0);
+    gives("unknown preset", tankcurve_fill(0, 0, 12, points, 1, bandwidths, 1), TANKCURVE_UNKNOWN_PRESET, 0);
+    gives("grid overflow", tankcurve_fill(65535, 1, 11, points, 2, bandwidths, 2), TANKCURVE_GRID_OVERFLOW, 0);
+}
+
+/* The trade's words, in the order of the numbers. */
+static void words(void)
+{
+    static const char *const trade[] = {"accepted",   "overlong",   "heading",   "torn line",      "early reading", "early mark",
+                                        "crowded",    "no marks",   "uneven",    "half width",     "edge back",     "foreign record",
+                                        "knob",       "past the clock"};
+    for (unsigned number = 0; number < TANKCURVE_DETAIL_UNIT; number++) {
+        const char *word = tankcurve_word(tankcurve_number(number));
+        const char *expected = number < sizeof trade / sizeof *trade ? trade[number] : "unknown";
+        same(expected, (uint64_t)strcmp(word, expected), 0);
+    }
+}
+
+/* The value of no weight, and that a value is present by its weight and not by its number. */
+static void missing(void)
+{
+    gives("no samples", evaluate(0, 1, TANKCURVE_ROW_LEN), TANKCURVE_ACCEPTED, 0);
+    same("the value of weight 0", numbers[TANKCURVE_ROW_VALUE], TANKCURVE_MISSING);
+    same("a missing value is present", tankcurve_present(numbers), 0);
+    minutes[0] = values[0] = 0;
+    gives("a sample of value 0", evaluate(1, 1, TANKCURVE_ROW_LEN), TANKCURVE_ACCEPTED, 0);
+    same("the value 0", numbers[TANKCURVE_ROW_VALUE], 0);
+    same("the value 0 is present", tankcurve_present(numbers), 1);
+    /* A record that no readings gave: its value is 65,536 with a weight. */
+    const uint64_t record[TANKCURVE_RECORD_LEN] = {0, 0, 1, 0, 0, TANKCURVE_MISSING, 0, 0};
+    gives("a foreign record", tankcurve_row(record, TANKCURVE_RECORD_LEN, 0, 1, numbers, TANKCURVE_ROW_LEN), TANKCURVE_ACCEPTED, 0);
+    same("its value", numbers[TANKCURVE_ROW_VALUE], TANKCURVE_MISSING);
+    same("its value is present", tankcurve_present(numbers), 1);
+    const uint64_t without[TANKCURVE_ROW_LEN] = {0, 1, 0, 0, 70};
+    same("a value without weight is present", tankcurve_present(without), 0);
+}
+
+/* Where the fields stand: a row, a record and counts of which all numbers differ. The expected ones are those of the second implementation. */
+static void fields(void)
+{
+    const uint16_t at[] = {3, 8, 8, 15, 21, 40}, of[] = {5, 7, 11, 13, 29, 31};
+    uint64_t row[TANKCURVE_ROW_LEN], record[TANKCURVE_RECORD_LEN] = {0, 3, 100, 200, 300, 400, 500, UINT64_MAX};
+    gives("fields of a row", tankcurve_evaluate(at, 6, of, 6, 14, 7, row, TANKCURVE_ROW_LEN), TANKCURVE_ACCEPTED, 0);
+    same("left", row[TANKCURVE_ROW_LEFT], 1);
+    same("right", row[TANKCURVE_ROW_RIGHT], 5);
+    same("weight", row[TANKCURVE_ROW_WEIGHT], 74);
+    same("sum", row[TANKCURVE_ROW_SUM], 858);
+    same("value", row[TANKCURVE_ROW_VALUE], 12);
+    gives("fields of a record", tankcurve_advance(record, TANKCURVE_RECORD_LEN, at, 6, of, 6, 16, 8), TANKCURVE_ACCEPTED, 0);
+    same("left of a record", record[TANKCURVE_RECORD_LEFT], 1);
+    same("right of a record", record[TANKCURVE_RECORD_RIGHT], 5);
+    same("s00", record[TANKCURVE_RECORD_S00], 101);
+    same("s10", record[TANKCURVE_RECORD_S10], 233);
+    same("s20", record[TANKCURVE_RECORD_S20], 957);
+    same("s01", record[TANKCURVE_RECORD_S01], 437);
+    same("s11", record[TANKCURVE_RECORD_S11], 1289);
+    same("s21", record[TANKCURVE_RECORD_S21], 15668);
+    gives("fields of counts", read_sheet("mark,half\n5,2\n6,2\n\nminute,inj,vdk\n1,3,1\n2,1,1\n3,3,1\n4,3,1\n"), TANKCURVE_ACCEPTED, 0);
+    same("samples", numbers[TANKCURVE_COUNTS_SAMPLES], 3);
+    same("points", numbers[TANKCURVE_COUNTS_POINTS], 2);
+}
+
+/* Readings reach the greatest weight and sum; a row with a number over them is none of readings. */
+static void bounds(void)
+{
+    for (size_t k = 0; k < TANKCURVE_MAX_SAMPLES; k++) {
+        minutes[k] = 0;
+        values[k] = 65535;
+    }
+    gives("the greatest weight", evaluate(TANKCURVE_MAX_SAMPLES, TANKCURVE_MAX_BANDWIDTH, TANKCURVE_ROW_LEN), TANKCURVE_ACCEPTED, 0);
+    same("its weight", numbers[TANKCURVE_ROW_WEIGHT], TANKCURVE_MAX_WEIGHT);
+    same("its sum", numbers[TANKCURVE_ROW_SUM], TANKCURVE_MAX_SUM);
+    same("it is of readings", tankcurve_of_readings(numbers), 1);
+    numbers[TANKCURVE_ROW_WEIGHT]++;
+    same("a weight over it is of readings", tankcurve_of_readings(numbers), 0);
+    numbers[TANKCURVE_ROW_WEIGHT]--;
+    numbers[TANKCURVE_ROW_SUM]++;
+    same("a sum over it is of readings", tankcurve_of_readings(numbers), 0);
+    numbers[TANKCURVE_ROW_SUM]--;
+    numbers[TANKCURVE_ROW_VALUE]++;
+    same("a value over it is of readings", tankcurve_of_readings(numbers), 0);
+    gives("no samples", evaluate(0, 1, TANKCURVE_ROW_LEN), TANKCURVE_ACCEPTED, 0);
+    same("a missing value is of readings", tankcurve_of_readings(numbers), 1);
+}
+
+/* Rows of a record that is not of the point and bandwidth asked for: their value is 0 or 1 and has a weight. */
+static void rows_of_another_window(void)
+{
+    static const uint16_t at[] = {10, 20, 20, 35}, of[] = {40, 60, 80, 20};
+    static const struct {
+        /* The steps, and where the row is asked. */
+        uint16_t first, second, point;
+        uint32_t first_bandwidth, second_bandwidth, bandwidth;
+        uint64_t value;
+        bool of_readings;
+    } cases[] = {
+        {20, 20, 20, 10, 10, 10, 70, true}, {20, 20, 60, 10, 10, 20, 1, false}, {20, 20, 60, 10, 10, 40, 1, false},
+        {20, 20, 20, 10, 10, 5, 0, false},  {35, 20, 20, 5, 5, 5, 1, false}, /* edges that lie back */
+    };
+    for (size_t k = 0; k < sizeof cases / sizeof *cases; k++) {
+        uint64_t record[TANKCURVE_RECORD_LEN] = {0};
+        gives("a step", tankcurve_advance(record, TANKCURVE_RECORD_LEN, at, 4, of, 4, cases[k].first, cases[k].first_bandwidth),
+              TANKCURVE_ACCEPTED, 0);
+        gives("a second step", tankcurve_advance(record, TANKCURVE_RECORD_LEN, at, 4, of, 4, cases[k].second, cases[k].second_bandwidth),
+              TANKCURVE_ACCEPTED, 0);
+        gives("its row", tankcurve_row(record, TANKCURVE_RECORD_LEN, cases[k].point, cases[k].bandwidth, numbers, TANKCURVE_ROW_LEN),
+              TANKCURVE_ACCEPTED, 0);
+        same("its row is present", tankcurve_present(numbers), 1);
+        same("its row's value", numbers[TANKCURVE_ROW_VALUE], cases[k].value);
+        same("its row is of readings", tankcurve_of_readings(numbers), cases[k].of_readings);
+    }
+}
+
+int main(void)
+{
+    same("the version", tankcurve_version(), TANKCURVE_VERSION);
+    limits();
+    memset(bandwidths, 0, sizeof bandwidths);
+    bandwidths[0] = bandwidths[1] = 1;
+    lengths();
+    reports();
+    words();
+    missing();
+    fields();
+    bounds();
+    rows_of_another_window();
+    printf("constants: %d comparisons passed\n", compared);
+    return 0;
+}

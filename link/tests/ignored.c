@@ -1,0 +1,21 @@
+/*
+ * Drops the answer of every call. tests/link compiles it and wants a warning for each: an answer that is not looked at may be a refusal, after
+ * which the numbers of an earlier call stand in the lists.
+ */
+#include "tankcurve.h"
+
+void ignored(uint16_t *shorts, uint32_t *words, uint64_t *numbers, uint8_t *bytes);
+
+void ignored(uint16_t *shorts, uint32_t *words, uint64_t *numbers, uint8_t *bytes)
+{
+    tankcurve_version();
+    tankcurve_evaluate(shorts, 1, shorts, 1, 0, 1, numbers, TANKCURVE_ROW_LEN);
+    tankcurve_window(shorts, 1, shorts, 1, 0, 1, numbers, TANKCURVE_BOUNDS_LEN);
+    tankcurve_advance(numbers, TANKCURVE_RECORD_LEN, shorts, 1, shorts, 1, 0, 1);
+    tankcurve_row(numbers, TANKCURVE_RECORD_LEN, 0, 1, numbers, TANKCURVE_ROW_LEN);
+    tankcurve_smooth(shorts, 1, shorts, 1, shorts, 1, words, 1, numbers, TANKCURVE_ROW_LEN);
+    tankcurve_fill(0, 0, 0, shorts, 1, words, 1);
+    tankcurve_read(bytes, 1, shorts, 1, shorts, 1, shorts, 1, words, 1, numbers, TANKCURVE_COUNTS_LEN);
+    tankcurve_text(bytes, 1, bytes, TANKCURVE_MAX_OUTPUT);
+    tankcurve_refusal_text(1, 0, bytes, TANKCURVE_MAX_OUTPUT);
+}

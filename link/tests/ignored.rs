@@ -1,0 +1,19 @@
+//! Drops the answer of every call over slices. tests/link compiles it and wants a warning for each.
+
+pub fn ignored(shorts: &mut [u16], words: &mut [u32], numbers: &mut [u64], bytes: &mut [u8]) {
+    tankcurve::version();
+    tankcurve::slices::version();
+    tankcurve::slices::number(8);
+    tankcurve::slices::detail(8);
+    tankcurve::slices::evaluate(&[], &[], 0, 1, numbers);
+    tankcurve::slices::window(&[], &[], 0, 1, numbers);
+    tankcurve::slices::advance(numbers, &[], &[], 0, 1);
+    tankcurve::slices::row(&[0; 8], 0, 1, numbers);
+    tankcurve::slices::smooth(&[], &[], &[0], &[1], numbers);
+    tankcurve::slices::fill(0, 0, 0, shorts, words);
+    tankcurve::slices::read(&[], &mut [], &mut [], shorts, words, numbers);
+    tankcurve::slices::text(&[], bytes);
+    tankcurve::slices::refusal_text(1, 0, bytes);
+    // The other calls give a `Result`, of which the language says the same.
+    tankcurve::RunningSums::default().row(0, 1);
+}
