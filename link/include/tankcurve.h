@@ -1,6 +1,6 @@
 /*
  * The tank curve for C: Epanechnikov kernel regression in exact whole numbers, proved in Rattle. Link libtankcurve_abi.a, which
- * `rt staticlib tankcurve_abi` writes to target/staticlib; `link/install PREFIX` puts both with a pkg-config file under a prefix.
+ * `link/archive` writes to target/staticlib; `link/install PREFIX` puts both with a pkg-config file under a prefix.
  *
  * A list is a pointer and its number of elements. Every call ends, whatever its lists contain and however long they are, so that nothing
  * has to be tested before it. The calls use no heap and no global memory and keep nothing from call to call, so that they may run in several

@@ -13,7 +13,7 @@ fn main() {
     println!("cargo:rerun-if-changed={}", archive.display());
     if !archive.is_file() {
         eprintln!("{} is not there.", archive.display());
-        eprintln!("`rt staticlib tankcurve_abi`, run in the repository's root, makes it in target/staticlib;");
+        eprintln!("`link/archive`, run in the repository's root, makes it in target/staticlib;");
         eprintln!("TANKCURVE_LIB_DIR may name another folder that has it.");
         exit(1);
     }

@@ -30,7 +30,7 @@ use Rattle.meanings.specs.Calls.{evaluation-answer, advance-answer, smoothing-a
 use Rattle.meanings.specs.Calls.{window-start, smooth, smooth-rows, fill, fill-points, fill-bandwidths, read, counts}
 use Rattle.meanings.specs.Calls.{write, write-buffer, write-refusal-text, refusal-buffer}
 use Rattle.meanings.specs.Codes.{answered, no-detail}
-use Rattle.tankcurve_abi.specs.Answers.{sized, bounds, count-numbers, record-numbers, record-of}
+use Rattle.abi_answers.specs.Answers.{sized, bounds, count-numbers, record-numbers, record-of}
 use Rattle.estimator.proofs.evaluate.Met as evaluate-met
 use Rattle.estimator.proofs.window.Met as window-met
 use Rattle.estimator.proofs.advance.Met as advance-met
@@ -40,16 +40,16 @@ use Rattle.grid.proofs.fill_grid.Met as fill-grid-met
 use Rattle.sheet.proofs.read_sheet.Met as read-sheet-met
 use Rattle.text.proofs.curve_text.Met as curve-text-met
 use Rattle.text.proofs.refusal_text.Met as refusal-text-met
-use Rattle.tankcurve_abi.proofs.tankcurve_evaluate.Met as exported-evaluate-met
-use Rattle.tankcurve_abi.proofs.tankcurve_window.Met as exported-window-met
-use Rattle.tankcurve_abi.proofs.tankcurve_advance.Met as exported-advance-met
-use Rattle.tankcurve_abi.proofs.tankcurve_row.Met as exported-record-row-met
-use Rattle.tankcurve_abi.proofs.tankcurve_smooth.Met as exported-smooth-met
-use Rattle.tankcurve_abi.proofs.tankcurve_fill.Met as exported-fill-met
-use Rattle.tankcurve_abi.proofs.tankcurve_read.Met as exported-read-met
-use Rattle.tankcurve_abi.proofs.tankcurve_text.Met as exported-text-met
-use Rattle.tankcurve_abi.proofs.tankcurve_refusal_text.Met as exported-refusal-text-met
-use Rattle.tankcurve_abi.proofs.tankcurve_version.Met as exported-version-met
+use Rattle.abi_point.proofs.tankcurve_evaluate.Met as exported-evaluate-met
+use Rattle.abi_point.proofs.tankcurve_window.Met as exported-window-met
+use Rattle.abi_record.proofs.tankcurve_advance.Met as exported-advance-met
+use Rattle.abi_record.proofs.tankcurve_row.Met as exported-record-row-met
+use Rattle.abi_sweep.proofs.tankcurve_smooth.Met as exported-smooth-met
+use Rattle.abi_sweep.proofs.tankcurve_fill.Met as exported-fill-met
+use Rattle.abi_sheet.proofs.tankcurve_read.Met as exported-read-met
+use Rattle.abi_text.proofs.tankcurve_text.Met as exported-text-met
+use Rattle.abi_text.proofs.tankcurve_refusal_text.Met as exported-refusal-text-met
+use Rattle.abi_version.proofs.tankcurve_version.Met as exported-version-met
 use Rattle.demands.specs.Calls.{Place, EveryInputTaken, EvaluateCall, WindowCall, AdvanceCall, SmoothCall}
 use Rattle.demands.specs.Calls.{FillCall, ReadCall, TextCall, RefusalTextCall, ExportedEvaluate, ExportedWindow}
 use Rattle.demands.specs.Calls.{ExportedAdvance, ExportedRecordRow, ExportedSmooth, ExportedFill, ExportedRead, ExportedText}

@@ -21,7 +21,7 @@ use Rattle.meanings.proofs.Checks.{same-limits, evaluate-accepts, given-accepte
 use Rattle.meanings.proofs.SmoothRows.{rows-length, smooth-row-is-evaluate}
 use Rattle.text.specs.Table.{stored-row}
 use Rattle.meanings.specs.Codes.{answered, no-detail}
-use Rattle.tankcurve_abi.specs.Answers.{sized, stored, bounds}
+use Rattle.abi_answers.specs.Answers.{sized, stored, bounds}
 use Rattle.demands.specs.Conditions.{evaluate-conditions, code-refusal}
 use Rattle.demands.specs.Demands.{Demand2}
 use Rattle.demands.proofs.FirstFaults.{none-or-first, refused-exactly}

@@ -27,8 +27,8 @@ use Rattle.meanings.proofs.SmoothLog.{smooth-passes}
 use Rattle.meanings.proofs.SmoothRows.{smooth-row-is-record-row}
 use Rattle.text.specs.Table.{stored-row}
 use Rattle.meanings.specs.Codes.{detail-unit, answered, no-detail}
-use Rattle.tankcurve_abi.specs.Answers.{sized, stored, record-of, record-numbers}
-use Rattle.tankcurve_abi.proofs.Stores.{record-read-back}
+use Rattle.abi_answers.specs.Answers.{sized, stored, record-of, record-numbers}
+use Rattle.abi_answers.proofs.Stores.{record-read-back}
 use Rattle.demands.specs.Calls.{ExportedAdvance}
 use Rattle.demands.specs.Conditions.{code-refusal}
 use Rattle.demands.specs.Demands.{held, Steps, ExportedSteps, OrderedSteps, LogMatches, Demand3}

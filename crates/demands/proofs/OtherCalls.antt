@@ -21,7 +21,7 @@ use Rattle.meanings.proofs.Checks.{given-accepted}
 use Rattle.meanings.proofs.Grids.{fill-accepts, grid-length, grid-at}
 use Rattle.laws_sheet.proofs.Outcomes.{read-is-printed}
 use Rattle.meanings.specs.Codes.{detail-unit, answered, no-detail}
-use Rattle.tankcurve_abi.specs.Answers.{sized, stored, count-numbers, record-of}
+use Rattle.abi_answers.specs.Answers.{sized, stored, count-numbers, record-of}
 use Rattle.demands.specs.Demands.{FilledGrid, SheetRead, OtherCalls}
 use Rattle.demands.proofs.Refusals.{accepted-given, sized-opens, counts-refused}
 use Rattle.demands.proofs.Demand1.{row-coded, record-row-coded, fill-coded, read-coded, text-coded, refusal-text-coded}

@@ -30,8 +30,8 @@ use Rattle.meanings.proofs.Rounding.{rounded-nearest, nearest-unique, value-pre
 use Rattle.meanings.proofs.SmoothRows.{record-of-window-gives-row}
 use Rattle.meanings.proofs.Steps.{at-window}
 use Rattle.meanings.specs.Codes.{answered, no-detail}
-use Rattle.tankcurve_abi.specs.Answers.{sized, stored, record-of}
-use Rattle.tankcurve_abi.proofs.Answered.{right-size}
+use Rattle.abi_answers.specs.Answers.{sized, stored, record-of}
+use Rattle.abi_answers.proofs.Answered.{right-size}
 use Rattle.demands.specs.Calls.{ExportedEvaluate, ExportedRecordRow}
 use Rattle.demands.specs.Conditions.{NoFault, FallsAt, OutOfRange, evaluate-conditions}
 use Rattle.demands.specs.Demands.{OrderedSteps, RowOfRecord}

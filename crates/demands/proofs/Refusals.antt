@@ -22,7 +22,7 @@ use Rattle.meanings.specs.SheetForm.{malformed-point, faulty-point, no-point, n
 use Rattle.meanings.proofs.Claim.{refusal-unless}
 use Rattle.laws_sheet.proofs.Outcomes.{never-both, one-report, read-is-printed, refused-is-refused}
 use Rattle.meanings.specs.Codes.{detail-unit, answered}
-use Rattle.tankcurve_abi.specs.Answers.{sized, stored}
+use Rattle.abi_answers.specs.Answers.{sized, stored}
 use Rattle.meanings.proofs.Codes.{Numbered, code-read-back, accepted-read-back}
 use Rattle.demands.specs.Conditions.{Conditions, no-more, AtZero, FirstFault, FirstOrElse, RefusedExactly, length-first, code-refusal}
 use Rattle.demands.specs.Conditions as conditions

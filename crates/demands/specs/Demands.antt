@@ -44,8 +44,8 @@ use Rattle.meanings.specs.Document.{document-cases}
 use Rattle.meanings.specs.Calls.{evaluation-answer, advance-answer, smoothing-answer, filling-answer, parsing-answer, writing-answer}
 use Rattle.text.specs.Table.{stored-row}
 use Rattle.meanings.specs.Codes.{detail-unit}
-use Rattle.tankcurve_abi.specs.Answers.{record-of}
-use Rattle.tankcurve_abi.specs.Version.{version}
+use Rattle.abi_answers.specs.Answers.{record-of}
+use Rattle.abi_version.specs.Version.{version}
 use Rattle.demands.specs.Calls.{Place, EveryInputTaken, EvaluateCall, WindowCall, AdvanceCall, RecordRowCall, SmoothCall}
 use Rattle.demands.specs.Calls.{FillCall, ReadCall, TextCall, RefusalTextCall, ExportedEvaluate, ExportedWindow}
 use Rattle.demands.specs.Calls.{ExportedAdvance, ExportedRecordRow, ExportedSmooth, ExportedFill, ExportedRead, ExportedText}

@@ -1,9 +1,9 @@
 // The calls at one mark, the single step and the row of a record on the vectors of stdin: each answer, with the lent list whole. What is written is held to the
 // file stdout. Both files are made by the second implementation: bin gate_vectors of reference/, which says their form.
-use tankcurve_abi::tankcurve_advance;
-use tankcurve_abi::tankcurve_evaluate;
-use tankcurve_abi::tankcurve_row;
-use tankcurve_abi::tankcurve_window;
+use abi_point::tankcurve_evaluate;
+use abi_point::tankcurve_window;
+use abi_record::tankcurve_advance;
+use abi_record::tankcurve_row;
 use vectors_io::MOST_BYTES;
 use vectors_io::MOST_CASES;
 use vectors_io::MOST_ELEMENTS;

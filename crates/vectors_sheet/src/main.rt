@@ -1,6 +1,6 @@
 // The reader on the vectors of stdin: each answer, with every lent list whole. What is written is held to the file stdout. Both files are made
 // by the second implementation: bin gate_vectors of reference/, which says their form.
-use tankcurve_abi::tankcurve_read;
+use abi_sheet::tankcurve_read;
 use vectors_io::MOST_BYTES;
 use vectors_io::MOST_CASES;
 use vectors_io::MOST_ELEMENTS;

@@ -1,7 +1,7 @@
 // The sweep and the mark filler on the vectors of stdin: each answer, with every lent list whole. What is written is held to the file stdout.
 // Both files are made by the second implementation: bin gate_vectors of reference/, which says their form.
-use tankcurve_abi::tankcurve_fill;
-use tankcurve_abi::tankcurve_smooth;
+use abi_sweep::tankcurve_fill;
+use abi_sweep::tankcurve_smooth;
 use vectors_io::MOST_BYTES;
 use vectors_io::MOST_CASES;
 use vectors_io::MOST_ELEMENTS;

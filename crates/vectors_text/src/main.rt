@@ -1,8 +1,8 @@
 // The calls that write a text on the vectors of stdin: each answer, the bytes that were written and the rest of the lent buffer. What is
 // written is held to the file stdout. Both files are made by the second implementation: bin gate_vectors of reference/, which says their form.
+use abi_text::tankcurve_refusal_text;
+use abi_text::tankcurve_text;
 use meanings::MAX_OUTPUT;
-use tankcurve_abi::tankcurve_refusal_text;
-use tankcurve_abi::tankcurve_text;
 use vectors_io::MOST_BYTES;
 use vectors_io::MOST_CASES;
 use vectors_io::Parsed;

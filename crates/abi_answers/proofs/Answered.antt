@@ -1,0 +1,118 @@
+-- An answer as one number, and a lent list as its numbers: what both are, by what the call below was met as.
+use Prim.Native.Nat.{ℕ, _*_, _%_, _≤_, zero-le}
+use mathlib.Core.Path.{_≡_, refl, sym, ap, _∙_}
+use mathlib.Core.Bool.{Bool, true, false, true≢false}
+use mathlib.Core.List.{List, [], _∷_}
+use native.Mathlib.Nat.{mod-eq-of-lt}
+use native.Mathlib.Omega.{arith}
+use borrow.Author.Tests.{eq-eqb, ne-eqb}
+use lib.Dec.{eqb}
+use lib.ListN.{length}
+use Rattle.meanings.specs.declared.Refusal.{Refusal}
+use Rattle.meanings.specs.Limits.{max-sheet}
+use Rattle.meanings.specs.Lists.{pick}
+use Rattle.meanings.specs.Reports.{Fault, Answer, given, refused, fault-of}
+use Rattle.meanings.specs.Codes.{detail-unit, code, answered, no-detail}
+use Rattle.abi_answers.specs.Answers.{place-limit, short, sized, stored, replaced}
+use Rattle.abi_answers.proofs.Places.{refusal-place, refusal-place-at-most}
+
+-- a small place is below the limit of a code
+short-same : (e : Fault) → e .place ≤ max-sheet → short e ≡ e
+short-same e l = rw (mod-eq-of-lt {n = e .place} {m = place-limit} (omega arith)) refl
+
+-- as many numbers as the list has are stored
+pub same-length-replaced : (ys xs : List ℕ) → length xs ≡ length ys → replaced ys xs ≡ ys
+unfolding replaced
+same-length-replaced ys xs e = rw (eq-eqb (length xs) (length ys) e)
+
+-- another number of them is not
+pub other-length-stays : (ys xs : List ℕ) → (length xs ≡ length ys → ⊥) → xs ≡ replaced ys xs
+unfolding replaced
+other-length-stays ys xs e = rw (ne-eqb (length xs) (length ys) e)
+
+abbrev pub refuses : {A : Type 0} → Answer A → Bool
+refuses (given a) = false
+refuses (refused e) = true
+
+-- the call below tells `a`, and is met as `x`
+module _ {E A : Type 0} (tell : E → Answer A) (r x : E) (met : r ≡ x) (a : Answer A) (answer : tell r ≡ a) where
+  answer-is : tell x ≡ a
+  answer-is = sym (ap tell met) ∙ answer
+
+  module _ (f : Refusal) (no : tell x ≡ refused (fault-of f)) where
+    -- the code of a refusal whose place is small is that of its answer
+    pub refused-code : refusal-place a ≤ max-sheet → (detail : A → ℕ) (k : ℕ) → k ≡ code (short (fault-of f)) → k ≡ answered detail a
+    refused-code small detail k e =
+        e
+        ∙ ap code (short-same (fault-of f) (refusal-place-at-most a (fault-of f) (sym no ∙ answer-is) small))
+        ∙ ap (answered detail) (sym no ∙ answer-is)
+
+  pub refused-stays : refuses (tell x) ≡ true → (numbers : A → List ℕ) (xs : List ℕ) → xs ≡ stored numbers a xs
+  refused-stays so numbers xs = by (tell x) so ∙ ap (λ (o : Answer A). stored numbers o xs) answer-is
+    where
+      by : (o : Answer A) → refuses o ≡ true → xs ≡ stored numbers o xs
+      by (refused e) q = refl
+      by (given b) q = absurd (true≢false (sym q))
+
+  pub accepted-code : refuses (tell x) ≡ false → 0 ≡ answered no-detail a
+  accepted-code so = by (tell x) so ∙ ap (answered no-detail) answer-is
+    where
+      by : (o : Answer A) → refuses o ≡ false → 0 ≡ answered no-detail o
+      by (refused e) q = absurd (true≢false q)
+      by (given b) q = refl
+
+  pub accepted-stored : (b : A) → tell x ≡ given b → (numbers : A → List ℕ) (xs ys : List ℕ) → ys ≡ replaced (numbers b) xs
+      → length xs ≡ length (numbers b) → ys ≡ stored numbers a xs
+  accepted-stored b so numbers xs ys e l =
+      e ∙ same-length-replaced (numbers b) xs l ∙ ap (λ (o : Answer A). stored numbers o xs) (sym so ∙ answer-is)
+
+pub accepted-number : {E : Type 0} (tell : E → Answer ℕ) (r x : E) → r ≡ x → (a : Answer ℕ) → tell r ≡ a → (n : ℕ) → tell x ≡ given n
+    → detail-unit * n ≡ answered (λ (k : ℕ). k) a
+accepted-number tell r x met a answer n so = ap (answered (λ (k : ℕ). k)) (sym so ∙ answer-is tell r x met a answer)
+
+-- a list of another length is refused first, and stays
+abbrev pub uneven : Fault
+uneven = record { number = 8; place = 0 }
+
+module _ {A : Type 0} (n : ℕ) (xs : List ℕ) (a : Answer A) (other : length xs ≡ n → ⊥) where
+  pub other-size : refused uneven ≡ sized n xs a
+  unfolding sized
+  other-size = rw (ne-eqb (length xs) n other)
+
+  pub other-code : 8 ≡ answered no-detail (sized n xs a)
+  other-code = ap (answered no-detail) other-size
+
+  pub other-stays : (numbers : A → List ℕ) (ys : List ℕ) → ys ≡ stored numbers (sized n xs a) ys
+  other-stays numbers ys = ap (λ (o : Answer A). stored numbers o ys) other-size
+
+-- at the right length the call below decides
+pub right-size : {A : Type 0} (n : ℕ) (xs : List ℕ) → length xs ≡ n → (a : Answer A) → a ≡ sized n xs a
+unfolding sized
+right-size n xs right a = rw (eq-eqb (length xs) n right)
+
+pub sized-answer : {E A : Type 0} (tell : E → Answer A) (r : E) (a : Answer A) → tell r ≡ a → (n : ℕ) (xs : List ℕ) → length xs ≡ n
+    → tell r ≡ sized n xs a
+sized-answer tell r a answer n xs right = answer ∙ right-size n xs right a
+
+-- two lists of set length: the second is looked at where the first is right
+module _ {A : Type 0} (n : ℕ) (xs : List ℕ) (right : length xs ≡ n) (m : ℕ) (ys : List ℕ) (a : Answer A) where
+  second-size : sized m ys a ≡ sized n xs (sized m ys a)
+  second-size = right-size n xs right (sized m ys a)
+
+  pub second-other-code : (length ys ≡ m → ⊥) → 8 ≡ answered no-detail (sized n xs (sized m ys a))
+  second-other-code other = other-code m ys a other ∙ ap (answered no-detail) second-size
+
+  pub second-other-stays : (length ys ≡ m → ⊥) → (numbers : A → List ℕ) → ys ≡ stored numbers (sized n xs (sized m ys a)) ys
+  second-other-stays other numbers = other-stays m ys a other numbers ys ∙ ap (λ (o : Answer A). stored numbers o ys) second-size
+
+  pub both-sizes : length ys ≡ m → a ≡ sized n xs (sized m ys a)
+  both-sizes right-too = right-size m ys right-too a ∙ second-size
+
+-- a list of another length is refused at 0
+pub sized-place : {A : Type 0} (n : ℕ) (xs : List ℕ) (a : Answer A) → refusal-place a ≤ max-sheet → refusal-place (sized n xs a) ≤ max-sheet
+unfolding sized
+sized-place n xs a l = by (eqb (length xs) n)
+  where
+    by : (b : Bool) → refusal-place (pick b a (refused uneven)) ≤ max-sheet
+    by true = l
+    by false = zero-le

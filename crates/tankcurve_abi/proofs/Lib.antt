@@ -1,4 +1,0 @@
-pub mod Answered
-pub mod Places
-pub mod Stores
-pub mod WrongAnswers
