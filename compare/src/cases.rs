@@ -566,8 +566,8 @@ pub fn read_and_text(calls: &mut Calls) -> Found {
         read_and_write(calls, &sheet)?;
     }
     // Lists of wrong lengths, over sheets that are fit, refused and too long.
-    let fit = sheets::sheet_of_length(random, 500);
-    let too_long = sheets::sheet_of_length(random, 32_769);
+    let fit = sheets::sheet_of_length(random, 500, b"\n");
+    let too_long = sheets::sheet_of_length(random, 32_769, b"\r\n");
     for sheet in [&fit, &fit[1..], &fit[..499], &[], &too_long] {
         for list in 0..READER.len() {
             for length in wrong_lengths(READER[list]) {

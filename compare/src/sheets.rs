@@ -3,8 +3,8 @@
 use crate::lists::{LISTS, MOST_POINTS, MOST_SAMPLES};
 use reference::generators::random::Random;
 use reference::generators::sheets::{
-    damage_bytes, damage_lines, fields_of, joined, lengthened, lines_of, lines_with, sheet_of,
-    ByteFault, LineFault, FIELDS,
+    damage_bytes, damage_lines, ended, fields_of, joined, lengthened, lines_of, lines_with,
+    sheet_of, with_end, ByteFault, LineFault, ENDS, FIELDS,
 };
 use reference::MOST_BYTES;
 
@@ -25,7 +25,7 @@ const LINE_FAULTS: [LineFault; 14] = [
     LineFault::ValueField,
 ];
 
-const BYTE_FAULTS: [ByteFault; 9] = [
+const BYTE_FAULTS: [ByteFault; 10] = [
     ByteFault::Bit,
     ByteFault::Any,
     ByteFault::Usual,
@@ -34,6 +34,7 @@ const BYTE_FAULTS: [ByteFault; 9] = [
     ByteFault::Cut,
     ByteFault::LastGone,
     ByteFault::FeedGone,
+    ByteFault::ReturnMore,
     ByteFault::MoreBehind,
 ];
 
@@ -41,28 +42,38 @@ const BYTE_FAULTS: [ByteFault; 9] = [
 const SMALL: &[u8] =
     b"mark,half\n9,10\n12,13\n65535,65536\n\nminute,inj,vdk\n4,3,7\n8,1,9\n8,2,10\n11,4,65535\n";
 
-/// Every sheet that one small damage makes of a small one: each byte gone, replaced, doubled by
-/// another or last; each field replaced.
-pub fn small_damages() -> Vec<Vec<u8>> {
-    let mut sheets = vec![SMALL.to_vec()];
-    for at in 0..=SMALL.len() {
-        sheets.push(SMALL[..at].to_vec());
+/// Every sheet that one damage to a byte makes of this one: each byte gone, replaced, doubled by another
+/// or last.
+fn byte_damages(sheet: &[u8]) -> Vec<Vec<u8>> {
+    let mut sheets = vec![sheet.to_vec()];
+    for at in 0..=sheet.len() {
+        sheets.push(sheet[..at].to_vec());
         for &byte in b"0159/:,\n\r -x\0\xff" {
-            let mut longer = SMALL.to_vec();
+            let mut longer = sheet.to_vec();
             longer.insert(at, byte);
             sheets.push(longer);
-            if at < SMALL.len() {
-                let mut other = SMALL.to_vec();
+            if at < sheet.len() {
+                let mut other = sheet.to_vec();
                 other[at] = byte;
                 sheets.push(other);
             }
         }
-        if at < SMALL.len() {
-            let mut shorter = SMALL.to_vec();
+        if at < sheet.len() {
+            let mut shorter = sheet.to_vec();
             shorter.remove(at);
             sheets.push(shorter);
         }
     }
+    sheets
+}
+
+/// Every sheet that one small damage makes of a small one, a byte of it under both ends of a line, a field
+/// or a line; and the small one under every choice of its lines' ends.
+pub fn small_damages() -> Vec<Vec<u8>> {
+    let mut sheets: Vec<Vec<u8>> = ENDS
+        .iter()
+        .flat_map(|end| byte_damages(&with_end(SMALL, end)))
+        .collect();
     let lines = lines_of(SMALL);
     for line in 0..lines.len() {
         for field in 0..fields_of(&lines[line]).len() {
@@ -86,12 +97,18 @@ pub fn small_damages() -> Vec<Vec<u8>> {
             sheets.push(joined(&doubled));
         }
     }
-    // Lines that end in a carriage return and a line feed: all, or one.
-    sheets.push([lines.join(&b"\r\n"[..]), b"\r\n".to_vec()].concat());
-    for line in 0..lines.len() {
-        let mut changed = lines.clone();
-        changed[line].push(b'\r');
-        sheets.push(joined(&changed));
+    // Each line with one end or the other, and one carriage return more in one of them.
+    for choice in 0..1usize << lines.len() {
+        let end = |line: usize| ENDS[choice >> line & 1];
+        let mut pieces: Vec<Vec<u8>> = lines
+            .iter()
+            .enumerate()
+            .map(|(k, line)| [line, end(k)].concat())
+            .collect();
+        sheets.push(pieces.concat());
+        let at = choice % lines.len();
+        pieces[at] = [&lines[at], &b"\r"[..], end(at)].concat();
+        sheets.push(pieces.concat());
     }
     sheets
 }
@@ -185,28 +202,29 @@ pub fn limits(random: &mut Random) -> Vec<Vec<u8>> {
         65_537,
         100_000,
     ] {
-        let sheet = sheet_of_length(random, length);
-        let mut torn = sheet.clone();
-        torn[length - 1] = b'1';
-        let mut headless = sheet.clone();
-        headless[0] = b'M';
-        sheets.extend([
-            sheet,
-            torn,
-            headless,
-            vec![b'\n'; length],
-            vec![b'7'; length],
-        ]);
+        for end in ENDS {
+            let sheet = sheet_of_length(random, length, end);
+            let mut torn = sheet.clone();
+            torn[length - 1] = b'1';
+            let mut headless = sheet.clone();
+            headless[0] = b'M';
+            let mut unended = sheet.clone();
+            unended[length - 1] = b'\r';
+            sheets.extend([sheet, torn, headless, unended]);
+        }
+        sheets.extend([b'\n', b'\r', b'7'].map(|byte| vec![byte; length]));
     }
     sheets
 }
 
-/// A sheet of exactly `length` bytes, fit but for that: discarded injections make up the length.
-pub fn sheet_of_length(random: &mut Random, length: usize) -> Vec<u8> {
+/// A sheet of exactly `length` bytes, fit but for that: discarded injections, whose lines have this end, make
+/// up the length. The lines before them have any ends.
+pub fn sheet_of_length(random: &mut Random, length: usize, end: &[u8]) -> Vec<u8> {
     let samples: String = (0..random.below(20))
         .map(|_| format!("7,3,{}\n", random.number() as u16))
         .collect();
-    lengthened(sheet_of("20,10\n30,10\n", &samples), length)
+    let front = lines_of(&sheet_of("20,10\n30,10\n", &samples));
+    lengthened(ended(random, &front), length, end)
 }
 
 /// The lines of a random sheet, fit but now and then over a limit or without points.
@@ -242,7 +260,8 @@ pub fn some_sheet(random: &mut Random) -> Vec<u8> {
     match random.below(60) {
         0 => {
             let length = random.pick(&[32_767, 32_768, 32_768, 32_769, 32_769, 33_000]);
-            return sheet_of_length(random, length);
+            let end = random.pick(&ENDS);
+            return sheet_of_length(random, length, end);
         }
         1 => {
             let length = random.below(60);
@@ -261,7 +280,7 @@ pub fn some_sheet(random: &mut Random) -> Vec<u8> {
             damage_lines(random, &LINE_FAULTS, &mut lines);
         }
     }
-    let mut sheet = joined(&lines);
+    let mut sheet = ended(random, &lines);
     if style >= 7 {
         damage_bytes(random, &BYTE_FAULTS, &mut sheet);
         while random.chance(30) {

@@ -85,11 +85,15 @@ impl Input {
         }
     }
 
-    /// Inputs with one fault or none: a byte of the sheet replaced, the sheet cut short, and a list's number replaced.
+    /// Inputs with one fault or none: a byte of the sheet replaced, a carriage return put before it, the sheet cut short,
+    /// and a list's number replaced.
     pub fn edits(&self) -> Vec<Input> {
         let mut edits = Vec::new();
         for at in 0..self.sheet.len() {
             edits.push(self.with_sheet(self.sheet[..at].to_vec()));
+            let mut longer = self.sheet.clone();
+            longer.insert(at, b'\r');
+            edits.push(self.with_sheet(longer));
             for byte in [b'\n', b',', b'0', b'2', b'9', b'/', b':'] {
                 let mut sheet = self.sheet.clone();
                 sheet[at] = byte;

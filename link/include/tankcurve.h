@@ -21,12 +21,14 @@
  * An empty list has length 0 and a pointer that is neither null nor misaligned; nothing is read or written there. Pass that of any object of
  * the element's type, such as `uint16_t none;` and `&none, 0`.
  *
- * A sheet, in which LF is the byte 10 and no byte may stand that is not named here: no CR, no blank [The sheet]:
- *   sheet   = "mark,half" LF, mark LF once or more, LF, "minute,inj,vdk" LF, reading LF any number of times
+ * A sheet, in which LF is the byte 10, CR the byte 13, and no byte may stand that is not named here, as no blank [The sheet]:
+ *   sheet   = "mark,half" END, mark END once or more, END, "minute,inj,vdk" END, reading END any number of times
+ *   END     = LF, or CR LF; each line may have either
  *   mark    = number "," number                   point and bandwidth, the point up to 65,535, the bandwidth 1 to 65,536
  *   reading = number "," number "," number        minute and value up to 65,535; between them the injection, 1 to 65,535
  *   number  = one to five digits, of which the first is not 0 unless it is the only one
- * A reading of injection 1 or 2 is checked as every other, and the next one against its minute, but it is not kept.
+ * A reading of injection 1 or 2 is checked as every other, and the next one against its minute, but it is not kept. A CR that is not
+ * directly before an LF is a wrong byte, and so is the first of two there. Every CR counts in the sheet's length and in places.
  *
  * The proof is about the calls on Rattle's abstract machine, where a slice is what it says. Outside it are:
  *   - null pointers, also for empty lists;
@@ -57,10 +59,10 @@ extern "C" {
 #endif
 
 /*
- * The version that this header belongs to, 1.0.0: major * 65536 + minor * 256 + patch. tankcurve_version gives that of the archive. What is
- * counted by it stands in link/abi-1.0.0.
+ * The version that this header belongs to, 1.1.0: major * 65536 + minor * 256 + patch. tankcurve_version gives that of the archive. What is
+ * counted by it stands in link/abi-1.1.0.
  */
-#define TANKCURVE_VERSION 0x010000
+#define TANKCURVE_VERSION 0x010100
 
 /* The lengths and limits. */
 #define TANKCURVE_MAX_SAMPLES 1024 /* samples ("readings") in a list, and the length of the reader's lists of them */

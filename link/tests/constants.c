@@ -148,6 +148,8 @@ static void reports(void)
     last = many(1, TANKCURVE_MAX_SAMPLES + 1);
     reads("too many samples", sheet, TANKCURVE_TOO_MANY, last);
     reads("no points", "mark,half\n\n", TANKCURVE_NO_POINTS, 10);
+    reads("no points, carriage returns", "mark,half\r\n\r\n", TANKCURVE_NO_POINTS, 11);
+    reads("a second carriage return", "mark,half\r\n5,2\r\r\n", TANKCURVE_MALFORMED_LINE, 11);
     gives("length mismatch", tankcurve_evaluate(minutes, 2, values, 1, 0, 1, numbers, TANKCURVE_ROW_LEN), TANKCURVE_LENGTH_MISMATCH, 0);
     reads("bandwidth out of range", "mark,half\n5,2\n5,65537\n", TANKCURVE_BANDWIDTH_OUT_OF_RANGE, 14);
     reads("edge decreases", "mark,half\n5,2\n6,4\n", TANKCURVE_EDGE_DECREASES, 14);

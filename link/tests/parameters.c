@@ -19,6 +19,8 @@ static const uint16_t values[SAMPLES] = {5, 7, 11, 13, 29, 31};
 static const uint16_t falling[SAMPLES] = {3, 8, 8, 15, 14, 40};
 
 static const char sheet[] = "mark,half\n12,7\n14,9\n\nminute,inj,vdk\n11,3,21\n12,1,22\n13,4,23\n30,5,24\n";
+/* The same with a carriage return in the endings of both names lines, the empty line and a line of values each. */
+static const char office_sheet[] = "mark,half\r\n12,7\r\n14,9\n\r\nminute,inj,vdk\r\n11,3,21\n12,1,22\n13,4,23\r\n30,5,24\n";
 static const char curve[] = "mark,half,left,right,weight,sum,vdk\n12,7,0,2,96,2112,22\n14,9,0,2,152,3352,22\n\nkept,passes\n3,2\n";
 /* A sheet whose line at byte 52 has a minute below the one before. */
 static const char falling_sheet[] = "mark,half\n12,7\n14,9\n\nminute,inj,vdk\n11,3,21\n12,1,22\n11,4,23\n30,5,24\n";
@@ -287,6 +289,10 @@ static void text(void)
     same("text", tankcurve_text((const uint8_t *)sheet, strlen(sheet), out, TANKCURVE_MAX_OUTPUT), TANKCURVE_DETAIL_UNIT * 94);
     memcpy(all, curve, strlen(curve));
     same_list("text, buffer", out, all, sizeof all);
+    memset(out, 90, sizeof out);
+    same("text, carriage returns", tankcurve_text((const uint8_t *)office_sheet, strlen(office_sheet), out, TANKCURVE_MAX_OUTPUT),
+         TANKCURVE_DETAIL_UNIT * 94);
+    same_list("text, buffer of carriage returns", out, all, sizeof all);
 }
 
 static void refusal_text(void)

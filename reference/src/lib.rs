@@ -1,6 +1,7 @@
 //! The tank curve in its plainest form: every row is a direct sum over all
 //! readings, every count a filter over a whole list, and the sheet is split
-//! into lines at line feeds and into fields at commas.
+//! into lines at line feeds, with or without a carriage return before them, and
+//! into fields at commas.
 //!
 //! A comment that ends in a title in brackets names the section of
 //! docs/SPECIFICATION.md that its code follows.
@@ -355,26 +356,32 @@ pub fn fill(
     Ok(())
 }
 
-/// A line of the sheet: where it starts, its bytes without the line feed, and
-/// whether it has its line feed.
+/// A line of the sheet: where it starts, its bytes without its end, and whether
+/// it has its end.
 struct Line<'a> {
     start: usize,
     text: &'a [u8],
     ended: bool,
 }
 
-/// The sheet cut behind each line feed, byte 10. Bytes behind the last one are
-/// a line without its line feed; no bytes there are no line [The sheet].
+/// The sheet cut behind each line feed, byte 10. One carriage return, byte 13,
+/// directly before that byte is part of the line's end and not of its text.
+/// Bytes behind the last line feed are a line without its end, carriage returns
+/// and all; no bytes there are no line [The sheet].
 fn lines(sheet: &[u8]) -> Vec<Line<'_>> {
     let pieces: Vec<&[u8]> = sheet.split(|&byte| byte == 10).collect();
     let mut lines = Vec::new();
     let mut start = 0;
-    for (k, text) in pieces.iter().enumerate() {
+    for (k, piece) in pieces.iter().enumerate() {
         let ended = k + 1 < pieces.len();
-        if ended || !text.is_empty() {
+        let text = match piece {
+            [text @ .., 13] if ended => text,
+            whole => whole,
+        };
+        if ended || !piece.is_empty() {
             lines.push(Line { start, text, ended });
         }
-        start += text.len() + 1;
+        start += piece.len() + 1;
     }
     lines
 }

@@ -305,7 +305,7 @@ fn read_names_lines() {
     assert_eq!(got("\n"), no(2, 0));
     assert_eq!(got("mark,half"), no(2, 0));
     assert_eq!(got("mark,hal\n"), no(2, 0));
-    assert_eq!(got("mark,half\r\n20,10\r\n"), no(2, 0));
+    assert_eq!(got("mark,half\r\r\n20,10\r\n"), no(2, 0));
     assert_eq!(got("mark,half,\n20,10\n"), no(2, 0));
     assert_eq!(got("Mark,half\n20,10\n"), no(2, 0));
     // Second names line absent, different, without its line feed, empty.
@@ -342,7 +342,7 @@ fn read_torn_mark_lines() {
         "-2,10",
         "+2,10",
         "2.0,10",
-        "20,10\r",
+        "20,10\r\r",
         "a,10",
         "20,b",
         "mark,half",
@@ -390,7 +390,7 @@ fn read_torn_reading_lines() {
         "100000,3,5",
         "9,100000,5",
         "9,3,100000",
-        "9,3,5\r",
+        "9,3,5\r\r",
         " 9,3,5",
         "9,3,-5",
         "9,3,x",

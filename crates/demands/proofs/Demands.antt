@@ -7,6 +7,7 @@ use Rattle.demands.proofs.Demand1.{exported-record-row-refused, exporte
 use Rattle.demands.proofs.Demand1.{exported-text-refused, exported-refusal-text-refused}
 use Rattle.demands.proofs.Demand2.{demand-2}
 use Rattle.demands.proofs.Demand3.{demand-3-of-calls}
+use Rattle.demands.proofs.LineEndings.{line-endings}
 use Rattle.demands.proofs.OtherCalls.{other-calls}
 use Rattle.demands.proofs.Program.{program-holds}
 
@@ -36,5 +37,6 @@ demands = record {
   demand-2 = demand-2;
   demand-3 = demand-3-of-calls;
   other-calls = other-calls;
+  line-endings = line-endings;
   worked-cases = document-cases-hold;
 }

@@ -4,6 +4,7 @@ pub mod Demand2
 pub mod Demand3
 pub mod Demands
 pub mod FirstFaults
+pub mod LineEndings
 pub mod OtherCalls
 pub mod Program
 pub mod RecordRows

@@ -33,7 +33,7 @@ use Rattle.demands.specs.Calls.{TextCall, RefusalTextCall}
 use Rattle.demands.specs.Demands.{log-passes, Draws, Refuses, ProgramHolds}
 
 -- what is written goes by what the reader makes of the sheet
-program-goes-by : (s : List ℕ) (o : Outcome) → read-sheet full s ≡ o → program s ≡ outcome-text o
+pub program-goes-by : (s : List ℕ) (o : Outcome) → read-sheet full s ≡ o → program s ≡ outcome-text o
 unfolding program
 program-goes-by s o e = ap outcome-text e
 

@@ -53,6 +53,7 @@ use Rattle.demands.specs.Calls.{ExportedRefusalText, ExportedVersion}
 use Rattle.demands.specs.Conditions.{RefusedExactly, NoFault, FirstFault, FirstOrElse, evaluate-conditions, advance-conditions}
 use Rattle.demands.specs.Conditions.{smooth-conditions, fill-conditions, read-conditions, buffer-conditions, length-first}
 use Rattle.demands.specs.Conditions.{record-row-conditions, code-refusal}
+use Rattle.demands.specs.LineEndings.{LineEndings}
 
 -- how many readings the event log of these steps, empty at first, inserts and evicts
 abbrev pub log-passes : List ℕ → List ℕ → List Move → ℕ
@@ -353,10 +354,11 @@ pub record OtherCalls : Type 0 where
   pub exported-version-is : (v : ℕ) → ExportedVersion v → v ≡ version
 
 -- ---------------------------------------------------------------------------------------------------------------------------------------
--- All of it, and the worked cases of SPECIFICATION 7.6, 7.9 and 7.10
+-- All of it, what holds of line endings (LineEndings.antt), and the worked cases of SPECIFICATION 7.6, 7.9 and 7.10
 pub record Demands : Type 2 where
   pub demand-1 : Demand1
   pub demand-2 : Demand2
   pub demand-3 : Demand3
   pub other-calls : OtherCalls
+  pub line-endings : LineEndings
   pub worked-cases : AllHold document-cases

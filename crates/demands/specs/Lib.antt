@@ -1,3 +1,4 @@
 pub mod Calls
 pub mod Conditions
 pub mod Demands
+pub mod LineEndings

@@ -1,6 +1,7 @@
 pub mod Decided
 pub mod Headers
 pub mod Lasts
+pub mod LineEndings
 pub mod LineOrder
 pub mod Outcomes
 pub mod Passed

@@ -8,7 +8,7 @@ use native.Mathlib.Omega.{arith}
 use lib.ListN.{length}
 use Rattle.meanings.specs.declared.Limits.{Limits}
 use Rattle.meanings.specs.Limits.{full}
-use Rattle.meanings.specs.Bytes.{ascii, feed, ending-bytes}
+use Rattle.meanings.specs.Bytes.{ascii, feed, return-feed, ending-bytes}
 use Rattle.meanings.specs.Sheet.{EvaluationPoint}
 use Rattle.meanings.specs.Sheet.{Injection, read-sheet}
 use Rattle.meanings.specs.SheetForm.{Ended, IsSheet, Refused, too-long, no-point-header, no-empty-line, malformed-point, faulty-point, no-point}
@@ -57,6 +57,58 @@ whole-sheet-is-sheet = record {
   minutes = refl;
   values = refl;
 }
+
+-- the same with a carriage return in the endings of both names lines, of the empty line, of one line of values each, and of the last
+pub mixed-endings-is-sheet :
+    IsSheet full
+    (ascii "mark,half\r\n20,10\n25,15\r\n60,20\n\r\nminute,inj,vdk\r\n10,3,40\n12,1,900\n14,2,400\r\n20,3,60\n20,4,80\n35,5,20\r\n")
+    (contents (10 ∷ 20 ∷ 20 ∷ 35 ∷ []) (40 ∷ 60 ∷ 80 ∷ 20 ∷ []) (20 ∷ 25 ∷ 60 ∷ []) (10 ∷ 15 ∷ 20 ∷ []))
+unfolding mark mark-line reading line decimal decimal-with
+mixed-endings-is-sheet = record {
+  header-ending = return-feed;
+  point-lines = mark-line 20 10 ∷ record { says = mark 25 15; ending = return-feed } ∷ mark-line 60 20 ∷ [];
+  empty-line-ending = return-feed;
+  sample-header-ending = return-feed;
+  sample-lines = line 10 3 40
+      ∷ line 12 1 900
+      ∷ record { says = reading 14 2 400; ending = return-feed }
+      ∷ line 20 3 60
+      ∷ line 20 4 80
+      ∷ record { says = reading 35 5 20; ending = return-feed }
+      ∷ [];
+  printed = refl;
+  short = omega arith;
+  some-point = omega arith;
+  fit-points = omega arith;
+  fit-samples = omega arith;
+  points = refl;
+  bandwidths = refl;
+  minutes = refl;
+  values = refl;
+}
+
+-- refused where lines end so: no mark, a line without its line feed, and a second carriage return in each kind of line
+pub no-points-with-returns-is-refused : Refused full (ascii "mark,half\r\n\r\n") 7 11
+no-points-with-returns-is-refused = no-point (omega arith) return-feed return-feed ([], refl)
+
+pub return-alone-is-refused : Refused full (ascii "mark,half\r\n0,1\r\n\r") 3 16
+unfolding read-sheet
+return-alone-is-refused = refused-is-refused full (ascii "mark,half\r\n0,1\r\n\r") 3 16 refl
+
+pub second-return-is-refused :
+    Refused full (ascii "mark,half\r\r\n") 2 0
+    × Refused full (ascii "mark,half\r\n0,1\r\r\n") 3 11
+    × Refused full (ascii "mark,half\n0,1\n\r\r\n") 3 14
+    × Refused full (ascii "mark,half\n0,1\n\nminute,inj,vdk\r\r\n") 2 15
+    × Refused full (ascii "mark,half\n0,1\n\nminute,inj,vdk\n0,3,1\r\r\n") 3 30
+unfolding read-sheet
+second-return-is-refused = (
+  refused-is-refused full (ascii "mark,half\r\r\n") 2 0 refl,
+  refused-is-refused full (ascii "mark,half\r\n0,1\r\r\n") 3 11 refl,
+  refused-is-refused full (ascii "mark,half\n0,1\n\r\r\n") 3 14 refl,
+  refused-is-refused full (ascii "mark,half\n0,1\n\nminute,inj,vdk\r\r\n") 2 15 refl,
+  refused-is-refused full (ascii "mark,half\n0,1\n\nminute,inj,vdk\n0,3,1\r\r\n") 3 30 refl,
+)
 
 pub edge-back-is-refused : Refused full (ascii "mark,half\n20,10\n21,12\n") 10 16
 unfolding mark mark-line decimal decimal-with

@@ -10,7 +10,7 @@ use borrow.Author.Tests.{leb-true, le-leb}
 use lib.Dec.{leb, eqb}
 use Rattle.meanings.specs.Lists.{pick}
 use Rattle.meanings.specs.Limits.{max-u16}
-use Rattle.meanings.specs.Bytes.{line-feed, ending-bytes, comma, zero-digit}
+use Rattle.meanings.specs.Bytes.{line-feed, carriage-return, ending-bytes, comma, zero-digit}
 use Rattle.meanings.specs.Sheet.{EvaluationPoint}
 use Rattle.meanings.specs.Sheet.{unended, line, lines, parts, parsed, ranged-point, two-parts, point-line, Injection, ranged-sample, three-parts, sample-line}
 use Rattle.meanings.specs.SheetForm.{Ended, point-text, print-point, sample-text, print-sample, PointForm, SampleForm, Begins}
@@ -32,10 +32,10 @@ free-in-sample x j l c =
     )
 
 point-text-plain : (m : EvaluationPoint) → Plain (point-text m)
-point-text-plain m = free-in-point line-feed m (omega arith) refl
+point-text-plain m = (free-in-point line-feed m (omega arith) refl, free-in-point carriage-return m (omega arith) refl)
 
 sample-text-plain : (j : Injection) → Plain (sample-text j)
-sample-text-plain j = free-in-sample line-feed j (omega arith) refl
+sample-text-plain j = (free-in-sample line-feed j (omega arith) refl, free-in-sample carriage-return j (omega arith) refl)
 
 pub point-line-of-text : (m : EvaluationPoint) → PointForm m → point-line (point-text m) ≡ some m
 point-line-of-text m f =

@@ -4,12 +4,14 @@ use Prim.Native.Nat.{ℕ, zero, suc, _*_, _≤_}
 use mathlib.Core.Path.{_≡_, refl, sym, ap, _∙_}
 use mathlib.Core.List.{List, [], _∷_, _++_, append-nil}
 use native.Mathlib.Omega.{arith}
+use lib.Dec.{eqb}
 use lib.ListN.{length, getD, replicate, length-append, length-replicate}
+use Rattle.meanings.specs.Lists.{pick}
 use Rattle.meanings.specs.Limits.{full}
 use Rattle.meanings.specs.Sheet.{EvaluationPoint}
-use Rattle.meanings.specs.Bytes.{ascii, feed}
+use Rattle.meanings.specs.Bytes.{ascii, carriage-return, feed}
 use Rattle.meanings.specs.Reports.{Answer, Fault, given, refused}
-use Rattle.meanings.specs.Sheet.{Outcome, read-sheet}
+use Rattle.meanings.specs.Sheet.{Contents, Outcome, refused-at, read-sheet}
 use Rattle.meanings.specs.Output.{decimal, decimal-with}
 use Rattle.meanings.specs.SheetForm.{Ended, said-by, Each, Neighbours, PointForm, BandwidthRange, Follows, FitPoints}
 use Rattle.meanings.specs.SheetForm.{PointFault, edge, Refused, faulty-point, point-head, print-point, print-points, print-front}
@@ -48,6 +50,54 @@ pub no-tail-cleared :
     ≡ 5 ∷ replicate 1023 0)
 unfolding read read-sheet
 no-tail-cleared e = let n : _≡_ {A = ℕ} 7 0 = ap (λ (r : List ℕ). getD r 1 0) e in omega arith
+
+-- the place of a report; what is given has none
+place-of : Outcome → ℕ
+place-of (given c) = 0
+place-of (refused f) = f .place
+
+-- bytes without their carriage returns
+abbrev pub without-returns : List ℕ → List ℕ
+without-returns [] = []
+without-returns (b ∷ s) = pick (eqb b carriage-return) (without-returns s) (b ∷ without-returns s)
+
+-- every carriage return dropped
+pub no-return-dropped : ¬ ((s : List ℕ) → read-sheet full s ≡ read-sheet full (without-returns s))
+unfolding read-sheet
+no-return-dropped h = let e = h (ascii "mark,half\n1\r,1\n\nminute,inj,vdk\n") in let z : _≡_ {A = ℕ} 0 1 = cc in omega arith
+
+-- all carriage returns before a line feed cut
+pub no-second-return-cut : ¬ (read-sheet full (ascii "mark,half\n1,1\r\r\n\nminute,inj,vdk\n") ≡ read-sheet full (ascii "mark,half\n1,1\n\nminute,inj,vdk\n"))
+unfolding read-sheet
+no-second-return-cut e = let z : _≡_ {A = ℕ} 0 1 = cc in omega arith
+
+-- report 7 behind the carriage return of the empty line
+pub no-place-behind-the-return : ¬ (read-sheet full (ascii "mark,half\r\n\r\n") ≡ refused-at 12 7)
+unfolding read-sheet place-of
+no-place-behind-the-return e = let n : _≡_ {A = ℕ} 11 12 = ap place-of e in omega arith
+
+-- a carriage return at the sheet's end taken for a line ending: for the empty line, and for that of a reading
+pub no-empty-line-of-a-return : ¬ (read-sheet full (ascii "mark,half\r\n0,1\r\n\r") ≡ refused-at 17 2)
+unfolding read-sheet place-of
+no-empty-line-of-a-return e = let n : _≡_ {A = ℕ} 16 17 = ap place-of e in omega arith
+
+pub no-sheet-ends-in-a-return : (c : Contents) → ¬ (read-sheet full (ascii "mark,half\r\n0,1\r\n\r\nminute,inj,vdk\r\n5,3,9\r") ≡ given c)
+unfolding read-sheet
+no-sheet-ends-in-a-return c e = let z : _≡_ {A = ℕ} 0 1 = cc in omega arith
+
+-- the ending known in lines of values alone, and refused in a names line or in the empty line
+pub no-names-line-refused-for-its-return : (f : Fault) → ¬ (read-sheet full (ascii "mark,half\r\n0,1\n\nminute,inj,vdk\r\n5,3,9\n") ≡ refused f)
+unfolding read-sheet
+no-names-line-refused-for-its-return f e = let z : _≡_ {A = ℕ} 0 1 = cc in omega arith
+
+pub no-empty-line-refused-for-its-return : (f : Fault) → ¬ (read-sheet full (ascii "mark,half\n0,1\n\r\nminute,inj,vdk\n5,3,9\n") ≡ refused f)
+unfolding read-sheet
+no-empty-line-refused-for-its-return f e = let z : _≡_ {A = ℕ} 0 1 = cc in omega arith
+
+-- a carriage return alone taken for a line ending
+pub no-line-ends-in-a-return : (c : Contents) → ¬ (read-sheet full (ascii "mark,half\r0,1\r\rminute,inj,vdk\r5,3,9\r") ≡ given c)
+unfolding read-sheet
+no-line-ends-in-a-return c e = let z : _≡_ {A = ℕ} 0 1 = cc in omega arith
 
 -- the number of a report
 number-of : {n m p q : ℕ} → _≡_ {A = Outcome} (refused (record { number = n; place = p })) (refused (record { number = m; place = q })) → n ≡ m

@@ -2,15 +2,15 @@
 -- and the parts and the lines give the text back. What other laws know of a line ending stands here: that it is not empty, that it is the
 -- empty line by itself and ends a plain text before it, and that each line's text has one behind it.
 use Prim.Native.Nat.{ℕ, _≤_, _<_}
-use mathlib.Core.Path.{_≡_, refl, ap, _∙_}
+use mathlib.Core.Path.{_≡_, refl, sym, ap, _∙_}
 use mathlib.Core.Bool.{Bool, true, false}
 use mathlib.Core.List.{List, [], _∷_, _++_}
 use native.Mathlib.Omega.{arith}
-use borrow.Author.Tests.{leb-true, eqb-true, ne-eqb}
+use borrow.Author.Tests.{leb-true, eqb-true, eqb-false, ne-eqb}
 use lib.Dec.{leb, eqb}
 use lib.ListN.{length}
-use Rattle.meanings.specs.Bytes.{line-feed, LineEnding, feed, ending-bytes, comma, zero-digit, nine-digit}
-use Rattle.meanings.specs.Sheet.{Lines, end, unended, line, with-byte, lines, with-part-byte, parts, digit, digits}
+use Rattle.meanings.specs.Bytes.{line-feed, carriage-return, LineEnding, feed, return-feed, ending-bytes, comma, zero-digit, nine-digit}
+use Rattle.meanings.specs.Sheet.{Lines, end, unended, line, with-text-byte, lines, with-part-byte, parts, digit, digits}
 use Rattle.meanings.specs.Output.{decimal}
 use Rattle.laws_text.proofs.Numbers.{and-true-both, decimal-digits}
 
@@ -100,48 +100,89 @@ three-parts-text t a b c e =
 
 pub ending-some : (e : LineEnding) → 1 ≤ length (ending-bytes e)
 ending-some feed = omega arith
+ending-some return-feed = omega arith
 
 -- a line ending alone is the empty line
 pub lines-of-ending : (e : LineEnding) (s : List ℕ) → lines (ending-bytes e ++ s) ≡ line [] e (lines s)
 lines-of-ending feed s = refl
+lines-of-ending return-feed s = refl
 
 -- no byte of the text belongs to a line ending
 abbrev pub Plain : List ℕ → Type 0
-Plain t = Free line-feed t
+Plain t = Free line-feed t × Free carriage-return t
 
 pub lines-of-line : (t : List ℕ) (e : LineEnding) (s : List ℕ) → Plain t → lines (t ++ (ending-bytes e ++ s)) ≡ line t e (lines s)
 lines-of-line [] e s f = lines-of-ending e s
-lines-of-line (b ∷ t) e s f = rw (f .0, lines-of-line t e s (f .1))
+lines-of-line (b ∷ t) e s f = rw (f .0 .0, f .1 .0, lines-of-line t e s (f .0 .1, f .1 .1))
+
+-- what a byte before the bytes s is: a line feed; a carriage return directly before one; or a byte of the text
+pub data FirstByte (b : ℕ) (s : List ℕ) : Type 0 where
+  is-feed : b ≡ line-feed → lines (b ∷ s) ≡ line [] feed (lines s) → FirstByte b s
+  is-return : b ≡ carriage-return → (ls : Lines) → lines s ≡ line [] feed ls → lines (b ∷ s) ≡ line [] return-feed ls → FirstByte b s
+  is-text : eqb b line-feed ≡ false → lines (b ∷ s) ≡ with-text-byte b (lines s)
+      → (b ≡ carriage-return → (ls : Lines) → ¬ (lines s ≡ line [] feed ls)) → FirstByte b s
+
+pub first-byte : (b : ℕ) (s : List ℕ) → FirstByte b s
+first-byte b s = by (eqb b line-feed) (eqb b carriage-return) (lines s) refl refl refl
+  where
+    by : (f r : Bool) (ls : Lines) → eqb b line-feed ≡ f → eqb b carriage-return ≡ r → lines s ≡ ls → FirstByte b s
+    by true r ls e d g = is-feed (eqb-true b line-feed e) (rw (e))
+    by false false ls e d g = is-text e (rw (e, d)) (λ q. absurd (eqb-false b carriage-return d q))
+    by false true end e d g =
+        let q = eqb-true b carriage-return d in
+        is-text e (rw (e, d, g, q)) (λ q ls (h : lines s ≡ line [] feed ls). let z : _≡_ {A = ℕ} 0 1 = cc in omega arith)
+    by false true (unended t) e d g =
+        let q = eqb-true b carriage-return d in
+        is-text e (rw (e, d, g, q)) (λ q ls (h : lines s ≡ line [] feed ls). let z : _≡_ {A = ℕ} 0 1 = cc in omega arith)
+    by false true (line [] feed ls) e d g = is-return (eqb-true b carriage-return d) ls g (rw (e, d, g))
+    by false true (line [] return-feed ls) e d g =
+        let q = eqb-true b carriage-return d in
+        is-text e (rw (e, d, g, q)) (λ q ls (h : lines s ≡ line [] feed ls). let z : _≡_ {A = ℕ} 0 1 = cc in omega arith)
+    by false true (line (c ∷ t) k ls) e d g =
+        let q = eqb-true b carriage-return d in
+        is-text e (rw (e, d, g, q)) (λ q ls (h : lines s ≡ line [] feed ls). let z : _≡_ {A = ℕ} 0 1 = cc in omega arith)
 
 -- only the empty text has no line
 pub no-lines : (s : List ℕ) → lines s ≡ end → s ≡ []
 no-lines [] e = refl
-no-lines (b ∷ s) e = by (eqb b line-feed) (lines s) e
+no-lines (b ∷ s) e = by (first-byte b s)
   where
-    by : (d : Bool) (ls : Lines) → with-byte d b ls ≡ end → b ∷ s ≡ []
-    by true ls e = let z : _≡_ {A = ℕ} 0 1 = cc in absurd (omega arith)
-    by false end e = let z : _≡_ {A = ℕ} 0 1 = cc in absurd (omega arith)
-    by false (unended t) e = let z : _≡_ {A = ℕ} 0 1 = cc in absurd (omega arith)
-    by false (line t d ls) e = let z : _≡_ {A = ℕ} 0 1 = cc in absurd (omega arith)
+    by : FirstByte b s → b ∷ s ≡ []
+    by (is-feed f g) = let z : _≡_ {A = ℕ} 0 1 = cc in absurd (omega arith)
+    by (is-return f ls h g) = let z : _≡_ {A = ℕ} 0 1 = cc in absurd (omega arith)
+    by (is-text f g h) = absurd (some-text (lines s) (sym g ∙ e))
+      where
+        some-text : (ls : Lines) → with-text-byte b ls ≡ end → ⊥
+        some-text end e = let z : _≡_ {A = ℕ} 0 1 = cc in omega arith
+        some-text (unended t) e = let z : _≡_ {A = ℕ} 0 1 = cc in omega arith
+        some-text (line t d ls) e = let z : _≡_ {A = ℕ} 0 1 = cc in omega arith
 
 -- the first line, and what follows it
 pub first-line : (s t : List ℕ) (e : LineEnding) (ls : Lines) → lines s ≡ line t e ls
     → (r : List ℕ) × ((s ≡ t ++ (ending-bytes e ++ r)) × Free line-feed t × (lines r ≡ ls))
 first-line [] t e ls q = let z : _≡_ {A = ℕ} 0 1 = cc in absurd (omega arith)
-first-line (b ∷ s) t e ls q = by (eqb b line-feed) refl (lines s) refl q (first-line s)
+first-line (b ∷ s) t e ls q = by (first-byte b s) (first-line s)
   where
-    by : (d : Bool) → eqb b line-feed ≡ d → (ms : Lines) → lines s ≡ ms → with-byte d b ms ≡ line t e ls
+    by : FirstByte b s
         → ((t : List ℕ) (e : LineEnding) (ls : Lines) → lines s ≡ line t e ls
         → (r : List ℕ) × ((s ≡ t ++ (ending-bytes e ++ r)) × Free line-feed t × (lines r ≡ ls)))
         → (r : List ℕ) × ((b ∷ s ≡ t ++ (ending-bytes e ++ r)) × Free line-feed t × (lines r ≡ ls))
-    by true f ms g q k =
+    by (is-feed f g) k =
         let h : [] ≡ t = cc in
         let j : feed ≡ e = cc in
-        let i = eqb-true b line-feed f in
-        (s, (rw (← h, ← j, i), rw (← h) tt, cc))
-    by false f end g q k = let z : _≡_ {A = ℕ} 0 1 = cc in absurd (omega arith)
-    by false f (unended u) g q k = let z : _≡_ {A = ℕ} 0 1 = cc in absurd (omega arith)
-    by false f (line u d ms) g q k =
-        let h : b ∷ u ≡ t = cc in
-        let o = k u e ls (cc) in
-        (o .0, (rw (← h) (ap (λ (r : List ℕ). b ∷ r) (o .1 .0)), rw (← h) (f, o .1 .1), o .1 .2))
+        (s, (rw (← h, ← j, f), rw (← h) tt, cc))
+    by (is-return f ms m g) k =
+        let h : [] ≡ t = cc in
+        let j : return-feed ≡ e = cc in
+        let o = k [] feed ms m in
+        (o .0, (rw (← h, ← j, f, o .1 .0), rw (← h) tt, cc))
+    by (is-text f g n) k = in-text (lines s) refl (sym g ∙ q)
+      where
+        in-text : (ms : Lines) → lines s ≡ ms → with-text-byte b ms ≡ line t e ls
+            → (r : List ℕ) × ((b ∷ s ≡ t ++ (ending-bytes e ++ r)) × Free line-feed t × (lines r ≡ ls))
+        in-text end g q = let z : _≡_ {A = ℕ} 0 1 = cc in absurd (omega arith)
+        in-text (unended u) g q = let z : _≡_ {A = ℕ} 0 1 = cc in absurd (omega arith)
+        in-text (line u d ms) g q =
+            let h : b ∷ u ≡ t = cc in
+            let o = k u e ls (cc) in
+            (o .0, (rw (← h) (ap (λ (r : List ℕ). b ∷ r) (o .1 .0)), rw (← h) (f, o .1 .1), o .1 .2))

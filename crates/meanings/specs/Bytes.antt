@@ -12,12 +12,17 @@ ascii (c then t) = code c ∷ ascii t
 abbrev pub line-feed : ℕ
 line-feed = 10
 
--- what ends a line of the sheet: one line feed
+abbrev pub carriage-return : ℕ
+carriage-return = 13
+
+-- what ends a line of the sheet: a line feed, or a carriage return and a line feed
 pub data LineEnding : Type 0 where
   feed : LineEnding
+  return-feed : LineEnding
 
 abbrev pub ending-bytes : LineEnding → List ℕ
 ending-bytes feed = line-feed ∷ []
+ending-bytes return-feed = carriage-return ∷ line-feed ∷ []
 
 abbrev pub comma : ℕ
 comma = code ","

@@ -6,6 +6,7 @@ pub mod Codes
 pub mod Document
 pub mod Estimate
 pub mod EventLog
+pub mod FeedSheet
 pub mod Grid
 pub mod Limits
 pub mod Lists

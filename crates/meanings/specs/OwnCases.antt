@@ -10,6 +10,7 @@ use Rattle.meanings.specs.Bytes.{ascii}
 use Rattle.meanings.specs.Moves.{Move}
 use Rattle.meanings.specs.Reports.{given}
 use Rattle.meanings.specs.EventLog.{EventLog}
+use Rattle.meanings.specs.Sheet.{Contents}
 use Rattle.meanings.specs.Cases.{Case, _⇒_, row, run, sums, step, record-gives, steps, smooth-over, filler, sheet}
 use Rattle.meanings.specs.Cases.{reader, output, curve-into, refusal-into, estimated, part, powers, stepped, logged, smooth-gives, filled}
 use Rattle.meanings.specs.Cases.{outcome, read-into, written, holds, is-row, is-report, is-sums, is-record, contents}
@@ -226,12 +227,6 @@ sheet-cases =
     -- 3, reading lines
     ∷ sheet full (readings (ascii "9,3,0\n8,3,0")) ⇒ outcome (is-report 3 36)
     ∷ sheet full (readings (ascii "0,1,65536\n")) ⇒ outcome (is-report 3 30)
-    -- a carriage return is a wrong byte
-    ∷ sheet full (ascii "mark,half\r\n0,1\n") ⇒ outcome (is-report 2 0)
-    ∷ sheet full (ascii "mark,half\n0,1\r\n") ⇒ outcome (is-report 3 10)
-    ∷ sheet full (ascii "mark,half\n0,1\n\r\n") ⇒ outcome (is-report 3 14)
-    ∷ sheet full (ascii "mark,half\n0,1\n\nminute,inj,vdk\r\n") ⇒ outcome (is-report 2 15)
-    ∷ sheet full (readings (ascii "0,3,1\r\n")) ⇒ outcome (is-report 3 30)
     ∷ sheet full (readings (ascii "0,3,1")) ⇒ outcome (is-report 3 30)
     ∷ sheet full (readings (ascii "\n")) ⇒ outcome (is-report 3 30)
     ∷ sheet full (readings (ascii "0,3\n")) ⇒ outcome (is-report 3 30)
@@ -359,5 +354,72 @@ rounding-cases =
     ⇒ written (ascii "mark,half,left,right,weight,sum,vdk\n0,1,0,2,2,5,2\n9,1,2,4,2,7,4\n\nkept,passes\n4,6\n")
     ∷ []
 
+abbrev whole-curve : List ℕ
+whole-curve = ascii "mark,half,left,right,weight,sum,vdk\n20,10,0,3,200,14000,70\n25,15,0,4,525,30500,58\n60,20,4,4,0,0,-\n\nkept,passes\n4,8\n"
+
+abbrev one-of-each : Contents
+one-of-each = contents (5 ∷ []) (9 ∷ []) (0 ∷ []) (1 ∷ [])
+
+-- lines that end in a carriage return and a line feed
+abbrev pub line-ending-cases : List Case
+line-ending-cases =
+    -- the whole sheet of SPECIFICATION 7.9 with that ending in every line, and in every second one: what is written is the same
+    output "mark,half\r\n20,10\r\n25,15\r\n60,20\r\n\r\nminute,inj,vdk\r\n10,3,40\r\n12,1,900\r\n14,2,400\r\n20,3,60\r\n20,4,80\r\n35,5,20\r\n"
+    ⇒ written whole-curve
+    ∷ output "mark,half\r\n20,10\n25,15\r\n60,20\n\r\nminute,inj,vdk\n10,3,40\r\n12,1,900\n14,2,400\r\n20,3,60\n20,4,80\r\n35,5,20\n"
+    ⇒ written whole-curve
+    ∷ output "mark,half\n20,10\r\n25,15\n60,20\r\n\nminute,inj,vdk\r\n10,3,40\n12,1,900\r\n14,2,400\n20,3,60\r\n20,4,80\n35,5,20\r\n"
+    ⇒ written whole-curve
+    -- in a names line, a line of values and the empty line alone
+    ∷ sheet full (ascii "mark,half\r\n0,1\n\nminute,inj,vdk\n5,3,9\n") ⇒ outcome (given one-of-each)
+    ∷ sheet full (ascii "mark,half\n0,1\r\n\nminute,inj,vdk\n5,3,9\n") ⇒ outcome (given one-of-each)
+    ∷ sheet full (ascii "mark,half\n0,1\n\r\nminute,inj,vdk\n5,3,9\n") ⇒ outcome (given one-of-each)
+    ∷ sheet full (ascii "mark,half\n0,1\n\nminute,inj,vdk\r\n5,3,9\n") ⇒ outcome (given one-of-each)
+    ∷ sheet full (ascii "mark,half\n0,1\n\nminute,inj,vdk\n5,3,9\r\n") ⇒ outcome (given one-of-each)
+    -- a place is that of a line's first byte, and where nothing more comes the sheet's length: 2, 3, 4, 5, 6, 7, 9, 10
+    ∷ sheet full (ascii "mark,half\r\n0,1\r\n\r\n") ⇒ outcome (is-report 2 18)
+    ∷ sheet full (ascii "mark,half\r\n") ⇒ outcome (is-report 3 11)
+    ∷ sheet full (ascii "mark,half\r\n0,1\r\n\r\nminute,inj,vdk\r\n9,3,5\r\n8,3,5\r\n") ⇒ outcome (is-report 4 41)
+    ∷ sheet full (ascii "mark,half\r\n5,1\r\n4,1\r\n") ⇒ outcome (is-report 5 16)
+    ∷ sheet three-one (ascii "mark,half\r\n5,1\r\n5,1\r\n") ⇒ outcome (is-report 6 16)
+    ∷ sheet full (ascii "mark,half\r\n\r\n") ⇒ outcome (is-report 7 11)
+    ∷ sheet full (ascii "mark,half\r\n5,0\r\n") ⇒ outcome (is-report 9 11)
+    ∷ sheet full (ascii "mark,half\r\n20,10\r\n21,12\r\n") ⇒ outcome (is-report 10 18)
+    -- one carriage return belongs to the ending, a second one to the text
+    ∷ sheet full (ascii "mark,half\r\r\n") ⇒ outcome (is-report 2 0)
+    ∷ sheet full (ascii "mark,half\r\n0,1\r\r\n") ⇒ outcome (is-report 3 11)
+    ∷ sheet full (ascii "mark,half\n0,1\n\r\r\n") ⇒ outcome (is-report 3 14)
+    ∷ sheet full (ascii "mark,half\n0,1\n\nminute,inj,vdk\r\r\n") ⇒ outcome (is-report 2 15)
+    ∷ sheet full (readings (ascii "0,3,1\r\r\n")) ⇒ outcome (is-report 3 30)
+    -- elsewhere it is a wrong byte: at a line's start, in its midst, before a digit
+    ∷ sheet full (ascii "\rmark,half\n") ⇒ outcome (is-report 2 0)
+    ∷ sheet full (ascii "mark\r,half\n") ⇒ outcome (is-report 2 0)
+    ∷ sheet full (ascii "mark,half\r0,1\r\n") ⇒ outcome (is-report 2 0)
+    ∷ sheet full (ascii "mark,half\n\r0,1\n") ⇒ outcome (is-report 3 10)
+    ∷ sheet full (ascii "mark,half\n0\r,1\n") ⇒ outcome (is-report 3 10)
+    ∷ sheet full (ascii "mark,half\n0,1\n\n\rminute,inj,vdk\n") ⇒ outcome (is-report 2 15)
+    ∷ sheet full (readings (ascii "0,\r3,1\n")) ⇒ outcome (is-report 3 30)
+    -- a line without its line feed has no ending
+    ∷ sheet full (ascii "mark,half\r") ⇒ outcome (is-report 2 0)
+    ∷ sheet full (ascii "mark,half\r\n0,1\r") ⇒ outcome (is-report 3 11)
+    ∷ sheet full (ascii "mark,half\r\n0,1\r\n\r") ⇒ outcome (is-report 3 16)
+    ∷ sheet full (ascii "mark,half\n0,1\n\nminute,inj,vdk\r") ⇒ outcome (is-report 2 15)
+    ∷ sheet full (readings (ascii "0,3,1\r")) ⇒ outcome (is-report 3 30)
+    ∷ sheet full (readings (ascii "\r")) ⇒ outcome (is-report 3 30)
+    -- an empty line among the readings
+    ∷ sheet full (readings (ascii "\r\n")) ⇒ outcome (is-report 3 30)
+    -- carriage returns count as bytes of the sheet
+    ∷ sheet full (replicate 32769 13) ⇒ outcome (is-report 1 32768)
+    ∷ []
+
 abbrev pub own-cases : List Case
-own-cases = one-point-cases ++ step-cases ++ smooth-cases ++ fill-cases ++ sheet-cases ++ text-cases ++ record-cases ++ rounding-cases
+own-cases =
+    one-point-cases
+    ++ step-cases
+    ++ smooth-cases
+    ++ fill-cases
+    ++ sheet-cases
+    ++ text-cases
+    ++ record-cases
+    ++ rounding-cases
+    ++ line-ending-cases

@@ -9,7 +9,8 @@ use lib.ListN.{length}
 use Rattle.meanings.specs.Lists.{pick}
 use Rattle.meanings.specs.declared.Limits.{Limits}
 use Rattle.meanings.specs.Limits.{max-u16, max-sheet}
-use Rattle.meanings.specs.Bytes.{line-feed, LineEnding, feed, ending-bytes, comma, zero-digit, nine-digit, point-header, sample-header}
+use Rattle.meanings.specs.Bytes.{line-feed, carriage-return, LineEnding, feed, return-feed, ending-bytes, comma, zero-digit, nine-digit}
+use Rattle.meanings.specs.Bytes.{point-header, sample-header}
 use Rattle.meanings.specs.Reports.{Fault, Answer, given, refused, Check, check, at, first-of, decreases, bad-bandwidth, edge-decreases}
 
 -- bytes as lines: each text with the line ending behind it, and at the end nothing or a text without one
@@ -18,16 +19,27 @@ pub data Lines : Type 0 where
   unended : List ℕ → Lines
   line : List ℕ → LineEnding → Lines → Lines
 
--- one byte more in front: the line feed that ends an empty text, or the first byte of the text that follows
-abbrev pub with-byte : Bool → ℕ → Lines → Lines
-with-byte true b ls = line [] feed ls
-with-byte false b end = unended (b ∷ [])
-with-byte false b (unended t) = unended (b ∷ t)
-with-byte false b (line t e ls) = line (b ∷ t) e ls
+-- one byte more in front, the first of the text that follows
+abbrev pub with-text-byte : ℕ → Lines → Lines
+with-text-byte b end = unended (b ∷ [])
+with-text-byte b (unended t) = unended (b ∷ t)
+with-text-byte b (line t e ls) = line (b ∷ t) e ls
+
+-- a carriage return in front: directly before a line feed it belongs to that line's ending, and anywhere else to the text
+abbrev pub with-return : Lines → Lines
+with-return (line [] feed ls) = line [] return-feed ls
+with-return (line [] return-feed ls) = with-text-byte carriage-return (line [] return-feed ls)
+with-return (line (b ∷ t) e ls) = with-text-byte carriage-return (line (b ∷ t) e ls)
+with-return (unended t) = with-text-byte carriage-return (unended t)
+with-return end = with-text-byte carriage-return end
+
+-- any byte in front: a line feed ends an empty text
+abbrev pub with-byte : ℕ → Lines → Lines
+with-byte b ls = pick (eqb b line-feed) (line [] feed ls) (pick (eqb b carriage-return) (with-return ls) (with-text-byte b ls))
 
 abbrev pub lines : List ℕ → Lines
 lines [] = end
-lines (b ∷ bs) = with-byte (eqb b line-feed) b (lines bs)
+lines (b ∷ bs) = with-byte b (lines bs)
 
 -- where the line behind a line begins: that line begins at byte p and has the text t and the ending e
 abbrev pub next-place : ℕ → List ℕ → LineEnding → ℕ
@@ -200,8 +212,10 @@ read-points L p zs hs (line [] e ls) = after-points L p zs hs e ls
 read-points L p zs hs (line (b ∷ t) e ls) =
     with-point L p zs hs (point-line (b ∷ t)) (λ zs′ hs′. read-points L (next-place p (b ∷ t) e) zs′ hs′ ls)
 
+-- the reader, for a sheet of n bytes with these lines
+abbrev pub read-lines : Limits → ℕ → Lines → Outcome
+read-lines L n ls = pick (ltb max-sheet n) (refused-at max-sheet 1) (header point-header 0 ls (λ p rest. read-points L p [] [] rest))
+
 -- the reader's meaning
 unfoldable pub read-sheet : Limits → List ℕ → Outcome
-read-sheet L s =
-    pick (ltb max-sheet (length s)) (refused-at max-sheet 1)
-    (header point-header 0 (lines s) (λ p ls. read-points L p [] [] ls))
+read-sheet L s = read-lines L (length s) (lines s)

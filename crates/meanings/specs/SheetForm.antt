@@ -72,6 +72,15 @@ abbrev pub kept-of : List Injection → List Injection
 kept-of [] = []
 kept-of (j ∷ js) = pick (ltb 2 (j .injection)) (j ∷ kept-of js) (kept-of js)
 
+-- the lists of mark lines and reading lines
+abbrev pub contents-of : List EvaluationPoint → List Injection → Contents
+contents-of ms js = record {
+  minutes = map (λ (j : Injection). j .minute) (kept-of js);
+  values = map (λ (j : Injection). j .value) (kept-of js);
+  points = map (λ (m : EvaluationPoint). m .point) ms;
+  bandwidths = map (λ (m : EvaluationPoint). m .bandwidth) ms;
+}
+
 -- a mark line of right form and range; its half width may be out of range
 pub record PointForm (m : EvaluationPoint) : Type 0 where
   pub point-range : m .point ≤ max-u16

@@ -1,23 +1,27 @@
--- The line at a byte, along the bytes: it is the line at the next byte until a line feed is met, which ends it, and at the sheet's end there
--- is none. So the first line feed decides, and what has been found is the first of the lines from there on.
+-- The line at a byte, along the bytes: it is the line at the next byte until a line feed is met, or a carriage return directly before one,
+-- which ends it, and at the sheet's end there is none. So the first line feed and the byte before it decide, and what has been found is the
+-- first of the lines from there on.
 use Prim.Native.Nat.{ℕ, zero, suc, _+_, _-_, _≤_, _<_}
 use mathlib.Core.Path.{_≡_, refl, sym, ap, _∙_}
+use mathlib.Core.Logic.{_⊎_, inl, inr}
 use mathlib.Core.Bool.{Bool, true, false}
-use mathlib.Core.List.{List, _++_}
+use mathlib.Core.List.{List, [], _∷_, _++_}
 use mathlib.Core.Option.{Option, none, some}
+use native.Mathlib.Nat.{eq-or-lt-of-le}
 use native.Mathlib.Omega.{arith}
 use native.Mathlib.Numerals.{add-one}
-use borrow.Author.Tests.{eqb-true, eqb-false, eq-eqb, ne-eqb, lt-ltb, le-ltb}
+use borrow.Author.Tests.{eqb-true, eq-eqb, ne-eqb, ltb-true, lt-ltb, le-ltb}
 use lib.Dec.{ltb, eqb}
 use lib.ListN.{length, getD, take, drop, length-append, length-drop, drop-of-length-le}
 use lib.Seq.{drop-cons, take-at, drop-at, drop-drop, drop-append-add}
 use Rattle.meanings.specs.Lists.{pick, first}
-use Rattle.meanings.specs.Bytes.{line-feed, LineEnding, ending-bytes}
-use Rattle.meanings.specs.Sheet.{Lines, end, unended, line, with-byte, lines, next-place}
-use Rattle.laws_text.proofs.Texts.{ending-some, first-line}
+use Rattle.meanings.specs.Bytes.{line-feed, carriage-return, LineEnding, feed, return-feed, ending-bytes}
+use Rattle.meanings.specs.Sheet.{Lines, end, unended, line, with-text-byte, lines, next-place}
+use Rattle.meanings.proofs.Search.{IsFirst, first-is-first}
+use Rattle.laws_text.proofs.Texts.{ending-some, FirstByte, is-feed, is-return, is-text, first-byte, first-line}
 use Rattle.sheet_lines.specs.declared.Line.{Line}
 use Rattle.sheet_lines.specs.declared.Line.the-variants.{Ended, Unended}
-use Rattle.sheet_lines.specs.Lines.{LineEnd, line-bounds, first-end, line-at, feed-from}
+use Rattle.sheet_lines.specs.Lines.{LineEnd, line-bounds, first-end, line-at, feed-from, text-before}
 
 -- a search for a line feed that began at byte `from` has come to byte p
 module _ (s : List ℕ) (from p : ℕ) (still : feed-from s from ≡ feed-from s p) where
@@ -35,7 +39,37 @@ module _ (s : List ℕ) (from p : ℕ) (still : feed-from s from ≡ feed-from s
   feed-here l h =
       let e : length s - p ≡ suc (length s - suc p) = omega arith in sym (still ∙ rw (e, eq-eqb (getD s p 0) line-feed h))
 
-byte-in-front : (p b : ℕ) (ls : Lines) → first-end p (with-byte false b ls) ≡ first-end (suc p) ls
+-- the text of a line from byte p to the line feed at byte k
+module _ (s : List ℕ) (p k : ℕ) where
+  pub text-to-feed : k ≤ p → k ≡ text-before s p k
+  unfolding text-before
+  text-to-feed l = rw (le-ltb p k l)
+
+  pub text-to-return : p < k → getD s (k - 1) 0 ≡ carriage-return → k - 1 ≡ text-before s p k
+  unfolding text-before
+  text-to-return l e = rw (lt-ltb p k l, eq-eqb (getD s (k - 1) 0) carriage-return e)
+
+  pub text-without-return : p < k → ¬ (getD s (k - 1) 0 ≡ carriage-return) → k ≡ text-before s p k
+  unfolding text-before
+  text-without-return l n = rw (lt-ltb p k l, ne-eqb (getD s (k - 1) 0) carriage-return n)
+
+-- and of one whose line feed stands behind its first byte
+module _ (s : List ℕ) (p : ℕ) where
+  text-to-first-byte : getD s p 0 ≡ carriage-return → p ≡ text-before s p (suc p)
+  text-to-first-byte e =
+      let d : suc p - 1 ≡ p = omega arith in
+      rw d at (text-to-return s p (suc p) (omega arith) (rw d e))
+
+  text-of-first-byte : ¬ (getD s p 0 ≡ carriage-return) → suc p ≡ text-before s p (suc p)
+  text-of-first-byte n =
+      let d : suc p - 1 ≡ p = omega arith in
+      text-without-return s p (suc p) (omega arith) (rw d n)
+
+-- a line whose first line feed stands at byte k, if that is within the sheet
+abbrev line-to : List ℕ → ℕ → ℕ → Option LineEnd
+line-to s p k = pick (ltb k (length s)) (some (record { text-end = text-before s p k; next = k + 1 })) none
+
+byte-in-front : (p b : ℕ) (ls : Lines) → first-end p (with-text-byte b ls) ≡ first-end (suc p) ls
 byte-in-front p b end = refl
 byte-in-front p b (unended t) = refl
 byte-in-front p b (line t e ls) = ap (λ (n : ℕ). some (record { text-end = n; next = n + length (ending-bytes e) })) (omega arith)
@@ -44,36 +78,99 @@ pub no-line-at-end : (s : List ℕ) (p : ℕ) → length s ≤ p → line-at s p
 unfolding line-at
 no-line-at-end s p l = rw (drop-of-length-le s l)
 
-line-goes-on : (s : List ℕ) (p : ℕ) → p < length s → ¬ (getD s p 0 ≡ line-feed) → line-at s p ≡ line-at s (suc p)
-unfolding line-at
-line-goes-on s p l n = rw (drop-cons s p 0 l, ne-eqb (getD s p 0) line-feed n) (byte-in-front p (getD s p 0) (lines (drop (suc p) s)))
+module _ (s : List ℕ) (p : ℕ) (l : p < length s) where
+  feed-ends-line : getD s p 0 ≡ line-feed → lines (drop p s) ≡ line [] feed (lines (drop (suc p) s))
+  feed-ends-line h = rw (drop-cons s p 0 l, eq-eqb (getD s p 0) line-feed h)
 
-line-ends-here : (s : List ℕ) (p : ℕ) → p < length s → getD s p 0 ≡ line-feed → line-at s p ≡ some (record { text-end = p; next = p + 1 })
-unfolding line-at
-line-ends-here s p l h =
-    rw (drop-cons s p 0 l, eq-eqb (getD s p 0) line-feed h) (ap (λ (n : ℕ). some (record { text-end = n; next = n + 1 })) (omega arith))
+  line-ends-here : lines (getD s p 0 ∷ drop (suc p) s) ≡ line [] feed (lines (drop (suc p) s))
+      → line-at s p ≡ some (record { text-end = p; next = p + 1 })
+  unfolding line-at
+  line-ends-here g = rw (drop-cons s p 0 l, g) (ap (λ (n : ℕ). some (record { text-end = n; next = n + 1 })) (omega arith))
 
--- a line whose first line feed stands at byte k, if that is within the sheet
-abbrev line-to : List ℕ → ℕ → Option LineEnd
-line-to s k = pick (ltb k (length s)) (some (record { text-end = k; next = k + 1 })) none
+  line-ends-with-return : (ls : Lines) → lines (getD s p 0 ∷ drop (suc p) s) ≡ line [] return-feed ls
+      → line-at s p ≡ some (record { text-end = p; next = suc p + 1 })
+  unfolding line-at
+  line-ends-with-return ls g =
+      rw (drop-cons s p 0 l, g)
+      (ap (λ (n : ℕ). some (record { text-end = n; next = n + 2 })) (omega arith)
+      ∙ ap (λ (n : ℕ). some (record { text-end = p; next = n })) (omega arith))
 
-line-to-first : (s : List ℕ) (n p : ℕ) → length s - p ≡ n → line-at s p ≡ line-to s (first (λ k. eqb (getD s k 0) line-feed) p n)
-line-to-first s zero p e = no-line-at-end s p (omega arith) ∙ rw (le-ltb p (length s) (omega arith))
-line-to-first s (suc n) p e = by (eqb (getD s p 0) line-feed) refl (line-to-first s n (suc p) (omega arith))
+  line-goes-on : lines (getD s p 0 ∷ drop (suc p) s) ≡ with-text-byte (getD s p 0) (lines (drop (suc p) s)) → line-at s p ≡ line-at s (suc p)
+  unfolding line-at
+  line-goes-on g = rw (drop-cons s p 0 l, g) (byte-in-front p (getD s p 0) (lines (drop (suc p) s)))
+
+-- bytes whose first line is empty begin with the line feed that ends it
+module _ (s : List ℕ) (p : ℕ) (ls : Lines) (g : lines (drop p s) ≡ line [] feed ls) where
+  empty-line-within : p < length s
+  empty-line-within =
+      let o = first-line (drop p s) [] feed ls g in
+      let long : length s - p ≡ suc (length (o .0)) = sym (length-drop p s) ∙ ap length (o .1 .0) in
+      omega arith
+
+  empty-line-feed : getD s p 0 ≡ line-feed
+  empty-line-feed =
+      let o = first-line (drop p s) [] feed ls g in
+      let q = sym (drop-cons s p 0 empty-line-within) ∙ o .1 .0 in
+      ap (λ (t : List ℕ). getD t 0 0) q
+
+first-at-once : (f : ℕ → Bool) (i n : ℕ) → f i ≡ true → first f i n ≡ i
+first-at-once f i zero e = refl
+first-at-once f i (suc n) e = rw e
+
+-- a byte of the text in front does not move the text's end
+text-end-stays : (s : List ℕ) (p k : ℕ) → suc p < k → text-before s (suc p) k ≡ text-before s p k
+unfolding text-before
+text-end-stays s p k l = rw (lt-ltb (suc p) k l, lt-ltb p k (omega arith))
+
+text-end-after : (s : List ℕ) (p k : ℕ) → suc p ≤ k → (k ≡ suc p → ¬ (getD s p 0 ≡ carriage-return)) → text-before s (suc p) k ≡ text-before s p k
+text-end-after s p k l n = by (eq-or-lt-of-le l)
   where
-    by : (b : Bool) → eqb (getD s p 0) line-feed ≡ b → line-at s (suc p) ≡ line-to s (first (λ k. eqb (getD s k 0) line-feed) (suc p) n)
-        → line-at s p ≡ line-to s (pick b p (first (λ k. eqb (getD s k 0) line-feed) (suc p) n))
-    by true h k = line-ends-here s p (omega arith) (eqb-true (getD s p 0) line-feed h) ∙ rw (lt-ltb p (length s) (omega arith))
-    by false h k = line-goes-on s p (omega arith) (eqb-false (getD s p 0) line-feed h) ∙ k
+    by : (suc p ≡ k) ⊎ (suc p < k) → text-before s (suc p) k ≡ text-before s p k
+    by (inl e) = rw (← e) (sym (text-to-feed s (suc p) (suc p) (omega arith)) ∙ text-of-first-byte s p (n (sym e)))
+    by (inr m) = text-end-stays s p k m
 
-line-to-feed : (s : List ℕ) (p : ℕ) → line-at s p ≡ line-to s (feed-from s p)
+line-to-first : (s : List ℕ) (n p : ℕ) → length s - p ≡ n → line-at s p ≡ line-to s p (first (λ k. eqb (getD s k 0) line-feed) p n)
+line-to-first s zero p e = no-line-at-end s p (omega arith) ∙ rw (le-ltb p (length s) (omega arith))
+line-to-first s (suc n) p e = by (first-byte (getD s p 0) (drop (suc p) s)) (line-to-first s n (suc p) (omega arith))
+  where
+    by : FirstByte (getD s p 0) (drop (suc p) s) → line-at s (suc p) ≡ line-to s (suc p) (first (λ k. eqb (getD s k 0) line-feed) (suc p) n)
+        → line-at s p ≡ line-to s p (pick (eqb (getD s p 0) line-feed) p (first (λ k. eqb (getD s k 0) line-feed) (suc p) n))
+    by (is-feed h g) k =
+        line-ends-here s p (omega arith) g
+        ∙ rw (eq-eqb (getD s p 0) line-feed h, lt-ltb p (length s) (omega arith), ← text-to-feed s p p (omega arith))
+    by (is-return h ls m g) k =
+        let f = empty-line-feed s (suc p) ls m in
+        let l : suc p < length s = empty-line-within s (suc p) ls m in
+        line-ends-with-return s p (omega arith) ls g
+        ∙ rw (
+          ne-eqb (getD s p 0) line-feed (λ d. omega arith),
+          first-at-once (λ k. eqb (getD s k 0) line-feed) (suc p) n (eq-eqb (getD s (suc p) 0) line-feed f),
+          lt-ltb (suc p) (length s) l,
+          ← text-to-first-byte s p h,
+        )
+    by (is-text h g w) k = line-goes-on s p (omega arith) g ∙ k ∙ rw h (stays (first (λ k. eqb (getD s k 0) line-feed) (suc p) n) (first-is-first _ (suc p) n))
+      where
+        stays : (k : ℕ) → IsFirst (λ k. eqb (getD s k 0) line-feed) (suc p) n k → line-to s (suc p) k ≡ line-to s p k
+        stays k i = within (ltb k (length s)) refl
+          where
+            within : (b : Bool) → ltb k (length s) ≡ b → line-to s (suc p) k ≡ line-to s p k
+            within false q = rw q
+            within true q =
+                let l = ltb-true k (length s) q in
+                let a = i .from in
+                let h = eqb-true (getD s k 0) line-feed (i .there (omega arith)) in
+                rw (text-end-after s p k a (λ j c. w c (lines (drop (suc (suc p)) s)) (feed-ends-line s (suc p) (omega arith) (rw j at h))))
+
+-- the line at byte p, if a line feed follows: its text ends at that line feed or at a carriage return directly before it, and the next line
+-- begins behind the line feed
+line-to-feed : (s : List ℕ) (p : ℕ) → line-at s p ≡ line-to s p (feed-from s p)
 unfolding feed-from
 line-to-feed s p = line-to-first s (length s - p) p refl
 
 -- the search has come to byte k
 module _ (s : List ℕ) (from k : ℕ) (found : k ≡ feed-from s from) where
-  pub line-ended : k < length s → some (record { text-end = k; next = k + 1 }) ≡ line-at s from
-  line-ended l = sym (line-to-feed s from ∙ rw (← found, lt-ltb k (length s) l))
+  pub line-ended : {e : ℕ} → k < length s → e ≡ text-before s from k → some (record { text-end = e; next = k + 1 }) ≡ line-at s from
+  line-ended l t = sym (line-to-feed s from ∙ rw (← found, lt-ltb k (length s) l, ← t))
 
   pub line-unended : length s ≤ k → none ≡ line-at s from
   line-unended l = sym (line-to-feed s from ∙ rw (← found, le-ltb k (length s) l))

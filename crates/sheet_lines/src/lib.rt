@@ -1,7 +1,9 @@
 // The lines of the tank sheet: where a line ends, and whether its text is a given one. Every function takes every input.
 ghost use mathlib.Core.Path.{_≡_};
+ghost use Prim.Native.Nat.{_<_};
+ghost use lib.ListN.{length};
 ghost use Rattle.meanings.specs.Sheet.{same};
-ghost use Rattle.sheet_lines.specs.Lines.{line-bounds, line-at, feed-from};
+ghost use Rattle.sheet_lines.specs.Lines.{line-bounds, line-at, feed-from, text-before};
 
 // What a search for a line finds: the end of its text with the start of the next line, or no line feed.
 pub enum Line {
@@ -10,6 +12,8 @@ pub enum Line {
 }
 
 const LINE_FEED: u8 = 10;
+
+const CARRIAGE_RETURN: u8 = 13;
 
 // The first line feed from byte `from` on, or where the search ends without one.
 pub(crate) fn find_feed(sheet: &[u8], from: usize) -> usize
@@ -25,15 +29,30 @@ pub(crate) fn find_feed(sheet: &[u8], from: usize) -> usize
     at
 }
 
+// Where the text ends of the line that begins at byte `from` and has its line feed at byte `feed`.
+pub(crate) fn text_end(sheet: &[u8], from: usize, feed: usize) -> usize
+    requires { ⌜ feed < length (now sheet) ⌝ }
+    ensures { λ r. ⌜ r ≡ text-before (now (sheet .entry)) from feed ⌝ }
+{
+    if feed <= from {
+        return feed;
+    }
+    if sheet[feed - 1] == CARRIAGE_RETURN {
+        return feed - 1;
+    }
+    feed
+}
+
 // The line that begins at byte `from`.
 pub fn find_line(sheet: &[u8], from: usize) -> Line
     ensures { λ r. ⌜ line-bounds r ≡ line-at (now (sheet .entry)) from ⌝ }
 {
-    let at = find_feed(sheet, from);
-    if at < sheet.len() {
+    let feed = find_feed(sheet, from);
+    if feed < sheet.len() {
+        let end = text_end(sheet, from, feed);
         return Line::Ended {
-            end: at,
-            next: at + 1,
+            end,
+            next: feed + 1,
         };
     }
     Line::Unended

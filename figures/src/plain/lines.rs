@@ -1,13 +1,18 @@
 //! The lines of the sheet and the numbers between their commas.
 
 const LINE_FEED: u8 = b'\n';
+const CARRIAGE_RETURN: u8 = b'\r';
 const COMMA: u8 = b',';
 
-/// Where the text of the line that begins at byte `from` ends; the next line begins one further.
-pub fn line_end(sheet: &[u8], from: usize) -> Option<usize> {
+/// The line at byte `from`: the end of its text, and the first byte of the next line.
+pub fn find_line(sheet: &[u8], from: usize) -> Option<(usize, usize)> {
     let rest = sheet.get(from..)?;
     let length = rest.iter().position(|&b| b == LINE_FEED)?;
-    Some(from + length)
+    let feed = from + length;
+    if from < feed && sheet[feed - 1] == CARRIAGE_RETURN {
+        return Some((feed - 1, feed + 1));
+    }
+    Some((feed, feed + 1))
 }
 
 /// The number that begins at byte `from` and goes up to the next comma or the text's end, and where it ends.

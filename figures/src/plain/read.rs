@@ -1,13 +1,13 @@
 //! The reader of the sheet, into lists of its own whose used parts are then copied.
 
 use super::checks::{edge_below, out_of_range};
-use super::lines::{line_end, point_line, sample_line};
+use super::lines::{find_line, point_line, sample_line};
 use super::{refuse, Refusal, Report, MAX_POINTS, MAX_SAMPLES, MAX_SHEET};
 
 /// Passes the header line at byte `from`: where the next line begins.
 fn skip_header(sheet: &[u8], from: usize, names: &[u8]) -> Result<usize, Refusal> {
-    match line_end(sheet, from) {
-        Some(end) if &sheet[from..end] == names => Ok(end + 1),
+    match find_line(sheet, from) {
+        Some((end, next)) if &sheet[from..end] == names => Ok(next),
         _ => refuse(Report::BadHeader, from),
     }
 }
@@ -46,14 +46,14 @@ fn read_points(
     let mut at = from;
     let mut count = 0;
     while at < sheet.len() {
-        let Some(end) = line_end(sheet, at) else {
+        let Some((end, next)) = find_line(sheet, at) else {
             break;
         };
         if end == at {
             if count == 0 {
                 return refuse(Report::NoPoints, at);
             }
-            return Ok((count, end + 1));
+            return Ok((count, next));
         }
         let Some((point, bandwidth)) = point_line(&sheet[at..end]) else {
             return refuse(Report::MalformedLine, at);
@@ -62,7 +62,7 @@ fn read_points(
         points[count] = point;
         bandwidths[count] = bandwidth;
         count += 1;
-        at = end + 1;
+        at = next;
     }
     refuse(Report::MalformedLine, at)
 }
@@ -78,7 +78,7 @@ fn read_samples(
     let mut count = 0;
     let mut last = 0;
     while at < sheet.len() {
-        let Some(end) = line_end(sheet, at) else {
+        let Some((end, next)) = find_line(sheet, at) else {
             return refuse(Report::MalformedLine, at);
         };
         let Some((minute, injection, value)) = sample_line(&sheet[at..end]) else {
@@ -96,7 +96,7 @@ fn read_samples(
             count += 1;
         }
         last = minute;
-        at = end + 1;
+        at = next;
     }
     Ok(count)
 }

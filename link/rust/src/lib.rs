@@ -36,9 +36,9 @@ pub use row::{Estimate, NoEstimate, RecordRow, Rows};
 /// of the linked archive.
 ///
 /// ```
-/// assert_eq!(tankcurve::VERSION, 0x01_00_00);
+/// assert_eq!(tankcurve::VERSION, 0x01_01_00);
 /// ```
-pub const VERSION: u32 = 0x01_00_00;
+pub const VERSION: u32 = 0x01_01_00;
 
 /// How many samples ("readings") there may be, and how many places the reader's lists of them have.
 ///
@@ -409,7 +409,8 @@ pub fn fill(
 }
 
 /// Reads a sheet ("the reader of the tank sheet"): its kept samples and its points at the front of the
-/// lists, whose rest is untouched. Reports 1, then line by line 2, 7, or 3, 4 or 5, 9, 10, 6.
+/// lists, whose rest is untouched. Reports 1, then line by line 2, 7, or 3, 4 or 5, 9, 10, 6. A line ends in
+/// `"\n"` or in `"\r\n"`.
 ///
 /// ```
 /// # fn main() -> Result<(), tankcurve::Error> {
@@ -452,6 +453,9 @@ pub fn read(
 /// let mut out = [0; tankcurve::MAX_OUTPUT];
 /// let sheet = b"mark,half\n20,10\n\nminute,inj,vdk\n15,3,40\n";
 /// let curve = b"mark,half,left,right,weight,sum,vdk\n20,10,0,1,75,3000,40\n\nkept,passes\n1,1\n";
+/// assert_eq!(tankcurve::text(sheet, &mut out)?, curve);
+/// // As an office computer saves it.
+/// let sheet = b"mark,half\r\n20,10\r\n\r\nminute,inj,vdk\r\n15,3,40\r\n";
 /// assert_eq!(tankcurve::text(sheet, &mut out)?, curve);
 /// # Ok(())
 /// # }

@@ -137,6 +137,8 @@ fn reports() {
         (format!("{crowded}0,3,0\n"), Report::TooMany, at(&crowded)),
         (format!("{marks}5,2\n"), Report::TooMany, at(&marks)),
         ("mark,half\n\n".into(), Report::NoPoints, 10),
+        ("mark,half\r\n\r\n".into(), Report::NoPoints, 11),
+        ("mark,half\r\n5,2\r\r\n".into(), Report::MalformedLine, 11),
         (
             "mark,half\n5,2\n5,65537\n".into(),
             Report::BandwidthOutOfRange,

@@ -13,6 +13,10 @@ const FALLING: [u16; 6] = [3, 8, 8, 15, 14, 40];
 
 const SHEET: &[u8] =
     b"mark,half\n12,7\n14,9\n\nminute,inj,vdk\n11,3,21\n12,1,22\n13,4,23\n30,5,24\n";
+/// The same with a carriage return in the endings of both names lines, the empty line and a line of values
+/// each.
+const OFFICE_SHEET: &[u8] =
+    b"mark,half\r\n12,7\r\n14,9\n\r\nminute,inj,vdk\r\n11,3,21\n12,1,22\n13,4,23\r\n30,5,24\n";
 const TEXT: &[u8] = b"mark,half,left,right,weight,sum,vdk\n12,7,0,2,96,2112,22\n14,9,0,2,152,3352,22\n\nkept,passes\n3,2\n";
 /// A sheet whose line at byte 52 has a minute below the one before.
 const FALLING_SHEET: &[u8] =
@@ -396,6 +400,8 @@ fn text() {
     );
     assert_eq!(typed, [90; MAX_OUTPUT]);
     assert_eq!(tankcurve::text(SHEET, &mut typed), Ok(TEXT));
+    assert_eq!(typed, out);
+    assert_eq!(tankcurve::text(OFFICE_SHEET, &mut typed), Ok(TEXT));
     assert_eq!(typed, out);
 }
 

@@ -40,6 +40,8 @@ pub enum ByteFault {
     LastGone,
     /// A line feed gone.
     FeedGone,
+    /// A carriage return more, before a line feed.
+    ReturnMore,
     MoreBehind,
 }
 
@@ -90,17 +92,22 @@ pub fn sheet_of(marks: &str, readings: &str) -> Vec<u8> {
     format!("mark,half\n{marks}\nminute,inj,vdk\n{readings}").into_bytes()
 }
 
-/// The sheet with lines that are not kept behind it, so many bytes in all.
-pub fn lengthened(mut sheet: Vec<u8>, length: usize) -> Vec<u8> {
+/// Both ends of a line.
+pub const ENDS: [&[u8]; 2] = [b"\n", b"\r\n"];
+
+/// The sheet with lines that are not kept behind it, which have this end, so
+/// many bytes in all.
+pub fn lengthened(mut sheet: Vec<u8>, length: usize, end: &[u8]) -> Vec<u8> {
     while length - sheet.len() > 20 {
-        sheet.extend(b"9,1,0\n");
+        sheet.extend(b"9,1,0");
+        sheet.extend(end);
     }
-    // 15 to 20 bytes are left: two lines of 7 to 10 bytes each.
+    // 14 to 20 bytes are left: two lines of 7 to 10 bytes each.
     let left = length - sheet.len();
     for size in [left / 2, left - left / 2] {
         sheet.extend(b"9,2,");
-        sheet.resize(sheet.len() + size - 5, b'1');
-        sheet.push(b'\n');
+        sheet.resize(sheet.len() + size - 4 - end.len(), b'1');
+        sheet.extend(end);
     }
     assert_eq!(sheet.len(), length);
     sheet
@@ -146,6 +153,33 @@ pub fn joined(lines: &[Vec<u8>]) -> Vec<u8> {
     let mut sheet = lines.join(&b'\n');
     sheet.push(b'\n');
     sheet
+}
+
+/// Lines with an end behind each: the one or the other, and in every third
+/// sheet each line its own.
+pub fn ended(random: &mut Random, lines: &[Vec<u8>]) -> Vec<u8> {
+    let style = random.below(3);
+    let mut sheet = Vec::new();
+    for line in lines {
+        sheet.extend(line);
+        sheet.extend(match style {
+            0 => ENDS[0],
+            1 => ENDS[1],
+            _ => random.pick(&ENDS),
+        });
+    }
+    sheet
+}
+
+/// The sheet with this end in every line. None of its line feeds has a
+/// carriage return before it.
+pub fn with_end(sheet: &[u8], end: &[u8]) -> Vec<u8> {
+    let mut bytes = Vec::new();
+    for line in lines_of(sheet) {
+        bytes.extend(line);
+        bytes.extend(end);
+    }
+    bytes
 }
 
 /// The number of a field, or 0.
@@ -232,7 +266,7 @@ pub fn damage_lines(random: &mut Random, faults: &[LineFault], lines: &mut Vec<V
             lines.insert(at + 1, tail);
         }
         LineFault::Longer => {
-            lines[at].extend(random.pick(&[&b",3"[..], b",", b" ", b"\r", b",0,0"]));
+            lines[at].extend(random.pick(&[&b",3"[..], b",", b" ", b"\r", b"\r\r", b",0,0"]));
         }
         LineFault::FieldGone => {
             let mut fields = fields_of(&lines[at]);
@@ -244,6 +278,11 @@ pub fn damage_lines(random: &mut Random, faults: &[LineFault], lines: &mut Vec<V
             damage_field(random, &mut lines[at]);
         }
     }
+}
+
+/// Where the line feeds of a sheet stand.
+fn feeds_of(sheet: &[u8]) -> Vec<usize> {
+    (0..sheet.len()).filter(|&i| sheet[i] == b'\n').collect()
 }
 
 /// One damage to a sheet's bytes.
@@ -268,13 +307,28 @@ pub fn damage_bytes(random: &mut Random, faults: &[ByteFault], sheet: &mut Vec<u
             sheet.pop();
         }
         ByteFault::FeedGone => {
-            let feeds: Vec<usize> = (0..sheet.len()).filter(|&i| sheet[i] == b'\n').collect();
+            let feeds = feeds_of(sheet);
             if !feeds.is_empty() {
                 sheet.remove(random.pick(&feeds));
             }
         }
+        ByteFault::ReturnMore => {
+            let feeds = feeds_of(sheet);
+            if !feeds.is_empty() {
+                sheet.insert(random.pick(&feeds), b'\r');
+            }
+        }
         ByteFault::MoreBehind => {
-            sheet.extend(random.pick(&[&b"\n"[..], b"\n\n", b"9", b"65535,3,9", b"65535,3,9\n"]));
+            sheet.extend(random.pick(&[
+                &b"\n"[..],
+                b"\n\n",
+                b"\r",
+                b"\r\n",
+                b"9",
+                b"65535,3,9",
+                b"65535,3,9\n",
+                b"65535,3,9\r\n",
+            ]));
         }
     }
 }

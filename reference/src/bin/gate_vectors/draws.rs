@@ -5,7 +5,7 @@ use reference::exported::RECORD;
 use reference::generators::lists::{Lists, SampleFault, Spread, Width};
 use reference::generators::random::Random;
 use reference::generators::sheets::{
-    damage_bytes, damage_lines, joined, lines_with, ByteFault, LineFault,
+    damage_bytes, damage_lines, ended, lines_with, ByteFault, LineFault,
 };
 
 pub const LISTS: Lists = Lists {
@@ -70,11 +70,12 @@ const LINE_FAULTS: [LineFault; 14] = [
     LineFault::Field,
 ];
 
-const BYTE_FAULTS: [ByteFault; 7] = [
+const BYTE_FAULTS: [ByteFault; 8] = [
     ByteFault::Bit,
     ByteFault::Usual,
     ByteFault::Gone,
     ByteFault::More,
+    ByteFault::ReturnMore,
     ByteFault::Cut,
     ByteFault::LastGone,
     ByteFault::MoreBehind,
@@ -146,7 +147,7 @@ pub fn sheet(random: &mut Random) -> Vec<u8> {
     while style >= 4 && random.chance(60) {
         damage_lines(random, &LINE_FAULTS, &mut lines);
     }
-    let mut bytes = joined(&lines);
+    let mut bytes = ended(random, &lines);
     while style >= 8 && random.chance(60) {
         damage_bytes(random, &BYTE_FAULTS, &mut bytes);
     }

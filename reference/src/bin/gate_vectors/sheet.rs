@@ -4,7 +4,7 @@ use crate::draws::{self, length};
 use crate::files::Cases;
 use reference::exported::READER;
 use reference::generators::random::Random;
-use reference::generators::sheets::{lengthened, sheet_of};
+use reference::generators::sheets::{lengthened, lines_of, sheet_of, with_end, ENDS};
 use reference::{MOST_BYTES, MOST_MARKS, MOST_OUTPUT, MOST_READINGS};
 
 /// The published sheet.
@@ -16,6 +16,7 @@ pub const C12: &[u8] = b"mark,half\n20,10\n21,12\n";
 pub fn cases(cases: &mut Cases) {
     published(cases);
     lines(cases);
+    line_ends(cases);
     limits(cases);
     large(cases);
     order(cases);
@@ -51,7 +52,7 @@ fn lines(cases: &mut Cases) {
         // Names lines.
         ("mark,half", 2, 0),
         ("Mark,half\n", 2, 0),
-        ("mark,half\r\n20,10\n", 2, 0),
+        ("mark,half\r\r\n20,10\n", 2, 0),
         ("\n", 2, 0),
         ("mark,hal\n", 2, 0),
         ("mark,half,\n20,10\n", 2, 0),
@@ -72,8 +73,7 @@ fn lines(cases: &mut Cases) {
         ("mark,half\n20,1:\n\n", 3, 10),
         ("mark,half\n20,1/\n\n", 3, 10),
         ("mark,half\n 20,1\n\n", 3, 10),
-        // A carriage return or a blank where the empty line belongs.
-        ("mark,half\n20,10\n\r\nminute,inj,vdk\n", 3, 16),
+        // A blank where the empty line belongs.
         ("mark,half\n20,10\n \nminute,inj,vdk\n", 3, 16),
         // Marks and half widths.
         ("mark,half\n20,10\n19,10\n", 5, 16),
@@ -120,7 +120,7 @@ fn lines(cases: &mut Cases) {
 
     // Torn lines, each behind a sound one.
     let lines = b"20|20,|,10|,|20,10,|20,10,3|020,10|20,010|00,10|20,00|200000,10|20,100000|65536,10|\
-        99999,10|99999,0| 20,10|20,10 |20, 10|20;10|-2,10|+2,10|2.0,10|20,10\r|a,10|20,b|mark,half|\
+        99999,10|99999,0| 20,10|20,10 |20, 10|20;10|-2,10|+2,10|2.0,10|20,10\r\r|a,10|20,b|mark,half|\
         minute,inj,vdk|\0|20,1\0|20,1\xb0|\xb2\xb0,10|20\xac10|20,10\x8a";
     for line in lines.split(|&b| b == b'|') {
         let sheet = [b"mark,half\n20,10\n", line, b"\n\nminute,inj,vdk\n"].concat();
@@ -128,10 +128,68 @@ fn lines(cases: &mut Cases) {
     }
     let lines = b"|9|9,3|9,3,|9,,5|,3,5|9,3,5,|9,3,5,5|09,3,5|9,03,5|9,3,05|00,3,5|9,3,00|9,0,5|9,00,5|\
         9,65536,5|65536,3,5|9,3,65536|99999,3,5|9,99999,5|9,3,99999|100000,3,5|9,100000,5|9,3,100000|\
-        9,3,5\r| 9,3,5|9,3,-5|9,3,x|65536,1,5|9,2,65536|9,1,05|9,3,\xb5|9,3\xac5";
+        9,3,5\r\r| 9,3,5|9,3,-5|9,3,x|65536,1,5|9,2,65536|9,1,05|9,3,\xb5|9,3\xac5";
     for line in lines.split(|&b| b == b'|') {
         let sheet = [b"mark,half\n2,1\n\nminute,inj,vdk\n9,3,5\n", line, b"\n"].concat();
         cases.read(&sheet, READER).refused(3, 36);
+    }
+}
+
+/// Lines that end in a carriage return and a line feed, and carriage returns
+/// elsewhere.
+#[rustfmt::skip]
+fn line_ends(cases: &mut Cases) {
+    // The whole sheet with that end in all lines, in every second one, and in
+    // each line alone.
+    cases.sheet(&with_end(SHEET, ENDS[1])).used(4, 3);
+    let lines = lines_of(SHEET);
+    let chosen = |office: &dyn Fn(usize) -> bool| -> Vec<u8> {
+        let ended = |(k, line): (usize, &Vec<u8>)| [&line[..], ENDS[usize::from(office(k))]].concat();
+        lines.iter().enumerate().flat_map(ended).collect()
+    };
+    cases.sheet(&chosen(&|k| k % 2 == 0)).used(4, 3);
+    cases.sheet(&chosen(&|k| k % 2 == 1)).used(4, 3);
+    for line in 0..lines.len() {
+        cases.read(&chosen(&|k| k == line), READER).used(4, 3);
+    }
+    for (sheet, number, place) in [
+        // Places: a line's first byte, or the sheet's length.
+        ("mark,half\r\n\r\n", 7, 11),
+        ("mark,half\r\n20,10\r\n21,12\r\n", 10, 18),
+        ("mark,half\r\n20,10\r\n19,10\r\n", 5, 18),
+        ("mark,half\r\n20,0\r\n", 9, 11),
+        ("mark,half\r\n", 3, 11),
+        ("mark,half\r\n20,10\r\n", 3, 18),
+        ("mark,half\r\n20,10\r\n\r\n", 2, 20),
+        ("mark,half\r\n1,1\r\n\r\nminute,inj,vdk\r\n5,3,1\r\n4,3,1\r\n", 4, 41),
+        // One carriage return belongs to the end, a second to the text.
+        ("mark,half\r\r\n", 2, 0),
+        ("mark,half\r\n0,1\r\r\n", 3, 11),
+        ("mark,half\n0,1\n\r\r\n", 3, 14),
+        ("mark,half\n0,1\n\nminute,inj,vdk\r\r\n", 2, 15),
+        ("mark,half\n0,1\n\nminute,inj,vdk\n5,3,1\r\r\n", 3, 30),
+        // Elsewhere it is a wrong byte.
+        ("\r", 2, 0),
+        ("\r\n", 2, 0),
+        ("mark\r,half\n", 2, 0),
+        ("\rmark,half\n", 2, 0),
+        ("mark,half\r0,1\r\rminute,inj,vdk\r5,3,1\r", 2, 0),
+        ("mark,half\n\r0,1\n", 3, 10),
+        ("mark,half\n0\r,1\n", 3, 10),
+        ("mark,half\n0,1\r0,1\n", 3, 10),
+        ("mark,half\n0,1\n\n\rminute,inj,vdk\n", 2, 15),
+        ("mark,half\n0,1\n\nminute,inj,vdk\n5,3\r,1\n", 3, 30),
+        // A line without its line feed, also where it is a carriage return alone.
+        ("mark,half\r", 2, 0),
+        ("mark,half\r\n0,1\r", 3, 11),
+        ("mark,half\r\n0,1\r\n\r", 3, 16),
+        ("mark,half\n0,1\n\nminute,inj,vdk\r", 2, 15),
+        ("mark,half\n0,1\n\nminute,inj,vdk\n5,3,1\r", 3, 30),
+        ("mark,half\n0,1\n\nminute,inj,vdk\n\r", 3, 30),
+        // An empty line among the readings.
+        ("mark,half\n0,1\n\nminute,inj,vdk\n\r\n", 3, 30),
+    ] {
+        cases.sheet(sheet.as_bytes()).refused(number, place);
     }
 }
 
@@ -143,9 +201,9 @@ fn many(mark: &str, marks: usize, reading: &str, readings: usize, more: &str) ->
 
 /// A sheet of so many bytes, in order but for that: lines that are not kept
 /// make up the length.
-fn sheet_of_length(length: usize) -> Vec<u8> {
+fn sheet_of_length(length: usize, end: &[u8]) -> Vec<u8> {
     let sheet = many("5,2\n", 3, "4,3,9\n", 1000, "6,3,65535\n");
-    lengthened(sheet, length)
+    lengthened(with_end(&sheet, end), length, end)
 }
 
 /// Sheets at the limits, with one more line or byte.
@@ -165,8 +223,11 @@ fn limits(cases: &mut Cases) {
     cases.read(&many(mark, 1, reading, 1024, "8,3,4\n"), READER).refused(4, 6174);
 
     // A sound sheet of as many bytes as there may be, and of one more.
-    cases.text(&sheet_of_length(MOST_BYTES), MOST_OUTPUT);
-    cases.sheet(&sheet_of_length(MOST_BYTES + 1)).refused(1, 32_768);
+    cases.text(&sheet_of_length(MOST_BYTES, ENDS[0]), MOST_OUTPUT);
+    cases.sheet(&sheet_of_length(MOST_BYTES + 1, ENDS[0])).refused(1, 32_768);
+    // Carriage returns count.
+    cases.read(&sheet_of_length(MOST_BYTES, ENDS[1]), READER).used(1001, 3);
+    cases.read(&sheet_of_length(MOST_BYTES + 1, ENDS[1]), READER).refused(1, 32_768);
 }
 
 /// Large sheets, each read and its curve written.
