@@ -7,6 +7,7 @@ use crate::sheets;
 use reference::exported::{BOUNDS, READER, RECORD};
 use reference::generators::lists::{fall, some_point};
 use reference::generators::random::Random;
+use reference::generators::sheets::feed_sheets;
 use reference::{Record, MOST_OUTPUT, ROW_WIDTH};
 
 type Found = Result<(), String>;
@@ -560,6 +561,9 @@ fn read_and_write(calls: &mut Calls, sheet: &[u8]) -> Found {
 pub fn read_and_text(calls: &mut Calls) -> Found {
     let random = &mut Random(6);
     for sheet in sheets::small_damages() {
+        read_and_write(calls, &sheet)?;
+    }
+    for sheet in feed_sheets() {
         read_and_write(calls, &sheet)?;
     }
     for sheet in sheets::limits(random) {

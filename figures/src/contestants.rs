@@ -10,8 +10,33 @@ pub struct Contestant {
     pub call: fn(&Input, &mut Buffers) -> u64,
 }
 
+type Reader = fn(
+    &[u8],
+    &mut [u16],
+    &mut [u16],
+    &mut [u16],
+    &mut [u32],
+) -> Result<(usize, usize), plain::Refusal>;
+
+fn plain_read(read: Reader, input: &Input, lent: &mut Buffers) -> u64 {
+    let counts = read(
+        &input.sheet,
+        &mut lent.minutes,
+        &mut lent.values,
+        &mut lent.points,
+        &mut lent.bandwidths,
+    );
+    match counts {
+        Err(refusal) => refusal.code(),
+        Ok((samples, points)) => {
+            lent.counts = [samples as u64, points as u64];
+            0
+        }
+    }
+}
+
 /// Every contestant answers what the proved call returns: detail and number as one number.
-pub static CALLS: [Contestant; 8] = [
+pub static CALLS: [Contestant; 9] = [
     Contestant {
         name: "tankcurve_smooth",
         call: |input, lent| {
@@ -65,22 +90,11 @@ pub static CALLS: [Contestant; 8] = [
     },
     Contestant {
         name: "plain::read",
-        call: |input, lent| {
-            let counts = plain::read(
-                &input.sheet,
-                &mut lent.minutes,
-                &mut lent.values,
-                &mut lent.points,
-                &mut lent.bandwidths,
-            );
-            match counts {
-                Err(refusal) => refusal.code(),
-                Ok((samples, points)) => {
-                    lent.counts = [samples as u64, points as u64];
-                    0
-                }
-            }
-        },
+        call: |input, lent| plain_read(plain::read, input, lent),
+    },
+    Contestant {
+        name: "plain::with_memchr::read",
+        call: |input, lent| plain_read(plain::with_memchr::read, input, lent),
     },
     Contestant {
         name: "tankcurve_text",

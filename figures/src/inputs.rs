@@ -1,6 +1,6 @@
 //! What every contestant gets: the same lists or sheet, and the same buffers.
 
-use crate::plain::{MAX_OUTPUT, MAX_POINTS, MAX_SAMPLES, ROW_WIDTH};
+use crate::plain::{MAX_OUTPUT, MAX_POINTS, MAX_SAMPLES, MAX_SHEET, ROW_WIDTH};
 
 /// The lists of a grid and its samples, and the sheet that has them.
 pub struct Input {
@@ -71,6 +71,43 @@ pub fn input(part: usize, bandwidth: u32) -> Input {
         bandwidths,
         sheet,
     }
+}
+
+/// A sheet that the search for line feeds is measured on.
+pub struct NamedSheet {
+    pub name: &'static str,
+    pub what: &'static str,
+    pub sheet: Vec<u8>,
+}
+
+/// The full sheet, one of as many of the shortest lines, one line that does not end, and the full sheet with
+/// a carriage return before each line feed.
+pub fn sheets() -> [NamedSheet; 4] {
+    let full = input(1, 20_000).sheet;
+    let mut shortest = b"mark,half\n".to_vec();
+    shortest.extend(b"0,1\n".repeat(MAX_POINTS));
+    shortest.extend(b"\nminute,inj,vdk\n");
+    shortest.extend(b"0,3,0\n".repeat(MAX_SAMPLES));
+    let lines: Vec<&[u8]> = full.split_inclusive(|&b| b == b'\n').collect();
+    let returns = lines
+        .iter()
+        .flat_map(|line| [&line[..line.len() - 1], b"\r\n"].concat())
+        .collect();
+    [
+        ("full", "the full sheet", full),
+        ("shortest", "as many of the shortest lines", shortest),
+        (
+            "no-feed",
+            "one line without its line feed",
+            vec![b'7'; MAX_SHEET],
+        ),
+        (
+            "returns",
+            "the full sheet, carriage returns before line feeds",
+            returns,
+        ),
+    ]
+    .map(|(name, what, sheet)| NamedSheet { name, what, sheet })
 }
 
 impl Input {

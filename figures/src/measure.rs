@@ -122,12 +122,20 @@ fn counted(words: &[&str], sheet: &[u8]) -> Result<u64, String> {
 
 /// The instructions of one call: what so many calls more add, divided.
 pub fn instructions(name: &str, part: usize, bandwidth: u32) -> Result<u64, String> {
+    added_instructions(&[name, &part.to_string(), &bandwidth.to_string()])
+}
+
+/// The instructions of one call over the sheet of this name.
+pub fn sheet_instructions(name: &str, sheet: &str) -> Result<u64, String> {
+    added_instructions(&[name, sheet])
+}
+
+fn added_instructions(words: &[&str]) -> Result<u64, String> {
     let own = env::current_exe().map_err(|error| error.to_string())?;
     let own = own.to_string_lossy().into_owned();
-    let (part, bandwidth) = (part.to_string(), bandwidth.to_string());
     let count = |calls: u64| {
         let calls = calls.to_string();
-        counted(&[&own, "calls", name, &part, &bandwidth, &calls], b"")
+        counted(&[&[&own, "calls"], words, &[&calls]].concat(), b"")
     };
     let added = count(2 * COUNTED_CALLS)? - count(COUNTED_CALLS)?;
     Ok(added / COUNTED_CALLS)

@@ -2,10 +2,10 @@
 
 use crate::contestants::{agree, called};
 use crate::measure::{
-    instructions, least, median_ratio, process_instructions, process_times, times, written, Times,
-    BATCH, COUNTED_CALLS, PROCESS_ROUNDS, ROUNDS,
+    instructions, least, median_ratio, process_instructions, process_times, sheet_instructions,
+    times, written, Times, BATCH, COUNTED_CALLS, PROCESS_ROUNDS, ROUNDS,
 };
-use figures::inputs::{input, Input};
+use figures::inputs::{input, sheets, Input, NamedSheet};
 use figures::plain::{MAX_OUTPUT, MAX_POINTS, ROW_WIDTH};
 
 /// The bandwidth of every figure but those that name another.
@@ -17,7 +17,7 @@ const SMOOTHS: [&str; 4] = [
     "direct::smooth",
     "reference::sweep",
 ];
-const READS: [&str; 2] = ["tankcurve_read", "plain::read"];
+const READS: [&str; 3] = ["tankcurve_read", "plain::read", "plain::with_memchr::read"];
 const TEXTS: [&str; 2] = ["tankcurve_text", "plain::text"];
 
 /// A time in microseconds.
@@ -91,7 +91,8 @@ fn beside_rust(program: &str, plain: &str, full: &Input) -> Result<(), String> {
     println!("|---|---|---|---|---|---|---|---|---|");
     let smooths = [SMOOTHS[0], SMOOTHS[1]];
     call_line("sweep: `tankcurve_smooth`", Some(1.1), smooths, full)?;
-    call_line("reader: `tankcurve_read`", Some(1.2), READS, full)?;
+    let reads = [READS[0], READS[1]];
+    call_line("reader: `tankcurve_read`", Some(1.2), reads, full)?;
     call_line("sheet to text: `tankcurve_text`", Some(1.0), TEXTS, full)?;
     let sheets: [(&str, &[u8]); 2] = [("full sheet", &full.sheet), ("empty input", b"")];
     for (what, sheet) in sheets {
@@ -150,6 +151,36 @@ implementation, goes through all readings at each mark in 128 bits, here without
     Ok(())
 }
 
+fn searches() -> Result<(), String> {
+    println!("\n### The search for line feeds\n");
+    println!(
+        "Instructions of the reader, which searches by words of eight bytes. Plain Rust has the same search, and in the last
+two columns `memchr` of the C library. Ratios are `tankcurve_read` ÷ plain.
+"
+    );
+    println!(
+        "| sheet | bytes | `tankcurve_read` | `plain::read` | ratio | with `memchr` | ratio |"
+    );
+    println!("|---|---|---|---|---|---|---|");
+    for NamedSheet { name, what, sheet } in sheets() {
+        let counts = [
+            sheet_instructions(READS[0], name)?,
+            sheet_instructions(READS[1], name)?,
+            sheet_instructions(READS[2], name)?,
+        ];
+        println!(
+            "| {what} | {} | {} | {} | {:.2} | {} | {:.2} |",
+            grouped(sheet.len() as u64),
+            grouped(counts[0]),
+            grouped(counts[1]),
+            counts[0] as f64 / counts[1] as f64,
+            grouped(counts[2]),
+            counts[0] as f64 / counts[2] as f64,
+        );
+    }
+    Ok(())
+}
+
 /// The mean number of readings in a window.
 fn mean_run(given: &Input) -> usize {
     let mut all = 0;
@@ -192,6 +223,8 @@ fn growth(parts: &[(usize, Input)]) -> Result<(), String> {
 fn all_agree(program: &str, plain: &str, parts: &[(usize, Input)]) -> Result<usize, String> {
     let mut given = input(128, 1440).edits();
     given.extend([input(1, 1440), input(1, 65_536)]);
+    let any = input(128, 1440);
+    given.extend(sheets().map(|named| any.with_sheet(named.sheet)));
     for given in given.iter().chain(parts.iter().map(|(_, given)| given)) {
         agree(&SMOOTHS, given)?;
         agree(&READS, given)?;
@@ -243,6 +276,7 @@ all, the loader's too.
         COUNTED_CALLS,
     );
     beside_rust(program, plain, full)?;
+    searches()?;
     beside_direct_sums()?;
     growth(&parts)
 }

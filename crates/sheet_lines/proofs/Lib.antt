@@ -1,2 +1,3 @@
 pub mod LineEnds
 pub mod SameTexts
+pub mod WordSearch

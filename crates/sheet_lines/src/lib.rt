@@ -4,6 +4,9 @@ ghost use Prim.Native.Nat.{_<_};
 ghost use lib.ListN.{length};
 ghost use Rattle.meanings.specs.Sheet.{same};
 ghost use Rattle.sheet_lines.specs.Lines.{line-bounds, line-at, feed-from, text-before};
+use sheet_words::WordAt;
+use sheet_words::feed_bits;
+use sheet_words::word_at;
 
 // What a search for a line finds: the end of its text with the start of the next line, or no line feed.
 pub enum Line {
@@ -15,8 +18,8 @@ const LINE_FEED: u8 = 10;
 
 const CARRIAGE_RETURN: u8 = 13;
 
-// The first line feed from byte `from` on, or where the search ends without one.
-pub(crate) fn find_feed(sheet: &[u8], from: usize) -> usize
+// What find_feed finds, byte by byte.
+fn find_feed_bytewise(sheet: &[u8], from: usize) -> usize
     ensures { λ r. ⌜ r ≡ feed-from (now (sheet .entry)) from ⌝ }
 {
     let mut at = from;
@@ -27,6 +30,25 @@ pub(crate) fn find_feed(sheet: &[u8], from: usize) -> usize
         at += 1;
     }
     at
+}
+
+// The first line feed from byte `from` on, or where the search ends without one. It looks at eight bytes as one word; the last ones, fewer than
+// eight, are looked at byte by byte.
+pub(crate) fn find_feed(sheet: &[u8], from: usize) -> usize
+    ensures { λ r. ⌜ r ≡ feed-from (now (sheet .entry)) from ⌝ }
+{
+    let mut at = from;
+    loop {
+        let word = word_at(sheet, at);
+        let WordAt::Whole(w) = word else {
+            return find_feed_bytewise(sheet, at);
+        };
+        let bits = feed_bits(w);
+        if bits != 0 {
+            return at + (u64::trailing_zeros(bits) / 8) as usize;
+        }
+        at += 8;
+    }
 }
 
 // Where the text ends of the line that begins at byte `from` and has its line feed at byte `feed`.

@@ -1,14 +1,13 @@
 //! The lines of the sheet and the numbers between their commas.
 
-const LINE_FEED: u8 = b'\n';
+use super::feed::find_feed;
+
 const CARRIAGE_RETURN: u8 = b'\r';
 const COMMA: u8 = b',';
 
 /// The line at byte `from`: the end of its text, and the first byte of the next line.
 pub fn find_line(sheet: &[u8], from: usize) -> Option<(usize, usize)> {
-    let rest = sheet.get(from..)?;
-    let length = rest.iter().position(|&b| b == LINE_FEED)?;
-    let feed = from + length;
+    let feed = find_feed(sheet, from)?;
     if from < feed && sheet[feed - 1] == CARRIAGE_RETURN {
         return Some((feed - 1, feed + 1));
     }

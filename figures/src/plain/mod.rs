@@ -1,10 +1,12 @@
 //! The proved calls' algorithms in safe Rust: the same steps and checks in the same order, over slices.
 
 mod checks;
+mod feed;
 mod lines;
 mod read;
 mod smooth;
 mod text;
+pub mod with_memchr;
 
 pub use read::read;
 pub use smooth::smooth;

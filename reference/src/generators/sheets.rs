@@ -95,6 +95,63 @@ pub fn sheet_of(marks: &str, readings: &str) -> Vec<u8> {
 /// Both ends of a line.
 pub const ENDS: [&[u8]; 2] = [b"\n", b"\r\n"];
 
+/// The line feed, and bytes that a search of whole words may take for one: the
+/// next byte, each of the two with its high bit, and all bits. The carriage
+/// return, which belongs to a line feed behind it.
+const FEED_LIKE: [u8; 6] = [0x0a, 0x0b, 0x8a, 0x8b, 0xff, 0x0d];
+
+/// Lines of up to this many bytes have their feed at each offset: the longest
+/// line of a sheet.
+const LONGEST_LINE: usize = 17;
+
+/// So many fields of ones, with their commas so many bytes in all where that is
+/// enough, and else as many bytes of the shortest such line.
+fn line_text(fields: usize, length: usize) -> Vec<u8> {
+    let digits = length.saturating_sub(fields - 1).max(fields);
+    let texts: Vec<String> = (0..fields)
+        .map(|field| "1".repeat((digits + field) / fields))
+        .collect();
+    let mut text = texts.join(",").into_bytes();
+    text.truncate(length);
+    text
+}
+
+/// Sheets with line feeds, and bytes that are nearly one or belong to one, at
+/// each offset up to 17 from a line's start and from the sheet's end; and of each
+/// length up to 17.
+pub fn feed_sheets() -> Vec<Vec<u8>> {
+    let header = b"mark,half\n";
+    let begin = b"mark,half\n2,1\n\nminute,inj,vdk\n";
+    let more = b"65535,3,9\n";
+    let mut sheets = Vec::new();
+    for length in 0..=LONGEST_LINE {
+        let point = line_text(2, length);
+        let sample = line_text(3, length);
+        for byte in FEED_LIKE {
+            let byte = [byte];
+            // Behind the feed, before it, and in its place.
+            for (front, line) in [(&header[..], &point), (&begin[..], &sample)] {
+                sheets.push([front, line, b"\n", &byte, more].concat());
+                sheets.push([front, line, &byte, b"\n", more].concat());
+                sheets.push([front, line, &byte, more].concat());
+            }
+            // Behind the last feed, and without it.
+            let behind = byte.repeat(length);
+            sheets.push([begin, &more[..], &behind].concat());
+            sheets.push([begin, &more[..more.len() - 1], &behind].concat());
+            sheets.push([begin, &more[..], &sample, &byte].concat());
+            // As a whole sheet, and within one.
+            sheets.push(behind);
+            let mut short = b"mark,half\n1,1\n1,1\n"[..length].to_vec();
+            if let Some(feed) = short.get_mut(9) {
+                *feed = byte[0];
+            }
+            sheets.push(short);
+        }
+    }
+    sheets
+}
+
 /// The sheet with lines that are not kept behind it, which have this end, so
 /// many bytes in all.
 pub fn lengthened(mut sheet: Vec<u8>, length: usize, end: &[u8]) -> Vec<u8> {

@@ -4,7 +4,7 @@ use crate::draws::{self, length};
 use crate::files::Cases;
 use reference::exported::READER;
 use reference::generators::random::Random;
-use reference::generators::sheets::{lengthened, lines_of, sheet_of, with_end, ENDS};
+use reference::generators::sheets::{feed_sheets, lengthened, lines_of, sheet_of, with_end, ENDS};
 use reference::{MOST_BYTES, MOST_MARKS, MOST_OUTPUT, MOST_READINGS};
 
 /// The published sheet.
@@ -19,6 +19,7 @@ pub fn cases(cases: &mut Cases) {
     line_ends(cases);
     limits(cases);
     large(cases);
+    feeds(cases);
     order(cases);
     lengths(cases);
 }
@@ -249,6 +250,13 @@ fn large(cases: &mut Cases) {
     // Nothing but line feeds.
     cases.sheet(&[b'\n'; MOST_BYTES + 1]).refused(1, 32_768);
     cases.sheet(&[b'\n'; MOST_BYTES]).refused(2, 0);
+}
+
+/// Line feeds at each offset of a word of eight bytes, and about its end.
+fn feeds(cases: &mut Cases) {
+    for sheet in feed_sheets() {
+        cases.read(&sheet, READER);
+    }
 }
 
 /// Each case has the fault of its report and the faults of those that come
