@@ -8,12 +8,14 @@ use crate::lent::Lent;
 use crate::tally::Tally;
 use reference::exported::{BOUNDS, COUNTS, DETAIL_UNIT, READER, RECORD};
 use reference::generators::random::Random;
-use reference::{Record, MOST_OUTPUT, ROW_WIDTH};
+use reference::{Record, MOST_OUTPUT, PREVIEW_MARKS, PREVIEW_READINGS, ROW_WIDTH};
 use std::fmt::{self, Debug};
 use std::io::{self, Write};
 use std::path::PathBuf;
 use std::process::{Command, Stdio};
-use tankcurve::{slices, Counts, Error, Estimate, RecordRow, Refusal, Report, RunningSums};
+use tankcurve::{
+    slices, Counts, Error, Estimate, RecordRow, Refusal, Report, RunningSums, Smoothed,
+};
 
 /// A number, 0 or a report, and its detail.
 type Answer = (u8, u64);
@@ -47,12 +49,35 @@ pub struct Calls {
     advance: Tally,
     row: Tally,
     smooth: Tally,
+    preview: Tally,
     fill: Tally,
     read: Tally,
     text: Tally,
     refusal_text: Tally,
     run: Tally,
 }
+
+/// A sweep or a preview: by the second implementation, over slices of any length, and typed.
+struct Sweep {
+    name: &'static str,
+    reference: fn(&[u16], &[u16], &[u16], &[u32], &mut [u64]) -> Result<u64, reference::Refusal>,
+    exported: fn(&[u16], &[u16], &[u16], &[u32], &mut [u64]) -> u64,
+    typed: for<'a> fn(&[u16], &[u16], &[u16], &[u32], &'a mut [u64]) -> Result<Smoothed<'a>, Error>,
+}
+
+const SMOOTH: Sweep = Sweep {
+    name: "smooth",
+    reference: reference::sweep,
+    exported: slices::smooth,
+    typed: tankcurve::smooth,
+};
+
+const PREVIEW: Sweep = Sweep {
+    name: "preview",
+    reference: reference::preview,
+    exported: slices::preview,
+    typed: tankcurve::preview,
+};
 
 /// Bytes shown as text.
 #[derive(PartialEq)]
@@ -151,6 +176,7 @@ impl Calls {
             advance: Tally::new("advance", &[8, 6, 11, 9]),
             row: Tally::new("row", &[8]),
             smooth: Tally::new("smooth", &[8, 6, 7, 4, 5, 9, 10]),
+            preview: Tally::new("preview", &[8, 6, 7, 4, 5, 9, 10]),
             fill: Tally::new("fill", &[8, 7, 6, 12, 13]),
             read: Tally::new("read", &[8, 1, 2, 3, 4, 5, 9, 10, 6, 7]),
             text: Tally::new("text", &[8, 1, 2, 3, 4, 5, 9, 10, 6, 7]),
@@ -159,13 +185,14 @@ impl Calls {
         }
     }
 
-    pub fn tallies(&self) -> [&Tally; 10] {
+    pub fn tallies(&self) -> [&Tally; 11] {
         [
             &self.evaluate,
             &self.window,
             &self.advance,
             &self.row,
             &self.smooth,
+            &self.preview,
             &self.fill,
             &self.read,
             &self.text,
@@ -421,6 +448,7 @@ impl Calls {
         )
     }
 
+    /// The sweep, over slices of any length and typed.
     pub fn smooth(
         &mut self,
         minutes: &[u16],
@@ -429,8 +457,60 @@ impl Calls {
         bandwidths: &[u32],
         rows_len: usize,
     ) -> Result<(), String> {
+        let (found, answer) = self.swept(&SMOOTH, minutes, values, points, bandwidths, rows_len);
+        self.smooth.count(answer.0);
+        found
+    }
+
+    /// The preview, also against the archive's own sweep: within the preview's limits both give the same;
+    /// over them the preview gives 8 where the sweep does, and otherwise 6.
+    pub fn preview(
+        &mut self,
+        minutes: &[u16],
+        values: &[u16],
+        points: &[u16],
+        bandwidths: &[u32],
+        rows_len: usize,
+    ) -> Result<(), String> {
+        let (found, answer) = self.swept(&PREVIEW, minutes, values, points, bandwidths, rows_len);
+        self.preview.count(answer.0);
+        let small = minutes.len() <= PREVIEW_READINGS && points.len() <= PREVIEW_MARKS;
+        let beside = attempt(|| {
+            let mut rows = Lent::patterned(&mut self.patterns, rows_len);
+            let mut full = rows.list().to_vec();
+            let got = slices::preview(minutes, values, points, bandwidths, rows.list_mut());
+            let sweep = slices::smooth(minutes, values, points, bandwidths, &mut full);
+            if small {
+                same("beside the sweep", sweep, got)?;
+                return rows.holds("rows beside the sweep", &full);
+            }
+            let expected = if sweep == 8 { 8 } else { 6 };
+            same("beside the sweep, over the limits", expected, got)?;
+            rows.untouched("rows over the limits")
+        });
+        found?;
+        with_case!(
+            beside,
+            "preview",
+            minutes = minutes,
+            values = values,
+            points = points,
+            bandwidths = bandwidths,
+            rows_len = rows_len
+        )
+    }
+
+    fn swept(
+        &mut self,
+        sweep: &Sweep,
+        minutes: &[u16],
+        values: &[u16],
+        points: &[u16],
+        bandwidths: &[u32],
+        rows_len: usize,
+    ) -> (Result<(), String>, Answer) {
         let mut front = vec![0; rows_len];
-        let result = reference::sweep(minutes, values, points, bandwidths, &mut front);
+        let result = (sweep.reference)(minutes, values, points, bandwidths, &mut front);
         let result = result.map_err(refused);
         let answer = result.map_or_else(|refusal| refusal, |passes| (0, passes));
         if result.is_err() {
@@ -443,7 +523,7 @@ impl Calls {
         let mut rows = Lent::patterned(&mut self.patterns, rows_len);
         let mut typed_rows = Lent::patterned(&mut self.patterns, rows_len);
         let found = attempt(|| {
-            let got = slices::smooth(
+            let got = (sweep.exported)(
                 lent_minutes.list(),
                 lent_values.list(),
                 lent_points.list(),
@@ -456,7 +536,7 @@ impl Calls {
             lent_points.untouched("points")?;
             lent_bandwidths.untouched("bandwidths")?;
             rows.holds("rows", &front)?;
-            let got = tankcurve::smooth(
+            let got = (sweep.typed)(
                 lent_minutes.list(),
                 lent_values.list(),
                 lent_points.list(),
@@ -471,16 +551,16 @@ impl Calls {
             same("typed", result.map(rows), got)?;
             typed_rows.holds("typed, rows", &front)
         });
-        self.smooth.count(answer.0);
-        with_case!(
+        let found = with_case!(
             found,
-            "smooth",
+            sweep.name,
             minutes = minutes,
             values = values,
             points = points,
             bandwidths = bandwidths,
             rows_len = rows_len
-        )
+        );
+        (found, answer)
     }
 
     pub fn fill(

@@ -8,7 +8,9 @@ use reference::exported::{BOUNDS, READER, RECORD};
 use reference::generators::lists::{fall, some_point};
 use reference::generators::random::Random;
 use reference::generators::sheets::feed_sheets;
-use reference::{Record, MOST_OUTPUT, ROW_WIDTH};
+use reference::{
+    Record, MOST_MARKS, MOST_OUTPUT, MOST_READINGS, PREVIEW_MARKS, PREVIEW_READINGS, ROW_WIDTH,
+};
 
 type Found = Result<(), String>;
 
@@ -395,35 +397,94 @@ pub fn smooth(calls: &mut Calls) -> Found {
             calls.smooth(&[9, 9], &[4, 5], &[7, 7, 8, 8], &bandwidths, 4 * ROW_WIDTH)?;
         }
     }
-    smooth_faults(calls, random)?;
+    let full = (MOST_READINGS, MOST_MARKS);
+    sweep_faults(calls, random, Calls::smooth, full)?;
     for turn in 0..500 {
         let (minutes, values, point, bandwidth) = near_half(random, turn);
         let points = [point, point + 1];
         calls.smooth(&minutes, &values, &points, &[bandwidth; 2], 2 * ROW_WIDTH)?;
     }
     for _ in 0..25_000 {
-        some_smooth(calls, random)?;
+        let count = sample_count(random);
+        let used = match random.below(100) {
+            0 => 512,
+            1 => 511,
+            2 => 0,
+            3 => random.below(512),
+            _ => random.between(1, 12) as usize,
+        };
+        some_sweep(calls, random, Calls::smooth, (count, used))?;
     }
     Ok(())
 }
 
+/// The preview at its limits and beside them, at those of the sweep, every set of faults, and random ones.
+pub fn preview(calls: &mut Calls) -> Found {
+    let random = &mut Random(10);
+    for minutes in small_lists(2, 3) {
+        for points in small_lists(2, 3) {
+            for width in 0..4 {
+                let bandwidths = vec![width; points.len()];
+                let (values, rows) = (&[2, 3][..minutes.len()], ROW_WIDTH * points.len());
+                calls.preview(&minutes, values, &points, &bandwidths, rows)?;
+            }
+        }
+    }
+    for count in [0, 1, 255, 256, 257, 258, 512, 1024, 1025, 65_536, 65_792] {
+        for used in [0, 1, 63, 64, 65, 66, 256, 512, 513, 65_536, 65_600] {
+            let minutes = LISTS.ordered_minutes(random, count);
+            let values = LISTS.some_values(random, count);
+            let (points, bandwidths) = LISTS.fit_points(random, &minutes, used);
+            calls.preview(&minutes, &values, &points, &bandwidths, ROW_WIDTH * used)?;
+            // Uneven, where one list alone is over its limit.
+            calls.preview(&minutes, &[], &points, &bandwidths, ROW_WIDTH * used)?;
+            calls.preview(&minutes, &values, &points, &bandwidths, ROW_WIDTH * 64)?;
+        }
+    }
+    let small = (PREVIEW_READINGS, PREVIEW_MARKS);
+    sweep_faults(calls, random, Calls::preview, small)?;
+    for _ in 0..15_000 {
+        let count = match random.below(20) {
+            0 => random.pick(&[255, 256, 257, 258]),
+            1 => random.below(256),
+            _ => sample_count(random),
+        };
+        let used = match random.below(30) {
+            0 => random.pick(&[63, 64, 65, 66]),
+            1 => random.below(64),
+            2 => 0,
+            _ => random.between(1, 12) as usize,
+        };
+        some_sweep(calls, random, Calls::preview, (count, used))?;
+    }
+    Ok(())
+}
+
+/// The sweep or the preview.
+type Swept = fn(&mut Calls, &[u16], &[u16], &[u16], &[u32], usize) -> Found;
+
 /// Every set of faults: uneven samples, uneven points, rows of a wrong length, too many samples, too
 /// many points, no points, a sample, a point or a bandwidth out of order or range, a falling edge.
-fn smooth_faults(calls: &mut Calls, random: &mut Random) -> Found {
+fn sweep_faults(
+    calls: &mut Calls,
+    random: &mut Random,
+    call: Swept,
+    (most_samples, most_points): (usize, usize),
+) -> Found {
     for faults in 0..1024 {
         let has = |fault: u32| faults >> fault & 1 == 1;
-        let count = if has(3) { 1025 } else { 1024 };
-        let mut minutes: Vec<u16> = (0..count).map(|i| i / 2).collect();
-        let values = LISTS.some_values(random, usize::from(count) - usize::from(has(0)));
+        let count = most_samples + usize::from(has(3));
+        let mut minutes: Vec<u16> = (0..count).map(|i| (i / 2) as u16).collect();
+        let values = LISTS.some_values(random, count - usize::from(has(0)));
         let used = match (has(5), has(4)) {
             (true, _) => 0,
-            (false, true) => 513,
+            (false, true) => most_points + 1,
             (false, false) => 6,
         };
-        let mut points: Vec<u16> = (0..used).map(|k| 50 + k).collect();
+        let mut points: Vec<u16> = (0..used).map(|k| 50 + k as u16).collect();
         let mut bandwidths = vec![9; points.len()];
         if has(6) {
-            minutes[random.pick(&[1001, 1023])] = 0;
+            minutes[most_samples - random.pick(&[23, 1])] = 0;
         }
         if has(7) && used > 0 {
             points[random.pick(&[3, 4, 5])] = 49;
@@ -444,22 +505,20 @@ fn smooth_faults(calls: &mut Calls, random: &mut Random) -> Found {
             2 => ROW_WIDTH * (points.len() + 1),
             _ => (ROW_WIDTH * points.len()).max(ROW_WIDTH) - 1,
         };
-        calls.smooth(&minutes, &values, &points, &bandwidths, rows_len)?;
+        call(calls, &minutes, &values, &points, &bandwidths, rows_len)?;
     }
     Ok(())
 }
 
-fn some_smooth(calls: &mut Calls, random: &mut Random) -> Found {
-    let count = sample_count(random);
+/// So many readings and marks, fit or damaged.
+fn some_sweep(
+    calls: &mut Calls,
+    random: &mut Random,
+    call: Swept,
+    (count, used): (usize, usize),
+) -> Found {
     let mut minutes = LISTS.ordered_minutes(random, count);
     let mut values = LISTS.some_values(random, count);
-    let used = match random.below(100) {
-        0 => 512,
-        1 => 511,
-        2 => 0,
-        3 => random.below(512),
-        _ => random.between(1, 12) as usize,
-    };
     let (mut points, mut bandwidths) = LISTS.fit_points(random, &minutes, used);
     while random.chance(30) {
         match random.below(10) {
@@ -489,7 +548,7 @@ fn some_smooth(calls: &mut Calls, random: &mut Random) -> Found {
         2 => 0,
         _ => ROW_WIDTH * points.len(),
     };
-    calls.smooth(&minutes, &values, &points, &bandwidths, rows_len)
+    call(calls, &minutes, &values, &points, &bandwidths, rows_len)
 }
 
 // ------------------------------------------------------------------- the grid

@@ -45,6 +45,7 @@ fn compare(calls: &mut Calls, examples: &Path) -> Result<(), String> {
     cases::advance(calls)?;
     cases::row(calls)?;
     cases::smooth(calls)?;
+    cases::preview(calls)?;
     cases::fill(calls)?;
     cases::read_and_text(calls)?;
     cases::refusal_text(calls)?;

@@ -47,6 +47,21 @@ static bool sweep(size_t samples, size_t marks)
     return true;
 }
 
+/* The curve while the knob is turned: a small one, or none where the sheet has too much for it. */
+static bool preview(size_t samples, size_t marks)
+{
+    uint64_t answer = tankcurve_preview(minutes, samples, values, samples, points, marks, bandwidths, marks, rows, marks * TANKCURVE_ROW_LEN);
+    if (tankcurve_number(answer) == TANKCURVE_TOO_MANY) {
+        printf("preview: none\n");
+        return true;
+    }
+    if (!accepted("preview", answer))
+        return false;
+    for (size_t k = 0; k < marks; k++)
+        show("preview", rows + k * TANKCURVE_ROW_LEN);
+    return true;
+}
+
 /* The same curve mark by mark, from a record that begins as all zero; a row is asked at the mark and half width of the step before it. */
 static bool steps(size_t samples, size_t marks)
 {
@@ -109,7 +124,7 @@ int main(void)
         printf("read: %zu samples, %zu points\n", samples, marks);
         well = well && sweep(samples, marks) && steps(samples, marks) && one_mark(samples, points[0], bandwidths[0]);
         /* Four marks from minute 10, one every 15 minutes, with the half width of the knob's position 0. */
-        well = well && accepted("fill", tankcurve_fill(10, 15, 0, points, 4, bandwidths, 4)) && sweep(samples, 4);
+        well = well && accepted("fill", tankcurve_fill(10, 15, 0, points, 4, bandwidths, 4)) && preview(samples, 4) && sweep(samples, 4);
     }
     return well && fflush(stdout) == 0 ? 0 : 1;
 }

@@ -59,14 +59,16 @@ extern "C" {
 #endif
 
 /*
- * The version that this header belongs to, 1.1.0: major * 65536 + minor * 256 + patch. tankcurve_version gives that of the archive. What is
- * counted by it stands in link/abi-1.1.0.
+ * The version that this header belongs to, 1.2.0: major * 65536 + minor * 256 + patch. tankcurve_version gives that of the archive. What is
+ * counted by it stands in link/abi-1.2.0.
  */
-#define TANKCURVE_VERSION 0x010100
+#define TANKCURVE_VERSION 0x010200
 
 /* The lengths and limits. */
 #define TANKCURVE_MAX_SAMPLES 1024 /* samples ("readings") in a list, and the length of the reader's lists of them */
 #define TANKCURVE_MAX_POINTS 512   /* points ("marks") in a list, and the length of the reader's lists of them */
+#define TANKCURVE_PREVIEW_MAX_SAMPLES 256 /* samples of a preview */
+#define TANKCURVE_PREVIEW_MAX_POINTS 64   /* points of a preview */
 #define TANKCURVE_MAX_SHEET 32768  /* bytes of a sheet, and the greatest place of a report */
 #define TANKCURVE_MAX_OUTPUT 31291 /* bytes of a text; the length of every out */
 #define TANKCURVE_ROW_LEN 5        /* enum tankcurve_row_field: left, right, weight, sum, value */
@@ -133,7 +135,8 @@ enum tankcurve_report TANKCURVE_REPORT_TYPE {
                                              behind its points */
     TANKCURVE_SAMPLE_OUT_OF_ORDER = 4,    /* "early reading": a minute is below the one before */
     TANKCURVE_POINT_OUT_OF_ORDER = 5,     /* "early mark": a point is below the one before */
-    TANKCURVE_TOO_MANY = 6,               /* "crowded": more than 1,024 samples, on a sheet kept ones, or more than 512 points */
+    TANKCURVE_TOO_MANY = 6,               /* "crowded": more than 1,024 samples, on a sheet kept ones, or more than 512 points; in
+                                             tankcurve_preview more than 256 samples or 64 points */
     TANKCURVE_NO_POINTS = 7,              /* "no marks": there is no point */
     TANKCURVE_LENGTH_MISMATCH = 8,        /* "uneven": lists that belong together, or a list for the answer, have other lengths */
     TANKCURVE_BANDWIDTH_OUT_OF_RANGE = 9, /* "half width": a bandwidth is 0 or over 65,536 */
@@ -253,6 +256,15 @@ uint64_t tankcurve_row(const uint64_t *record, size_t record_len, uint16_t point
 TANKCURVE_ANSWER
 uint64_t tankcurve_smooth(const uint16_t *minutes, size_t minutes_len, const uint16_t *values, size_t values_len, const uint16_t *points,
                           size_t points_len, const uint32_t *bandwidths, size_t bandwidths_len, uint64_t *rows, size_t rows_len);
+
+/*
+ * The preview ("the preview on the panel") [The preview]: tankcurve_smooth for a small curve, TANKCURVE_PREVIEW_MAX_SAMPLES samples and
+ * TANKCURVE_PREVIEW_MAX_POINTS points at most. More of either is 6, or 8 where tankcurve_smooth gives 8; otherwise it answers and writes what
+ * tankcurve_smooth does, reports and places included.
+ */
+TANKCURVE_ANSWER
+uint64_t tankcurve_preview(const uint16_t *minutes, size_t minutes_len, const uint16_t *values, size_t values_len, const uint16_t *points,
+                           size_t points_len, const uint32_t *bandwidths, size_t bandwidths_len, uint64_t *rows, size_t rows_len);
 
 /*
  * Fills an evaluation grid ("the mark filler") [Presets and grid]: point k, from 0, is first + k * spacing; each bandwidth is that of

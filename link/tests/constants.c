@@ -43,6 +43,16 @@ static uint64_t evaluate(size_t samples, uint32_t bandwidth, size_t row_len)
     return tankcurve_evaluate(minutes, samples, values, samples, 0, bandwidth, numbers, row_len);
 }
 
+/* Marks that are all 0, with the half width of the knob's position 0. */
+static uint64_t preview(size_t samples, size_t marks)
+{
+    static uint64_t rows[2 * TANKCURVE_PREVIEW_MAX_POINTS * TANKCURVE_ROW_LEN];
+    uint64_t answer = tankcurve_fill(0, 0, 0, points, marks, bandwidths, marks);
+    if (tankcurve_number(answer) != TANKCURVE_ACCEPTED)
+        return answer;
+    return tankcurve_preview(minutes, samples, values, samples, points, marks, bandwidths, marks, rows, marks * TANKCURVE_ROW_LEN);
+}
+
 static uint64_t read_lists(const char *text, size_t length, size_t samples_len, size_t points_len, size_t counts_len)
 {
     return tankcurve_read((const uint8_t *)text, length, minutes, samples_len, values, samples_len, points, points_len, bandwidths, points_len,
@@ -97,6 +107,9 @@ static void limits(void)
     gives("the most points", tankcurve_fill(0, 0, 0, points, TANKCURVE_MAX_POINTS, bandwidths, TANKCURVE_MAX_POINTS), TANKCURVE_ACCEPTED, 0);
     gives("a point more", tankcurve_fill(0, 0, 0, points, TANKCURVE_MAX_POINTS + 1, bandwidths, TANKCURVE_MAX_POINTS + 1), TANKCURVE_TOO_MANY,
           0);
+    gives("the most of a preview", preview(TANKCURVE_PREVIEW_MAX_SAMPLES, TANKCURVE_PREVIEW_MAX_POINTS), TANKCURVE_ACCEPTED, 0);
+    gives("a sample more of a preview", preview(TANKCURVE_PREVIEW_MAX_SAMPLES + 1, 1), TANKCURVE_TOO_MANY, 0);
+    gives("a point more of a preview", preview(1, TANKCURVE_PREVIEW_MAX_POINTS + 1), TANKCURVE_TOO_MANY, 0);
     gives("the least bandwidth", evaluate(1, TANKCURVE_MIN_BANDWIDTH, TANKCURVE_ROW_LEN), TANKCURVE_ACCEPTED, 0);
     gives("a bandwidth less", evaluate(1, TANKCURVE_MIN_BANDWIDTH - 1, TANKCURVE_ROW_LEN), TANKCURVE_BANDWIDTH_OUT_OF_RANGE, 0);
     gives("the greatest bandwidth", evaluate(1, TANKCURVE_MAX_BANDWIDTH, TANKCURVE_ROW_LEN), TANKCURVE_ACCEPTED, 0);

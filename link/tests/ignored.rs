@@ -10,6 +10,7 @@ pub fn ignored(shorts: &mut [u16], words: &mut [u32], numbers: &mut [u64], bytes
     tankcurve::slices::advance(numbers, &[], &[], 0, 1);
     tankcurve::slices::row(&[0; 8], 0, 1, numbers);
     tankcurve::slices::smooth(&[], &[], &[0], &[1], numbers);
+    tankcurve::slices::preview(&[], &[], &[0], &[1], numbers);
     tankcurve::slices::fill(0, 0, 0, shorts, words);
     tankcurve::slices::read(&[], &mut [], &mut [], shorts, words, numbers);
     tankcurve::slices::text(&[], bytes);

@@ -186,6 +186,31 @@ static void widths(void)
     same("fill, a preset of 17 bits", tankcurve_fill(100, 7, preset, points, 1, bandwidths, 1), TANKCURVE_UNKNOWN_PRESET);
 }
 
+static void preview(void)
+{
+    static const uint16_t many[TANKCURVE_PREVIEW_MAX_SAMPLES + 1];
+    const uint16_t points[] = {9, 14, 22};
+    const uint32_t bandwidths[] = {6, 7, 8};
+    const uint32_t widening[] = {6, 7, 16};
+    const uint64_t before[] = {90, 91, 92, 93, 94, 95, 96, 97, 98, 99, 100, 101, 102, 103, 104, 105};
+    const uint64_t after[] = {0, 4, 70, 630, 9, 1, 5, 74, 858, 12, 3, 5, 78, 2022, 26, 105};
+    uint64_t rows[] = {90, 91, 92, 93, 94, 95, 96, 97, 98, 99, 100, 101, 102, 103, 104, 105};
+    same("preview, an edge decreases", tankcurve_preview(minutes, SAMPLES, values, SAMPLES, points, 3, widening, 3, rows, 15),
+         TANKCURVE_DETAIL_UNIT * 2 + TANKCURVE_EDGE_DECREASES);
+    same("preview, one value less", tankcurve_preview(minutes, SAMPLES, values, SAMPLES - 1, points, 3, bandwidths, 3, rows, 15),
+         TANKCURVE_LENGTH_MISMATCH);
+    same("preview, one bandwidth less", tankcurve_preview(minutes, SAMPLES, values, SAMPLES, points, 3, bandwidths, 2, rows, 15),
+         TANKCURVE_LENGTH_MISMATCH);
+    same("preview, longer rows", tankcurve_preview(minutes, SAMPLES, values, SAMPLES, points, 3, bandwidths, 3, rows, 16),
+         TANKCURVE_LENGTH_MISMATCH);
+    same("preview, too many samples",
+         tankcurve_preview(many, TANKCURVE_PREVIEW_MAX_SAMPLES + 1, many, TANKCURVE_PREVIEW_MAX_SAMPLES + 1, points, 3, bandwidths, 3, rows, 15),
+         TANKCURVE_TOO_MANY);
+    same_list("preview, rows of a refusal", rows, before, sizeof before);
+    same("preview", tankcurve_preview(minutes, SAMPLES, values, SAMPLES, points, 3, bandwidths, 3, rows, 15), TANKCURVE_DETAIL_UNIT * 8);
+    same_list("preview, rows", rows, after, sizeof after);
+}
+
 /* As many points as samples, so that no exchange of lists shows in their lengths. */
 static void smooth_lists_of_one_length(void)
 {
@@ -198,6 +223,11 @@ static void smooth_lists_of_one_length(void)
          tankcurve_smooth(minutes, SAMPLES, values, SAMPLES, points, SAMPLES, bandwidths, SAMPLES, rows, SAMPLES * TANKCURVE_ROW_LEN),
          TANKCURVE_DETAIL_UNIT * 11);
     same_list("smooth, rows of six points", rows, after, sizeof after);
+    memset(rows, 0, sizeof rows);
+    same("preview, six points",
+         tankcurve_preview(minutes, SAMPLES, values, SAMPLES, points, SAMPLES, bandwidths, SAMPLES, rows, SAMPLES * TANKCURVE_ROW_LEN),
+         TANKCURVE_DETAIL_UNIT * 11);
+    same_list("preview, rows of six points", rows, after, sizeof after);
 }
 
 static void fill(void)
@@ -321,6 +351,7 @@ int main(void)
     window();
     advance();
     smooth();
+    preview();
     row_of_a_record();
     widths();
     smooth_lists_of_one_length();

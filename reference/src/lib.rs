@@ -15,6 +15,12 @@ pub const MOST_READINGS: usize = 1024;
 /// The longest list of marks that is no fault [Readings and marks].
 pub const MOST_MARKS: usize = 512;
 
+/// The same of the preview: its readings [The preview].
+pub const PREVIEW_READINGS: usize = 256;
+
+/// And its marks [The preview].
+pub const PREVIEW_MARKS: usize = 64;
+
 /// The longest sheet that is no fault [Reports].
 pub const MOST_BYTES: usize = 32_768;
 
@@ -285,13 +291,39 @@ pub fn sweep(
     halves: &[u32],
     rows: &mut [u64],
 ) -> Result<u64, Refusal> {
+    let most = (MOST_READINGS, MOST_MARKS);
+    swept(most, minutes, values, marks, halves, rows)
+}
+
+/// The panel's preview: the sweep, but that report 6 holds of more readings or
+/// marks than a small curve has [The preview].
+pub fn preview(
+    minutes: &[u16],
+    values: &[u16],
+    marks: &[u16],
+    halves: &[u32],
+    rows: &mut [u64],
+) -> Result<u64, Refusal> {
+    let most = (PREVIEW_READINGS, PREVIEW_MARKS);
+    swept(most, minutes, values, marks, halves, rows)
+}
+
+/// A sweep over so many readings and so many marks at most.
+fn swept(
+    (most_readings, most_marks): (usize, usize),
+    minutes: &[u16],
+    values: &[u16],
+    marks: &[u16],
+    halves: &[u32],
+    rows: &mut [u64],
+) -> Result<u64, Refusal> {
     if minutes.len() != values.len()
         || marks.len() != halves.len()
         || rows.len() as u128 != (ROW_WIDTH * marks.len()) as u128
     {
         return refuse(8, 0);
     }
-    if minutes.len() > MOST_READINGS || marks.len() > MOST_MARKS {
+    if minutes.len() > most_readings || marks.len() > most_marks {
         return refuse(6, 0);
     }
     if marks.is_empty() {

@@ -3,11 +3,13 @@ use Prim.Native.Nat.{ℕ, _+_, _-_, _*_, _≤_}
 use mathlib.Core.Path.{_≡_, sym, ap, _∙_}
 use mathlib.Core.Bool.{_||_}
 use mathlib.Core.List.{List}
+use native.Mathlib.Nat.{le-trans}
 use native.Mathlib.Omega.{arith}
 use borrow.Author.Tests.{ltb-false}
 use lib.Dec.{ltb, leb, eqb}
 use lib.ListN.{length, getD}
-use Rattle.meanings.specs.Limits.{full, max-u16, max-sheet, row-width}
+use Rattle.meanings.specs.declared.Limits.{Limits}
+use Rattle.meanings.specs.Limits.{full, LimitsWithin, max-u16, max-sheet, row-width}
 use Rattle.meanings.specs.Reports.{given, differ, decreases}
 use Rattle.meanings.specs.Reports.{bad-bandwidth, edge-decreases, uneven-samples}
 use Rattle.meanings.specs.Reports.{smooth-checks, fill-checks}
@@ -17,26 +19,27 @@ use Rattle.meanings.specs.Grid.{presets}
 use Rattle.meanings.specs.declared.Smoothing.{Smoothing}
 use Rattle.meanings.specs.declared.Smoothing.the-variants.{Passes}
 use Rattle.meanings.specs.Calls.{smoothing-answer, smooth, smooth-refusal, fill}
-use Rattle.meanings.proofs.Checks.{same-limits, at-none, or-false, differ-false, given-accepted}
+use Rattle.meanings.proofs.Checks.{at-none, or-false, differ-false, given-accepted}
 use Rattle.meanings.proofs.Passes.{passes-at-most-twice}
 use Rattle.meanings.proofs.SmoothSteps.{smooth-accepts}
 use Rattle.abi_answers.proofs.Places.{refusal-place, answer-small, at-start, at-position}
 
-pub smooth-place : (ts vs zs hs rs : List ℕ) → refusal-place (smooth full ts vs zs hs rs) ≤ max-sheet
+-- the sweep under limits at most the full ones, so the preview too
+pub smooth-place : (L : Limits) → LimitsWithin L full → (ts vs zs hs rs : List ℕ) → refusal-place (smooth L ts vs zs hs rs) ≤ max-sheet
 unfolding smooth
-smooth-place ts vs zs hs rs =
-    answer-small (smooth-checks full ts vs zs hs (length rs)) (passes ts vs fresh (moves zs hs)) (
+smooth-place L w ts vs zs hs rs =
+    answer-small (smooth-checks L ts vs zs hs (length rs)) (passes ts vs fresh (moves zs hs)) (
       at-start (uneven-samples ts vs || differ (length zs) (length hs) || differ (length rs) (row-width * length zs)),
       λ even. (
-        at-start (ltb 1024 (length ts) || ltb 512 (length zs)),
+        at-start (ltb (L .samples) (length ts) || ltb (L .points) (length zs)),
         λ few. (
           at-start (eqb (length zs) 0),
           λ any. (
               let u = or-false (uneven-samples ts vs || differ (length zs) (length hs)) (differ (length rs) (row-width * length zs)) (at-none 0 _ even) in
               let e = differ-false (length zs) (length hs) (or-false (uneven-samples ts vs) (differ (length zs) (length hs)) (u .0) .1) in
-              let f = or-false (ltb 1024 (length ts)) (ltb 512 (length zs)) (at-none 0 _ few) in
-              let t = ltb-false 1024 (length ts) (f .0) in
-              let z = ltb-false 512 (length zs) (f .1) in (
+              let f = or-false (ltb (L .samples) (length ts)) (ltb (L .points) (length zs)) (at-none 0 _ few) in
+              let t : length ts ≤ 1024 = le-trans (ltb-false (L .samples) (length ts) (f .0)) (w .samples) in
+              let z : length zs ≤ 512 = le-trans (ltb-false (L .points) (length zs) (f .1)) (w .points) in (
                 at-position (decreases ts) (length ts) (omega arith),
                 λ ordered. (
                   at-position (decreases zs) (length zs) (omega arith),
@@ -66,13 +69,14 @@ fill-place z₀ spacing preset zs hs =
       ),
     )
 
-pub passes-small : (ts vs zs hs rs : List ℕ) (n : ℕ) → smooth full ts vs zs hs rs ≡ given n → n ≤ 2048
+pub passes-small : (L : Limits) → LimitsWithin L full → (ts vs zs hs rs : List ℕ) (n : ℕ) → smooth L ts vs zs hs rs ≡ given n → n ≤ 2048
 unfolding smooth
-passes-small ts vs zs hs rs n q =
-    let a = given-accepted (smooth-refusal full ts vs zs hs rs) (passes ts vs fresh (moves zs hs)) n q in
-    let s = smooth-accepts full (same-limits full) ts vs zs hs (length rs) (a .0) .lists in
+passes-small L w ts vs zs hs rs n q =
+    let a = given-accepted (smooth-refusal L ts vs zs hs rs) (passes ts vs fresh (moves zs hs)) n q in
+    let s = smooth-accepts L w ts vs zs hs (length rs) (a .0) .lists in
     let m = passes-at-most-twice ts vs (moves zs hs) in
     omega (arith, a .1, s .few)
 
-pub passes-few : (ts vs zs hs rs : List ℕ) (r : Smoothing) (n : ℕ) → smoothing-answer r ≡ smooth full ts vs zs hs rs → r ≡ Passes n → n ≤ 2048
-passes-few ts vs zs hs rs r n answer met = passes-small ts vs zs hs rs n (sym answer ∙ ap smoothing-answer met)
+pub passes-few : (L : Limits) → LimitsWithin L full → (ts vs zs hs rs : List ℕ) (r : Smoothing) (n : ℕ)
+    → smoothing-answer r ≡ smooth L ts vs zs hs rs → r ≡ Passes n → n ≤ 2048
+passes-few L w ts vs zs hs rs r n answer met = passes-small L w ts vs zs hs rs n (sym answer ∙ ap smoothing-answer met)

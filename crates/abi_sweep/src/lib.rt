@@ -1,13 +1,14 @@
-// The whole sweep and the mark filler, for programs in C and Rust: numbers and slices of numbers only.
+// The whole sweep, the preview and the mark filler, for programs in C and Rust: numbers and slices of numbers only.
 // Each answer is one number, DETAIL_UNIT × detail + report: report 0 is accepted, and the detail of a report is its place.
 use abi_answers::refusal_code;
+use estimator::preview;
 use estimator::smooth;
 use grid::fill_grid;
 use meanings::DETAIL_UNIT;
 use meanings::Filling;
 use meanings::Smoothing;
 ghost use mathlib.Core.Path.{_≡_};
-ghost use Rattle.meanings.specs.Limits.{full};
+ghost use Rattle.meanings.specs.Limits.{full, preview as small-limits};
 ghost use Rattle.meanings.specs.Calls.{smooth as smooth-meaning, smooth-rows, fill, fill-points, fill-bandwidths};
 ghost use Rattle.meanings.specs.Codes.{answered, no-detail};
 
@@ -26,6 +27,24 @@ pub extern "C" fn tankcurve_smooth(
     match smooth(minutes, values, points, bandwidths, rows) {
         Smoothing::Refused(refusal) => refusal_code(refusal),
         Smoothing::Passes(passes) => DETAIL_UNIT * passes,
+    }
+}
+
+// The preview on the panel: the same under its own limits, 256 readings and 64 marks.
+#[no_mangle]
+pub extern "C" fn tankcurve_preview(
+    minutes: &[u16],
+    values: &[u16],
+    points: &[u16],
+    bandwidths: &[u32],
+    rows: &mut [u64],
+) -> u64
+    ensures { λ r. ⌜ r ≡ answered (λ n. n) (smooth-meaning small-limits (now (minutes .entry)) (now (values .entry)) (now (points .entry)) (now (bandwidths .entry)) (now (rows .entry))) ⌝ }
+    ensures { λ _. ⌜ now (rows .exit) ≡ smooth-rows small-limits (now (minutes .entry)) (now (values .entry)) (now (points .entry)) (now (bandwidths .entry)) (now (rows .entry)) ⌝ }
+{
+    match preview(minutes, values, points, bandwidths, rows) {
+        Smoothing::Refused(refusal) => refusal_code(refusal),
+        Smoothing::Passes(n) => DETAIL_UNIT * n,
     }
 }
 

@@ -4,7 +4,7 @@ use meanings::Limits;
 use meanings::Report;
 ghost use mathlib.Core.Path.{_≡_};
 ghost use lib.ListN.{length};
-ghost use Rattle.meanings.specs.Limits.{full as full-limits};
+ghost use Rattle.meanings.specs.Limits.{full as full-limits, preview};
 ghost use Rattle.meanings.specs.Lists.{lowest};
 ghost use Rattle.meanings.specs.Reports.{number, found-position, decreases, outside as outside-meaning, bad-bandwidth, uneven-rows, edge-below};
 ghost use Rattle.checks.specs.ReaderLists.{uneven-lists};
@@ -16,6 +16,16 @@ pub fn full() -> Limits
     Limits {
         samples: 1024,
         points: 512,
+    }
+}
+
+// The preview's limits: 256 kept readings and 64 marks.
+pub fn preview_limits() -> Limits
+    ensures { λ r. ⌜ r ≡ preview ⌝ }
+{
+    Limits {
+        samples: 256,
+        points: 64,
     }
 }
 

@@ -151,8 +151,8 @@ curve-finds L ts vs zs hs more Fits d =
     curve-size-finds L ts vs zs hs more Fits d
     (order-finds ts zs (bandwidth-list-finds max-bandwidth hs (edge-finds zs hs none-left)))
 
-pub smooth-finds : (ts vs zs hs : List ℕ) (rows : ℕ) → FindAll (smooth-checks full ts vs zs hs rows) (smooth-conditions ts vs zs hs rows)
-smooth-finds ts vs zs hs rows = curve-finds full ts vs zs hs (uneven-rows row-width rows (length zs)) (rows ≡ row-width * length zs) (unequal _ _)
+pub smooth-finds : (L : Limits) (ts vs zs hs : List ℕ) (rows : ℕ) → FindAll (smooth-checks L ts vs zs hs rows) (smooth-conditions L ts vs zs hs rows)
+smooth-finds L ts vs zs hs rows = curve-finds L ts vs zs hs (uneven-rows row-width rows (length zs)) (rows ≡ row-width * length zs) (unequal _ _)
 
 pub fill-finds : (z₀ spacing preset : ℕ) (zs hs : List ℕ)
     → FindAll (fill-checks full (length presets) z₀ spacing preset (length zs) (length hs)) (fill-conditions z₀ spacing preset zs hs)

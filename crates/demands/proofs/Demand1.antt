@@ -15,6 +15,7 @@ use Rattle.meanings.specs.declared.Smoothing.{Smoothing}
 use Rattle.meanings.specs.declared.Filling.{Filling}
 use Rattle.meanings.specs.declared.Parsing.{Parsing}
 use Rattle.meanings.specs.declared.Writing.{Writing}
+use Rattle.meanings.specs.declared.Limits.{Limits}
 use Rattle.meanings.specs.Limits.{full, row-width}
 use Rattle.meanings.specs.Moves.{moves}
 use Rattle.meanings.specs.Reports.{Fault, Answer, given, refused, accepted-or}
@@ -36,6 +37,7 @@ use Rattle.estimator.proofs.window.Met as window-met
 use Rattle.estimator.proofs.advance.Met as advance-met
 use Rattle.estimator.proofs.record_row.Met as record-row-met
 use Rattle.estimator.proofs.smooth.Met as smooth-met
+use Rattle.estimator.proofs.preview.Met as preview-met
 use Rattle.grid.proofs.fill_grid.Met as fill-grid-met
 use Rattle.sheet.proofs.read_sheet.Met as read-sheet-met
 use Rattle.text.proofs.curve_text.Met as curve-text-met
@@ -45,6 +47,7 @@ use Rattle.abi_point.proofs.tankcurve_window.Met as exported-window-met
 use Rattle.abi_record.proofs.tankcurve_advance.Met as exported-advance-met
 use Rattle.abi_record.proofs.tankcurve_row.Met as exported-record-row-met
 use Rattle.abi_sweep.proofs.tankcurve_smooth.Met as exported-smooth-met
+use Rattle.abi_sweep.proofs.tankcurve_preview.Met as exported-preview-met
 use Rattle.abi_sweep.proofs.tankcurve_fill.Met as exported-fill-met
 use Rattle.abi_sheet.proofs.tankcurve_read.Met as exported-read-met
 use Rattle.abi_text.proofs.tankcurve_text.Met as exported-text-met
@@ -76,6 +79,8 @@ every-input = record {
   record-row-asks-nothing = λ κs a. tt;
   smooth-ends = smooth-met.met;
   smooth-asks-nothing = λ κs a. tt;
+  preview-ends = preview-met.met;
+  preview-asks-nothing = λ κs a. tt;
   fill-ends = fill-grid-met.met;
   fill-asks-nothing = λ κs a. tt;
   read-ends = read-sheet-met.met;
@@ -94,6 +99,8 @@ every-input = record {
   exported-record-row-asks-nothing = λ κs a. tt;
   exported-smooth-ends = exported-smooth-met.met;
   exported-smooth-asks-nothing = λ κs a. tt;
+  exported-preview-ends = exported-preview-met.met;
+  exported-preview-asks-nothing = λ κs a. tt;
   exported-fill-ends = exported-fill-met.met;
   exported-fill-asks-nothing = λ κs a. tt;
   exported-read-ends = exported-read-met.met;
@@ -126,14 +133,13 @@ unfolding advance
 advance-refused r ts vs z h a c =
     decided-exactly (moved ts vs r z h) (advance-finds ts vs (r .left) (r .right) h) (c .ensured)
 
-pub smooth-refused : (ts vs zs hs rs : List ℕ) (a : Smoothing) (rs′ : List ℕ) → SmoothCall ts vs zs hs rs a rs′
-    → RefusedAndStays (refusal (smoothing-answer a)) (FirstFault (smooth-conditions ts vs zs hs (length rs))) (rs′ ≡ rs)
+-- under any limits
+pub smooth-refused : (L : Limits) (ts vs zs hs rs : List ℕ) (t : Answer ℕ) (rs′ : List ℕ) → t ≡ smooth L ts vs zs hs rs
+    → rs′ ≡ smooth-rows L ts vs zs hs rs → RefusedAndStays (refusal t) (FirstFault (smooth-conditions L ts vs zs hs (length rs))) (rs′ ≡ rs)
 unfolding smooth smooth-rows
-smooth-refused ts vs zs hs rs a rs′ c = record {
-  exactly = decided-exactly (passes ts vs fresh (moves zs hs)) (smooth-finds ts vs zs hs (length rs)) (c .ensured .0);
-  stays =
-      decided-stays (passes ts vs fresh (moves zs hs)) (smooth-finds ts vs zs hs (length rs)) (c .ensured .0)
-      (rows ts vs zs hs (length zs)) rs rs′ (c .ensured .1);
+smooth-refused L ts vs zs hs rs t rs′ q r = record {
+  exactly = decided-exactly (passes ts vs fresh (moves zs hs)) (smooth-finds L ts vs zs hs (length rs)) q;
+  stays = decided-stays (passes ts vs fresh (moves zs hs)) (smooth-finds L ts vs zs hs (length rs)) q (rows ts vs zs hs (length zs)) rs rs′ r;
 }
 
 pub fill-refused : (z₀ spacing preset : ℕ) (zs hs : List ℕ) (a : Filling) (zs′ hs′ : List ℕ) → FillCall z₀ spacing preset zs hs a zs′ hs′
@@ -261,24 +267,22 @@ exported-record-row-refused xs z h row c row′ k =
     exported-stays (row-coded xs z h row) c _ (record-row-coded xs z h row c (k .ensured .0)) (record-row-exactly xs z h row)
     (row′ ≡ row) (λ e q. k .ensured .1 ∙ stored-stays fields (row-coded xs z h row) row e q)
 
--- the sweep
-module _ (ts vs zs hs rs : List ℕ) where
-  smooth-exactly : RefusedExactly (refusal (smooth full ts vs zs hs rs)) (FirstFault (smooth-conditions ts vs zs hs (length rs)))
+-- the sweep, under any limits
+module _ (L : Limits) (ts vs zs hs rs : List ℕ) where
+  smooth-exactly : RefusedExactly (refusal (smooth L ts vs zs hs rs)) (FirstFault (smooth-conditions L ts vs zs hs (length rs)))
   unfolding smooth
-  smooth-exactly = decided-exactly (passes ts vs fresh (moves zs hs)) (smooth-finds ts vs zs hs (length rs)) refl
+  smooth-exactly = decided-exactly (passes ts vs fresh (moves zs hs)) (smooth-finds L ts vs zs hs (length rs)) refl
 
-  pub smooth-coded : (c : ℕ) → c ≡ answered (λ n. n) (smooth full ts vs zs hs rs) → code-refusal c ≡ refusal (smooth full ts vs zs hs rs)
+  pub smooth-coded : (c : ℕ) → c ≡ answered (λ n. n) (smooth L ts vs zs hs rs) → code-refusal c ≡ refusal (smooth L ts vs zs hs rs)
   smooth-coded c q =
-      exported-refusal (λ n. n) (smooth full ts vs zs hs rs) c _ q
-      (first-numbered (smooth-conditions ts vs zs hs (length rs)) refl) smooth-exactly
+      exported-refusal (λ n. n) (smooth L ts vs zs hs rs) c _ q
+      (first-numbered (smooth-conditions L ts vs zs hs (length rs)) refl) smooth-exactly
 
-pub exported-smooth-refused : (ts vs zs hs rs : List ℕ) (c : ℕ) (rs′ : List ℕ) → ExportedSmooth ts vs zs hs rs c rs′
-    → RefusedAndStays (code-refusal c) (FirstFault (smooth-conditions ts vs zs hs (length rs))) (rs′ ≡ rs)
-unfolding smooth smooth-rows
-exported-smooth-refused ts vs zs hs rs c rs′ k =
-    exported-stays (smooth full ts vs zs hs rs) c _ (smooth-coded ts vs zs hs rs c (k .ensured .0)) (smooth-exactly ts vs zs hs rs) (rs′ ≡ rs)
-    (decided-stays {t = smooth full ts vs zs hs rs} (passes ts vs fresh (moves zs hs)) (smooth-finds ts vs zs hs (length rs)) refl
-    (rows ts vs zs hs (length zs)) rs rs′ (k .ensured .1))
+  pub exported-smooth-refused : (c : ℕ) (rs′ : List ℕ) → c ≡ answered (λ n. n) (smooth L ts vs zs hs rs) → rs′ ≡ smooth-rows L ts vs zs hs rs
+      → RefusedAndStays (code-refusal c) (FirstFault (smooth-conditions L ts vs zs hs (length rs))) (rs′ ≡ rs)
+  exported-smooth-refused c rs′ q r =
+      exported-stays (smooth L ts vs zs hs rs) c _ (smooth-coded c q) smooth-exactly (rs′ ≡ rs)
+      (smooth-refused L ts vs zs hs rs (smooth L ts vs zs hs rs) rs′ refl r .stays)
 
 -- the filler, the reader and the writers
 module _ (z₀ spacing preset : ℕ) (zs hs : List ℕ) where

@@ -3,11 +3,11 @@ use Prim.Native.Nat.{ℕ, _+_, _-_, _*_, _<_}
 use mathlib.Core.Path.{_≡_, sym, ap, _∙_}
 use mathlib.Core.List.{List}
 use mathlib.Core.Option.{Option, none}
-use native.Mathlib.Nat.{le-refl}
 use lib.ListN.{length, getD}
 use Rattle.meanings.specs.declared.Estimate.{Estimate}
 use Rattle.meanings.specs.Lists.{AtMost}
-use Rattle.meanings.specs.Limits.{full, max-u16, row-width}
+use Rattle.meanings.specs.declared.Limits.{Limits}
+use Rattle.meanings.specs.Limits.{full, LimitsWithin, max-u16, row-width}
 use Rattle.meanings.specs.Moves.{moves}
 use Rattle.meanings.specs.Reports.{Fault, Answer, given, accepted-or}
 use Rattle.meanings.specs.Estimate.{estimate, fields, rows}
@@ -30,16 +30,17 @@ use Rattle.demands.proofs.Refusals.{accepted-given, sized-opens}
 use Rattle.demands.proofs.Demand1.{evaluate-coded, smooth-coded}
 use Rattle.demands.proofs.Rows.{five-are-row}
 
--- the rows of an accepted sweep
-swept-rows : (ts vs zs hs rs rs′ : List ℕ) (n : ℕ) → AtMost max-u16 vs → smooth full ts vs zs hs rs ≡ given n → rs′ ≡ smooth-rows full ts vs zs hs rs
+-- the rows of an accepted sweep, under limits at most the full ones
+pub swept-rows : (L : Limits) → LimitsWithin L full → (ts vs zs hs rs rs′ : List ℕ) (n : ℕ) → AtMost max-u16 vs → smooth L ts vs zs hs rs ≡ given n
+    → rs′ ≡ smooth-rows L ts vs zs hs rs
     → (length rs′ ≡ row-width * length zs) × ((k : ℕ) → k < length zs → PublishedRow ts vs (getD zs k 0) (getD hs k 0) (stored-row rs′ k))
 unfolding smooth smooth-rows
-swept-rows ts vs zs hs rs rs′ n v q e =
-    let a = given-accepted (smooth-refusal full ts vs zs hs rs) (passes ts vs fresh (moves zs hs)) n q .0 in (
+swept-rows L w ts vs zs hs rs rs′ n v q e =
+    let a = given-accepted (smooth-refusal L ts vs zs hs rs) (passes ts vs fresh (moves zs hs)) n q .0 in (
       ap length (e ∙ ap (λ (f : Option Fault). accepted-or f (rows ts vs zs hs (length zs)) rs) a) ∙ rows-length ts vs zs hs (length zs),
       λ k l.
-          let r = smooth-row-is-evaluate full ts vs zs hs rs n k q l full (le-refl _) in
-          rw (e, five-are-row (smooth-rows full ts vs zs hs rs) k (estimate ts vs (getD zs k 0) (getD hs k 0)) (r .1))
+          let r = smooth-row-is-evaluate L ts vs zs hs rs n k q l full (w .samples) in
+          rw (e, five-are-row (smooth-rows L ts vs zs hs rs) k (estimate ts vs (getD zs k 0) (getD hs k 0)) (r .1))
           (accepted-row-is-published full (same-limits full) ts vs (getD zs k 0) (getD hs k 0) _ v (r .0)),
     )
 
@@ -75,7 +76,7 @@ demand-2 = record {
         w .ensured .1 .0,
         w .ensured .1 .1 ∙ ap (λ (n : ℕ). at .ptr .1 + n * 2) (a .1 ∙ ap start-of q),
       );
-  smooth-rows = λ ts vs zs hs rs n rs′ v c. swept-rows ts vs zs hs rs rs′ n v (sym (c .ensured .0)) (c .ensured .1);
+  smooth-rows = λ ts vs zs hs rs n rs′ v c. swept-rows full (same-limits full) ts vs zs hs rs rs′ n v (sym (c .ensured .0)) (c .ensured .1);
   exported-row = λ ts vs z h row c row′ v k q.
       let e = k .ensured .1 ∙ row-stored 5 ts vs z h row c (k .ensured .0) q fields in
       (code-is-zero 5 ts vs z h row c (k .ensured .0) q, ap length e, rw e (row-published 5 ts vs z h row c (k .ensured .0) q v));
@@ -86,6 +87,6 @@ demand-2 = record {
         ∙ ap bounds (one-published-row ts vs z h _ e (row-published 2 ts vs z h bs c (k .ensured .0) q v) p),
   );
   exported-rows = λ ts vs zs hs rs c rs′ v k q.
-      let g = accepted-given (smooth full ts vs zs hs rs) (sym (smooth-coded ts vs zs hs rs c (k .ensured .0)) ∙ q) in
-      swept-rows ts vs zs hs rs rs′ (g .0) v (g .1) (k .ensured .1);
+      let g = accepted-given (smooth full ts vs zs hs rs) (sym (smooth-coded full ts vs zs hs rs c (k .ensured .0)) ∙ q) in
+      swept-rows full (same-limits full) ts vs zs hs rs rs′ (g .0) v (g .1) (k .ensured .1);
 }

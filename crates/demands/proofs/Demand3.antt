@@ -156,10 +156,10 @@ demand-3-of-calls = record {
   smooth-steps = λ ts vs zs hs rs n rs′ k t v c l. row-of-steps ts vs zs hs rs rs′ n t v (sym (c .ensured .0)) (c .ensured .1) k l;
   smooth-passes = λ ts vs zs hs rs n rs′ t v c. smooth-passes full (same-limits full) ts vs zs hs t v rs n (sym (c .ensured .0));
   exported-smooth-steps = λ ts vs zs hs rs c rs′ k t v x q l.
-      let g = accepted-given (smooth full ts vs zs hs rs) (sym (smooth-coded ts vs zs hs rs c (x .ensured .0)) ∙ q) in
+      let g = accepted-given (smooth full ts vs zs hs rs) (sym (smooth-coded full ts vs zs hs rs c (x .ensured .0)) ∙ q) in
       row-of-steps ts vs zs hs rs rs′ (g .0) t v (g .1) (x .ensured .1) k l;
   exported-smooth-passes = λ ts vs zs hs rs c rs′ t v x q.
-      let g = accepted-given (smooth full ts vs zs hs rs) (sym (smooth-coded ts vs zs hs rs c (x .ensured .0)) ∙ q) in
+      let g = accepted-given (smooth full ts vs zs hs rs) (sym (smooth-coded full ts vs zs hs rs c (x .ensured .0)) ∙ q) in
       let p = smooth-passes full (same-limits full) ts vs zs hs t v rs (g .0) (g .1) in
       let e : c ≡ detail-unit * g .0 = x .ensured .0 ∙ ap (answered (λ n. n)) (g .1) in
       (omega arith, omega arith);

@@ -1,4 +1,6 @@
 -- The three demands, from the contracts of the calls and the laws of the meanings: each field is proved in the file of its demand.
+use Rattle.meanings.specs.Limits.{full}
+use Rattle.meanings.specs.Calls.{smoothing-answer}
 use Rattle.meanings.proofs.Cases.{document-cases-hold}
 use Rattle.demands.specs.Demands.{Demands}
 use Rattle.demands.proofs.Demand1.{every-input, evaluate-refused, window-refused, advance-refused, smooth-refused, fill-refused, read-refused}
@@ -9,6 +11,7 @@ use Rattle.demands.proofs.Demand2.{demand-2}
 use Rattle.demands.proofs.Demand3.{demand-3-of-calls}
 use Rattle.demands.proofs.LineEndings.{line-endings}
 use Rattle.demands.proofs.OtherCalls.{other-calls}
+use Rattle.demands.proofs.Preview.{preview-holds}
 use Rattle.demands.proofs.Program.{program-holds}
 
 pub demands : Demands
@@ -19,7 +22,7 @@ demands = record {
     evaluate-refused = evaluate-refused;
     window-refused = window-refused;
     advance-refused = advance-refused;
-    smooth-refused = smooth-refused;
+    smooth-refused = λ ts vs zs hs rs a rs′ c. smooth-refused full ts vs zs hs rs (smoothing-answer a) rs′ (c .ensured .0) (c .ensured .1);
     fill-refused = fill-refused;
     read-refused = read-refused;
     text-refused = text-refused;
@@ -28,7 +31,7 @@ demands = record {
     exported-window-refused = exported-window-refused;
     exported-advance-refused = exported-advance-refused;
     exported-record-row-refused = exported-record-row-refused;
-    exported-smooth-refused = exported-smooth-refused;
+    exported-smooth-refused = λ ts vs zs hs rs c rs′ k. exported-smooth-refused full ts vs zs hs rs c rs′ (k .ensured .0) (k .ensured .1);
     exported-fill-refused = exported-fill-refused;
     exported-read-refused = exported-read-refused;
     exported-text-refused = exported-text-refused;
@@ -38,5 +41,6 @@ demands = record {
   demand-3 = demand-3-of-calls;
   other-calls = other-calls;
   line-endings = line-endings;
+  preview-holds = preview-holds;
   worked-cases = document-cases-hold;
 }

@@ -6,6 +6,7 @@ pub mod Demands
 pub mod FirstFaults
 pub mod LineEndings
 pub mod OtherCalls
+pub mod Preview
 pub mod Program
 pub mod RecordRows
 pub mod Refusals

@@ -20,6 +20,7 @@ use Rattle.estimator.proofs.window.Reads as window
 use Rattle.estimator.proofs.advance.Reads as advance
 use Rattle.estimator.proofs.record_row.Reads as record-row
 use Rattle.estimator.proofs.smooth.Reads as smooth
+use Rattle.estimator.proofs.preview.Reads as preview
 use Rattle.grid.proofs.fill_grid.Reads as fill-grid
 use Rattle.sheet.proofs.read_sheet.Reads as read-sheet
 use Rattle.text.proofs.curve_text.Reads as curve-text
@@ -29,6 +30,7 @@ use Rattle.abi_point.proofs.tankcurve_window.Reads as exported-window
 use Rattle.abi_record.proofs.tankcurve_advance.Reads as exported-advance
 use Rattle.abi_record.proofs.tankcurve_row.Reads as exported-record-row
 use Rattle.abi_sweep.proofs.tankcurve_smooth.Reads as exported-smooth
+use Rattle.abi_sweep.proofs.tankcurve_preview.Reads as exported-preview
 use Rattle.abi_sweep.proofs.tankcurve_fill.Reads as exported-fill
 use Rattle.abi_sheet.proofs.tankcurve_read.Reads as exported-read
 use Rattle.abi_text.proofs.tankcurve_text.Reads as exported-text
@@ -44,6 +46,8 @@ use Rattle.estimator.proofs.record_row.Kinds as record-row-kinds
 use Rattle.estimator.proofs.record_row.Statement as record-row-code
 use Rattle.estimator.proofs.smooth.Kinds as smooth-kinds
 use Rattle.estimator.proofs.smooth.Statement as smooth-code
+use Rattle.estimator.proofs.preview.Kinds as preview-kinds
+use Rattle.estimator.proofs.preview.Statement as preview-code
 use Rattle.grid.proofs.fill_grid.Kinds as fill-grid-kinds
 use Rattle.grid.proofs.fill_grid.Statement as fill-grid-code
 use Rattle.sheet.proofs.read_sheet.Kinds as read-sheet-kinds
@@ -62,6 +66,8 @@ use Rattle.abi_record.proofs.tankcurve_row.Kinds as exported-record-row-kinds
 use Rattle.abi_record.proofs.tankcurve_row.Statement as exported-record-row-code
 use Rattle.abi_sweep.proofs.tankcurve_smooth.Kinds as exported-smooth-kinds
 use Rattle.abi_sweep.proofs.tankcurve_smooth.Statement as exported-smooth-code
+use Rattle.abi_sweep.proofs.tankcurve_preview.Kinds as exported-preview-kinds
+use Rattle.abi_sweep.proofs.tankcurve_preview.Statement as exported-preview-code
 use Rattle.abi_sweep.proofs.tankcurve_fill.Kinds as exported-fill-kinds
 use Rattle.abi_sweep.proofs.tankcurve_fill.Statement as exported-fill-code
 use Rattle.abi_sheet.proofs.tankcurve_read.Kinds as exported-read-kinds
@@ -117,6 +123,17 @@ pub record SmoothCall (ts vs zs hs rs : List ℕ) (a : Smoothing) (rs′ : List 
   pub rows-at : Place
   pub ensured :
       smooth.Post lifetimes (lent minutes-at ts, (lent values-at vs, (lent points-at zs, (lent bandwidths-at hs, (lent rows-at rs, tt))))) a
+      (lent minutes-at ts, (lent values-at vs, (lent points-at zs, (lent bandwidths-at hs, (lent rows-at rs′, tt)))))
+
+pub record PreviewCall (ts vs zs hs rs : List ℕ) (a : Smoothing) (rs′ : List ℕ) : Type 0 where
+  pub lifetimes : Lfts 5
+  pub minutes-at : Place
+  pub values-at : Place
+  pub points-at : Place
+  pub bandwidths-at : Place
+  pub rows-at : Place
+  pub ensured :
+      preview.Post lifetimes (lent minutes-at ts, (lent values-at vs, (lent points-at zs, (lent bandwidths-at hs, (lent rows-at rs, tt))))) a
       (lent minutes-at ts, (lent values-at vs, (lent points-at zs, (lent bandwidths-at hs, (lent rows-at rs′, tt)))))
 
 pub record FillCall (z₀ spacing preset : ℕ) (zs hs : List ℕ) (a : Filling) (zs′ hs′ : List ℕ) : Type 0 where
@@ -199,6 +216,18 @@ pub record ExportedSmooth (ts vs zs hs rs : List ℕ) (c : ℕ) (rs′ : List �
       (lent minutes-at ts, (lent values-at vs, (lent points-at zs, (lent bandwidths-at hs, (lent rows-at rs, tt))))) c
       (lent minutes-at ts, (lent values-at vs, (lent points-at zs, (lent bandwidths-at hs, (lent rows-at rs′, tt)))))
 
+pub record ExportedPreview (ts vs zs hs rs : List ℕ) (c : ℕ) (rs′ : List ℕ) : Type 0 where
+  pub lifetimes : Lfts 5
+  pub minutes-at : Place
+  pub values-at : Place
+  pub points-at : Place
+  pub bandwidths-at : Place
+  pub rows-at : Place
+  pub ensured :
+      exported-preview.Post lifetimes
+      (lent minutes-at ts, (lent values-at vs, (lent points-at zs, (lent bandwidths-at hs, (lent rows-at rs, tt))))) c
+      (lent minutes-at ts, (lent values-at vs, (lent points-at zs, (lent bandwidths-at hs, (lent rows-at rs′, tt)))))
+
 pub record ExportedFill (z₀ spacing preset : ℕ) (zs hs : List ℕ) (c : ℕ) (zs′ hs′ : List ℕ) : Type 0 where
   pub lifetimes : Lfts 2
   pub points-at : Place
@@ -254,6 +283,8 @@ pub record EveryInputTaken : Type 2 where
   pub record-row-asks-nothing : (κs : Lfts 0) (a : Dens κs record-row-kinds.ps) → record-row.Asked κs a
   pub smooth-ends : {M : Type 1} → smooth-code.statement M
   pub smooth-asks-nothing : (κs : Lfts 5) (a : Dens κs smooth-kinds.ps) → smooth.Asked κs a
+  pub preview-ends : {M : Type 1} → preview-code.statement M
+  pub preview-asks-nothing : (κs : Lfts 5) (a : Dens κs preview-kinds.ps) → preview.Asked κs a
   pub fill-ends : {M : Type 1} → fill-grid-code.statement M
   pub fill-asks-nothing : (κs : Lfts 2) (a : Dens κs fill-grid-kinds.ps) → fill-grid.Asked κs a
   pub read-ends : {M : Type 1} → read-sheet-code.statement M
@@ -272,6 +303,8 @@ pub record EveryInputTaken : Type 2 where
   pub exported-record-row-asks-nothing : (κs : Lfts 2) (a : Dens κs exported-record-row-kinds.ps) → exported-record-row.Asked κs a
   pub exported-smooth-ends : {M : Type 1} → exported-smooth-code.statement M
   pub exported-smooth-asks-nothing : (κs : Lfts 5) (a : Dens κs exported-smooth-kinds.ps) → exported-smooth.Asked κs a
+  pub exported-preview-ends : {M : Type 1} → exported-preview-code.statement M
+  pub exported-preview-asks-nothing : (κs : Lfts 5) (a : Dens κs exported-preview-kinds.ps) → exported-preview.Asked κs a
   pub exported-fill-ends : {M : Type 1} → exported-fill-code.statement M
   pub exported-fill-asks-nothing : (κs : Lfts 2) (a : Dens κs exported-fill-kinds.ps) → exported-fill.Asked κs a
   pub exported-read-ends : {M : Type 1} → exported-read-code.statement M

@@ -111,9 +111,9 @@ advance-conditions ts vs left right h = size-conditions full ts vs (record-condi
 abbrev pub curve-conditions : Limits → List ℕ → List ℕ → List ℕ → List ℕ → Type 0 → Conditions
 curve-conditions L ts vs zs hs Fits = curve-size-conditions L ts vs zs hs Fits (order-conditions ts zs (windows-conditions zs hs no-more))
 
--- the sweep with rows of this length: the same, with one row a mark
-abbrev pub smooth-conditions : List ℕ → List ℕ → List ℕ → List ℕ → ℕ → Conditions
-smooth-conditions ts vs zs hs rows = curve-conditions full ts vs zs hs (rows ≡ row-width * length zs)
+-- the sweep with rows of this length, under the full limits or the preview's: the same, with one row a mark
+abbrev pub smooth-conditions : Limits → List ℕ → List ℕ → List ℕ → List ℕ → ℕ → Conditions
+smooth-conditions L ts vs zs hs rows = curve-conditions L ts vs zs hs (rows ≡ row-width * length zs)
 
 -- the mark filler: 8, 7, 6, 12, 13
 abbrev pub fill-conditions : ℕ → ℕ → ℕ → List ℕ → List ℕ → Conditions

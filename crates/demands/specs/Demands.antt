@@ -7,7 +7,7 @@
 -- `AtMost max-u16` says that a list's numbers have 16 bits, as the type of the lent list has it; it stands where a bound is needed.
 use Prim.Native.Nat.{ℕ, suc, _+_, _-_, _*_, _%_, _^_, _≤_, _<_}
 use mathlib.Core.Path.{_≡_}
-use mathlib.Core.Logic.{_⊎_}
+use mathlib.Core.Logic.{_↔_, _⊎_}
 use mathlib.Core.List.{List, [], _∷_, _++_}
 use mathlib.Core.Option.{Option, none, some}
 use denote.Ref.{RefT}
@@ -27,7 +27,7 @@ use Rattle.meanings.specs.declared.Parsing.the-variants.{Used}
 use Rattle.meanings.specs.declared.Writing.{Writing}
 use Rattle.meanings.specs.declared.Writing.the-variants.{Written}
 use Rattle.meanings.specs.Lists.{AtMost, Ordered}
-use Rattle.meanings.specs.Limits.{full, max-u16, row-width, max-sheet, max-output}
+use Rattle.meanings.specs.Limits.{full, preview, max-u16, row-width, max-sheet, max-output}
 use Rattle.meanings.specs.Moves.{Move, moves}
 use Rattle.meanings.specs.Reports.{Fault, given}
 use Rattle.meanings.specs.Estimate.{left-of, right-of, missing, estimate}
@@ -42,13 +42,14 @@ use Rattle.meanings.specs.Output.{curve-text, refusal-text, program}
 use Rattle.meanings.specs.Cases.{AllHold}
 use Rattle.meanings.specs.Document.{document-cases}
 use Rattle.meanings.specs.Calls.{evaluation-answer, advance-answer, smoothing-answer, filling-answer, parsing-answer, writing-answer}
+use Rattle.laws_rows.specs.TwoLimits.{Fits, Over}
 use Rattle.text.specs.Table.{stored-row}
 use Rattle.meanings.specs.Codes.{detail-unit}
 use Rattle.abi_answers.specs.Answers.{record-of}
 use Rattle.abi_version.specs.Version.{version}
-use Rattle.demands.specs.Calls.{Place, EveryInputTaken, EvaluateCall, WindowCall, AdvanceCall, RecordRowCall, SmoothCall}
+use Rattle.demands.specs.Calls.{Place, EveryInputTaken, EvaluateCall, WindowCall, AdvanceCall, RecordRowCall, SmoothCall, PreviewCall}
 use Rattle.demands.specs.Calls.{FillCall, ReadCall, TextCall, RefusalTextCall, ExportedEvaluate, ExportedWindow}
-use Rattle.demands.specs.Calls.{ExportedAdvance, ExportedRecordRow, ExportedSmooth, ExportedFill, ExportedRead, ExportedText}
+use Rattle.demands.specs.Calls.{ExportedAdvance, ExportedRecordRow, ExportedSmooth, ExportedPreview, ExportedFill, ExportedRead, ExportedText}
 use Rattle.demands.specs.Calls.{ExportedRefusalText, ExportedVersion}
 use Rattle.demands.specs.Conditions.{RefusedExactly, NoFault, FirstFault, FirstOrElse, evaluate-conditions, advance-conditions}
 use Rattle.demands.specs.Conditions.{smooth-conditions, fill-conditions, read-conditions, buffer-conditions, length-first}
@@ -134,7 +135,7 @@ pub record Demand1 : Type 2 where
       → RefusedExactly (refusal (advance-answer a)) (FirstFault (advance-conditions ts vs (r .left) (r .right) h))
   -- the whole sweep
   pub smooth-refused : (ts vs zs hs rs : List ℕ) (a : Smoothing) (rs′ : List ℕ) → SmoothCall ts vs zs hs rs a rs′
-      → RefusedAndStays (refusal (smoothing-answer a)) (FirstFault (smooth-conditions ts vs zs hs (length rs))) (rs′ ≡ rs)
+      → RefusedAndStays (refusal (smoothing-answer a)) (FirstFault (smooth-conditions full ts vs zs hs (length rs))) (rs′ ≡ rs)
   -- the mark filler
   pub fill-refused : (z₀ spacing preset : ℕ) (zs hs : List ℕ) (a : Filling) (zs′ hs′ : List ℕ) → FillCall z₀ spacing preset zs hs a zs′ hs′
       → RefusedAndStays (refusal (filling-answer a)) (FirstFault (fill-conditions z₀ spacing preset zs hs)) ((zs′ ≡ zs) × (hs′ ≡ hs))
@@ -161,7 +162,7 @@ pub record Demand1 : Type 2 where
   pub exported-record-row-refused : (xs : List ℕ) (z h : ℕ) (row : List ℕ) (c : ℕ) (row′ : List ℕ) → ExportedRecordRow xs z h row c row′
       → RefusedAndStays (code-refusal c) (FirstFault (record-row-conditions xs row)) (row′ ≡ row)
   pub exported-smooth-refused : (ts vs zs hs rs : List ℕ) (c : ℕ) (rs′ : List ℕ) → ExportedSmooth ts vs zs hs rs c rs′
-      → RefusedAndStays (code-refusal c) (FirstFault (smooth-conditions ts vs zs hs (length rs))) (rs′ ≡ rs)
+      → RefusedAndStays (code-refusal c) (FirstFault (smooth-conditions full ts vs zs hs (length rs))) (rs′ ≡ rs)
   pub exported-fill-refused : (z₀ spacing preset : ℕ) (zs hs : List ℕ) (c : ℕ) (zs′ hs′ : List ℕ)
       → ExportedFill z₀ spacing preset zs hs c zs′ hs′
       → RefusedAndStays (code-refusal c) (FirstFault (fill-conditions z₀ spacing preset zs hs)) ((zs′ ≡ zs) × (hs′ ≡ hs))
@@ -354,6 +355,51 @@ pub record OtherCalls : Type 0 where
   pub exported-version-is : (v : ℕ) → ExportedVersion v → v ≡ version
 
 -- ---------------------------------------------------------------------------------------------------------------------------------------
+-- The preview: the sweep under limits of its own
+
+pub record Preview : Type 0 where
+  -- refused by its own limits, otherwise as the sweep, and then the rows stay
+  pub preview-refused : (ts vs zs hs rs : List ℕ) (a : Smoothing) (rs′ : List ℕ) → PreviewCall ts vs zs hs rs a rs′
+      → RefusedAndStays (refusal (smoothing-answer a)) (FirstFault (smooth-conditions preview ts vs zs hs (length rs))) (rs′ ≡ rs)
+  -- each five numbers of an accepted preview's rows are the published row
+  pub preview-rows : (ts vs zs hs rs : List ℕ) (n : ℕ) (rs′ : List ℕ) → AtMost max-u16 vs → PreviewCall ts vs zs hs rs (Passes n) rs′
+      → (length rs′ ≡ row-width * length zs)
+      × ((k : ℕ) → k < length zs → PublishedRow ts vs (getD zs k 0) (getD hs k 0) (stored-row rs′ k))
+  -- and what the question at that mark answers
+  pub row-of-question : (ts vs zs hs rs : List ℕ) (n : ℕ) (rs′ : List ℕ) (k : ℕ) (a : Evaluation) → PreviewCall ts vs zs hs rs (Passes n) rs′
+      → k < length zs → EvaluateCall ts vs (getD zs k 0) (getD hs k 0) a → evaluation-answer a ≡ given (stored-row rs′ k)
+  -- its passes are the insertions plus evictions of an event log of its lists, at most two for each reading
+  pub preview-passes : (ts vs zs hs rs : List ℕ) (n : ℕ) (rs′ : List ℕ) → AtMost max-u16 ts → AtMost max-u16 vs
+      → PreviewCall ts vs zs hs rs (Passes n) rs′ → (n ≡ log-passes ts vs (moves zs hs)) × (n ≤ 2 * length ts)
+  -- a preview and a sweep of the same lists: the preview accepts exactly what the sweep accepts and its own limits allow
+  pub accepted-by-both : (ts vs zs hs rs : List ℕ) (a b : Smoothing) (rs₁ rs₂ : List ℕ) (n : ℕ) → PreviewCall ts vs zs hs rs a rs₁
+      → SmoothCall ts vs zs hs rs b rs₂ → (smoothing-answer a ≡ given n) ↔ ((smoothing-answer b ≡ given n) × Fits preview ts zs)
+  -- within its limits both give the same, refusals and places included, and leave the same rows
+  pub within : (ts vs zs hs rs : List ℕ) (a b : Smoothing) (rs₁ rs₂ : List ℕ) → Fits preview ts zs → PreviewCall ts vs zs hs rs a rs₁
+      → SmoothCall ts vs zs hs rs b rs₂ → (smoothing-answer a ≡ smoothing-answer b) × (rs₁ ≡ rs₂)
+  -- over them the preview gives 8 where the sweep does, and otherwise 6 at place 0
+  pub over-uneven : (ts vs zs hs rs : List ℕ) (a b : Smoothing) (rs₁ rs₂ : List ℕ) (p : ℕ) → Over preview ts zs → PreviewCall ts vs zs hs rs a rs₁
+      → SmoothCall ts vs zs hs rs b rs₂ → refusal (smoothing-answer b) ≡ some (record { number = 8; place = p })
+      → refusal (smoothing-answer a) ≡ some (record { number = 8; place = 0 })
+  pub over-too-many : (ts vs zs hs rs : List ℕ) (a b : Smoothing) (rs₁ rs₂ : List ℕ) → Over preview ts zs → PreviewCall ts vs zs hs rs a rs₁
+      → SmoothCall ts vs zs hs rs b rs₂ → ((p : ℕ) → ¬ (refusal (smoothing-answer b) ≡ some (record { number = 8; place = p })))
+      → refusal (smoothing-answer a) ≡ some (record { number = 6; place = 0 })
+  -- the same of the calls for C and Rust
+  pub exported-preview-refused : (ts vs zs hs rs : List ℕ) (c : ℕ) (rs′ : List ℕ) → ExportedPreview ts vs zs hs rs c rs′
+      → RefusedAndStays (code-refusal c) (FirstFault (smooth-conditions preview ts vs zs hs (length rs))) (rs′ ≡ rs)
+  pub exported-preview-rows : (ts vs zs hs rs : List ℕ) (c : ℕ) (rs′ : List ℕ) → AtMost max-u16 vs → ExportedPreview ts vs zs hs rs c rs′
+      → code-refusal c ≡ none
+      → (length rs′ ≡ row-width * length zs)
+      × ((k : ℕ) → k < length zs → PublishedRow ts vs (getD zs k 0) (getD hs k 0) (stored-row rs′ k))
+  pub exported-preview-passes : (ts vs zs hs rs : List ℕ) (c : ℕ) (rs′ : List ℕ) → AtMost max-u16 ts → AtMost max-u16 vs
+      → ExportedPreview ts vs zs hs rs c rs′ → code-refusal c ≡ none
+      → (c ≡ detail-unit * log-passes ts vs (moves zs hs)) × (c ≤ detail-unit * (2 * length ts))
+  pub exported-within : (ts vs zs hs rs : List ℕ) (c d : ℕ) (rs₁ rs₂ : List ℕ) → Fits preview ts zs → ExportedPreview ts vs zs hs rs c rs₁
+      → ExportedSmooth ts vs zs hs rs d rs₂ → (c ≡ d) × (rs₁ ≡ rs₂)
+  pub exported-over : (ts vs zs hs rs : List ℕ) (c d : ℕ) (rs₁ rs₂ : List ℕ) → Over preview ts zs → ExportedPreview ts vs zs hs rs c rs₁
+      → ExportedSmooth ts vs zs hs rs d rs₂ → ((d ≡ 8) → c ≡ 8) × (¬ (d ≡ 8) → c ≡ 6)
+
+-- ---------------------------------------------------------------------------------------------------------------------------------------
 -- All of it, what holds of line endings (LineEndings.antt), and the worked cases of SPECIFICATION 7.6, 7.9 and 7.10
 pub record Demands : Type 2 where
   pub demand-1 : Demand1
@@ -361,4 +407,5 @@ pub record Demands : Type 2 where
   pub demand-3 : Demand3
   pub other-calls : OtherCalls
   pub line-endings : LineEndings
+  pub preview-holds : Preview
   pub worked-cases : AllHold document-cases

@@ -11,14 +11,14 @@ use Rattle.meanings.specs.declared.Refusal.{Refusal}
 use Rattle.meanings.specs.declared.RunningSums.{RunningSums}
 use Rattle.meanings.specs.declared.Verdict.{Verdict}
 use Rattle.meanings.specs.declared.Verdict.the-variants.{Fit, Faulty}
-use Rattle.meanings.specs.Limits.{full, LimitsWithin}
+use Rattle.meanings.specs.Limits.{full, preview, LimitsWithin}
 use Rattle.meanings.specs.Lists.{Ordered}
 use Rattle.meanings.specs.Reports.{Check, Answer, given, refused, fault-of, verdict-fault, first-of, evaluate-checks, advance-checks, smooth-checks}
 use Rattle.meanings.specs.Estimate.{estimate, rows}
 use Rattle.meanings.specs.Moves.{moves}
 use Rattle.meanings.specs.Running.{fresh, moved, advance, passes}
 use Rattle.meanings.specs.Calls.{evaluate, window, window-start, smooth, smooth-rows}
-use Rattle.meanings.proofs.Checks.{same-limits, EvaluateAccepted, AdvanceAccepted, evaluate-accepts, advance-accepts}
+use Rattle.meanings.proofs.Checks.{same-limits, preview-within-full, EvaluateAccepted, AdvanceAccepted, evaluate-accepts, advance-accepts}
 use Rattle.meanings.proofs.SmoothSteps.{SmoothAccepted, smooth-accepts}
 use Rattle.meanings.proofs.Window.{left-at-most-right, right-at-most-length}
 use Rattle.estimator.specs.declared.point.Span.{Span}
@@ -117,14 +117,21 @@ module _ (L : Limits) (ts vs zs hs R : List ℕ) {v : Verdict} (f : verdict-faul
   unfolding smooth-rows
   rows-given q e = rw (of-smooth q) e
 
--- and under the full ones
-module _ {L : Limits} (l : L ≡ full) where
-  pub full-is-within : LimitsWithin L full
-  full-is-within = rw l (same-limits full)
+-- and under limits M that the code names
+module _ {L M : Limits} (l : L ≡ M) where
+  pub named-within : LimitsWithin M full → LimitsWithin L full
+  named-within w = rw l w
 
   module _ (ts vs zs hs R : List ℕ) where
-    pub smooth-at-full : {a : Answer ℕ} → a ≡ smooth L ts vs zs hs R → a ≡ smooth full ts vs zs hs R
-    smooth-at-full e = e ∙ ap (λ (M : Limits). smooth M ts vs zs hs R) l
+    pub smooth-at : {a : Answer ℕ} → a ≡ smooth L ts vs zs hs R → a ≡ smooth M ts vs zs hs R
+    smooth-at e = e ∙ ap (λ (K : Limits). smooth K ts vs zs hs R) l
 
-    pub rows-at-full : {R′ : List ℕ} → R′ ≡ smooth-rows L ts vs zs hs R → R′ ≡ smooth-rows full ts vs zs hs R
-    rows-at-full e = e ∙ ap (λ (M : Limits). smooth-rows M ts vs zs hs R) l
+    pub rows-at : {R′ : List ℕ} → R′ ≡ smooth-rows L ts vs zs hs R → R′ ≡ smooth-rows M ts vs zs hs R
+    rows-at e = e ∙ ap (λ (K : Limits). smooth-rows K ts vs zs hs R) l
+
+-- the full limits and the preview's allow no more than the full ones
+pub full-within : {L : Limits} → L ≡ full → LimitsWithin L full
+full-within l = named-within l (same-limits full)
+
+pub preview-within : {L : Limits} → L ≡ preview → LimitsWithin L full
+preview-within l = named-within l preview-within-full

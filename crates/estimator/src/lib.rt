@@ -1,4 +1,4 @@
-// The Epanechnikov estimator over readings: the question at one mark, the single step, the row of a record and the whole sweep.
+// The Epanechnikov estimator over readings: the question at one mark, the single step, the row of a record, the whole sweep and its preview.
 mod edges;
 mod point;
 mod row;
@@ -9,6 +9,7 @@ mod sums;
 use arithmetic::value;
 use arithmetic::wrapping_combined;
 use checks::full;
+use checks::preview_limits;
 use checks_point::advance_fault;
 use checks_point::evaluate_fault;
 use meanings::Advance;
@@ -20,7 +21,7 @@ use meanings::Verdict;
 ghost use mathlib.Core.Path.{_≡_};
 ghost use Prim.Native.Nat.{_+_, _*_};
 ghost use denote.Ref.{ptr};
-ghost use Rattle.meanings.specs.Limits.{full as full-limits};
+ghost use Rattle.meanings.specs.Limits.{full as full-limits, preview as small-limits};
 ghost use Rattle.meanings.specs.Running.{advance as advance-meaning, record-row};
 ghost use Rattle.meanings.specs.Calls.{evaluation-answer, advance-answer, smoothing-answer, evaluate as evaluate-meaning, window as window-meaning, window-start, smooth as smooth-meaning, smooth-rows};
 ghost use Rattle.estimator.specs.Rows.{Judged};
@@ -109,4 +110,19 @@ pub fn smooth(
     ensures { λ _. ⌜ now (rows .exit) ≡ smooth-rows full-limits (now (minutes .entry)) (now (values .entry)) (now (points .entry)) (now (bandwidths .entry)) (now (rows .entry)) ⌝ }
 {
     smoothing::smooth_under(minutes, values, points, bandwidths, rows, full())
+}
+
+// The preview on the panel: the same sweep under the preview's limits.
+pub fn preview(
+    minutes: &[u16],
+    values: &[u16],
+    points: &[u16],
+    bandwidths: &[u32],
+    rows: &mut [u64],
+) -> Smoothing
+    ensures { λ r. ⌜ smoothing-answer r ≡ smooth-meaning small-limits (now (minutes .entry)) (now (values .entry)) (now (points .entry)) (now (bandwidths .entry)) (now (rows .entry)) ⌝ }
+    ensures { λ _. ⌜ now (rows .exit) ≡ smooth-rows small-limits (now (minutes .entry)) (now (values .entry)) (now (points .entry)) (now (bandwidths .entry)) (now (rows .entry)) ⌝ }
+{
+    let limits = preview_limits();
+    smoothing::smooth_under(minutes, values, points, bandwidths, rows, limits)
 }

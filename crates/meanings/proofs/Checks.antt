@@ -15,7 +15,7 @@ use Rattle.meanings.specs.declared.Refusal.{Refusal}
 use Rattle.meanings.specs.declared.Verdict.{Verdict}
 use Rattle.meanings.specs.declared.Verdict.the-variants.{Faulty}
 use Rattle.meanings.specs.Lists.{lowest, Ordered}
-use Rattle.meanings.specs.Limits.{full, LimitsWithin, max-bandwidth}
+use Rattle.meanings.specs.Limits.{full, preview, LimitsWithin, max-bandwidth}
 use Rattle.meanings.specs.Reports.{Fault, fault-of, verdict-fault, given, unless}
 use Rattle.meanings.specs.Reports.{Check, at, fault-or, first-of, differ, decreases, bad-bandwidth}
 use Rattle.meanings.specs.Reports.{edge-below, edge-decreases, uneven-samples, uneven-points, size-checks, sample-order-checks, series-checks}
@@ -133,6 +133,10 @@ no-decrease-ordered xs e =
 -- limits allow no more than themselves
 pub same-limits : (L : Limits) → LimitsWithin L L
 same-limits L = record { samples = le-refl _; points = le-refl _ }
+
+-- the preview allows no more than the full sweep
+pub preview-within-full : LimitsWithin preview full
+preview-within-full = record { samples = omega arith; points = omega arith }
 
 -- readings that pass 8 and 6
 pub record SizeAccepted (L : Limits) (ts vs : List ℕ) : Type 0 where

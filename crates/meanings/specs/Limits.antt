@@ -14,6 +14,10 @@ max-bandwidth = 65536
 abbrev pub full : Limits
 full = record { samples = 1024; points = 512 }
 
+-- SPECIFICATION, "The preview": how many there may be of a small curve
+abbrev pub preview : Limits
+preview = record { samples = 256; points = 64 }
+
 -- limits that allow no more than others do
 pub record LimitsWithin (L M : Limits) : Type 0 where
   pub samples : L .samples ≤ M .samples

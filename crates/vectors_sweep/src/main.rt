@@ -1,6 +1,7 @@
-// The sweep and the mark filler on the vectors of stdin: each answer, with every lent list whole. What is written is held to the file stdout.
+// The sweep, the preview and the mark filler on the vectors of stdin: each answer, with every lent list whole. What is written is held to the file stdout.
 // Both files are made by the second implementation: bin gate_vectors of reference/, which says their form.
 use abi_sweep::tankcurve_fill;
+use abi_sweep::tankcurve_preview;
 use abi_sweep::tankcurve_smooth;
 use vectors_io::MOST_BYTES;
 use vectors_io::MOST_CASES;
@@ -21,18 +22,25 @@ use vectors_io::show_u16;
 use vectors_io::show_u32;
 use vectors_io::show_u64;
 
+// The sweep, or with `small` the preview.
 fn smooth_with(
+    small: bool,
     minutes: &[u16],
     values: &[u16],
     points: &[u16],
     bandwidths: &[u32],
     rows: &mut [u64],
 ) {
+    if small {
+        show_answer(tankcurve_preview(minutes, values, points, bandwidths, rows));
+        show_u64(rows);
+        return;
+    }
     show_answer(tankcurve_smooth(minutes, values, points, bandwidths, rows));
     show_u64(rows);
 }
 
-fn smooth_case(input: &[u8], from: usize) {
+fn smooth_case(input: &[u8], from: usize, small: bool) {
     let mut minutes = [0u16; MOST_ELEMENTS];
     let mut values = [0u16; MOST_ELEMENTS];
     let mut points = [0u16; MOST_ELEMENTS];
@@ -49,6 +57,7 @@ fn smooth_case(input: &[u8], from: usize) {
     let hc = h.count;
     let n = lent.count;
     smooth_with(
+        small,
         &minutes[..mc],
         &values[..vc],
         &points[..zc],
@@ -88,8 +97,9 @@ fn case(input: &[u8]) {
     let from = call.next;
     let which = call.value;
     match which {
-        1 => smooth_case(input, from),
+        1 => smooth_case(input, from, false),
         2 => fill_case(input, from),
+        3 => smooth_case(input, from, true),
         _ => (),
     }
 }

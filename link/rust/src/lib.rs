@@ -36,9 +36,9 @@ pub use row::{Estimate, NoEstimate, RecordRow, Rows};
 /// of the linked archive.
 ///
 /// ```
-/// assert_eq!(tankcurve::VERSION, 0x01_01_00);
+/// assert_eq!(tankcurve::VERSION, 0x01_02_00);
 /// ```
-pub const VERSION: u32 = 0x01_01_00;
+pub const VERSION: u32 = 0x01_02_00;
 
 /// How many samples ("readings") there may be, and how many places the reader's lists of them have.
 ///
@@ -57,6 +57,26 @@ pub const MAX_SAMPLES: usize = 1024;
 /// assert!(fill(0, 1, 0, &mut [0; MAX_POINTS + 1], &mut [0; MAX_POINTS + 1]).is_err());
 /// ```
 pub const MAX_POINTS: usize = 512;
+
+/// How many samples ("readings") a [`preview`] may have.
+///
+/// ```
+/// use tankcurve::{preview, PREVIEW_MAX_SAMPLES};
+/// let samples = [0; PREVIEW_MAX_SAMPLES + 1];
+/// assert!(preview(&samples[1..], &samples[1..], &[0], &[1], &mut [0; 5]).is_ok());
+/// assert!(preview(&samples, &samples, &[0], &[1], &mut [0; 5]).is_err());
+/// ```
+pub const PREVIEW_MAX_SAMPLES: usize = 256;
+
+/// How many points ("marks") a [`preview`] may have.
+///
+/// ```
+/// use tankcurve::{preview, PREVIEW_MAX_POINTS, ROW_WIDTH};
+/// let (points, bandwidths) = ([0; PREVIEW_MAX_POINTS], [1; PREVIEW_MAX_POINTS]);
+/// let mut rows = [0; PREVIEW_MAX_POINTS * ROW_WIDTH];
+/// assert!(preview(&[], &[], &points, &bandwidths, &mut rows).is_ok());
+/// ```
+pub const PREVIEW_MAX_POINTS: usize = 64;
 
 /// How many bytes a sheet may have; no place is greater.
 ///
@@ -382,8 +402,38 @@ pub fn smooth<'a>(
     rows: &'a mut [u64],
 ) -> Result<Smoothed<'a>, Error> {
     let answer = slices::smooth(minutes, values, points, bandwidths, rows);
+    smoothed(answer, rows)
+}
+
+/// The preview ("the preview on the panel"): [`smooth`] for a small curve, [`PREVIEW_MAX_SAMPLES`] samples and
+/// [`PREVIEW_MAX_POINTS`] points at most. More of either is report 6, or 8 where [`smooth`] gives 8; otherwise it
+/// gives what [`smooth`] gives. Reports 8, 6, 7, 4, 5, 9, 10.
+///
+/// ```
+/// # fn main() -> Result<(), tankcurve::Error> {
+/// let (minutes, values) = ([10, 20, 20, 35], [40, 60, 80, 20]);
+/// let mut rows = [0; 2 * tankcurve::ROW_WIDTH];
+/// let curve = tankcurve::preview(&minutes, &values, &[20, 25], &[10, 15], &mut rows)?;
+/// let values: Vec<Option<u16>> = curve.rows.map(|row| row.value()).collect();
+/// assert_eq!(values, [Some(70), Some(58)]);
+/// # Ok(())
+/// # }
+/// ```
+pub fn preview<'a>(
+    minutes: &[u16],
+    values: &[u16],
+    points: &[u16],
+    bandwidths: &[u32],
+    rows: &'a mut [u64],
+) -> Result<Smoothed<'a>, Error> {
+    let answer = slices::preview(minutes, values, points, bandwidths, rows);
+    smoothed(answer, rows)
+}
+
+/// The passes of a sweep's answer, with its rows.
+fn smoothed(answer: u64, rows: &[u64]) -> Result<Smoothed<'_>, Error> {
     let passes = report::outcome(answer)?;
-    let rows = Rows::try_from(&*rows).map_err(|_| Error::Unknown(answer))?;
+    let rows = Rows::try_from(rows).map_err(|_| Error::Unknown(answer))?;
     Ok(Smoothed { passes, rows })
 }
 

@@ -93,6 +93,19 @@ mod exports {
             rows_len: usize,
         ) -> u64;
 
+        pub fn tankcurve_preview(
+            minutes: *const u16,
+            minutes_len: usize,
+            values: *const u16,
+            values_len: usize,
+            points: *const u16,
+            points_len: usize,
+            bandwidths: *const u32,
+            bandwidths_len: usize,
+            rows: *mut u64,
+            rows_len: usize,
+        ) -> u64;
+
         pub fn tankcurve_fill(
             first: u16,
             spacing: u16,
@@ -289,6 +302,39 @@ pub fn smooth(
 ) -> u64 {
     unsafe {
         exports::tankcurve_smooth(
+            minutes.as_ptr(),
+            minutes.len(),
+            values.as_ptr(),
+            values.len(),
+            points.as_ptr(),
+            points.len(),
+            bandwidths.as_ptr(),
+            bandwidths.len(),
+            rows.as_mut_ptr(),
+            rows.len(),
+        )
+    }
+}
+
+/// The same of a small curve, [`crate::PREVIEW_MAX_SAMPLES`] samples and [`crate::PREVIEW_MAX_POINTS`] points
+/// at most. Detail: the passes.
+///
+/// ```
+/// let mut rows = [0; 10];
+/// let answer = tankcurve::slices::preview(&[50], &[9], &[0, 100], &[1, 1], &mut rows);
+/// assert_eq!((answer, rows), (256 * 2, [0, 0, 0, 0, 65_536, 1, 1, 0, 0, 65_536]));
+/// assert_eq!(tankcurve::slices::preview(&[0; 257], &[0; 257], &[], &[], &mut []), 6);
+/// ```
+#[must_use]
+pub fn preview(
+    minutes: &[u16],
+    values: &[u16],
+    points: &[u16],
+    bandwidths: &[u32],
+    rows: &mut [u64],
+) -> u64 {
+    unsafe {
+        exports::tankcurve_preview(
             minutes.as_ptr(),
             minutes.len(),
             values.as_ptr(),

@@ -4,7 +4,8 @@
 use tankcurve::slices::{self, DETAIL_UNIT};
 use tankcurve::{
     Error, Estimate, Refusal, Report, Rows, RunningSums, MAX_BANDWIDTH, MAX_OUTPUT, MAX_POINTS,
-    MAX_SAMPLES, MAX_SHEET, MAX_SUM, MAX_WEIGHT, MIN_BANDWIDTH, MISSING, RECORD_WIDTH, ROW_WIDTH,
+    MAX_SAMPLES, MAX_SHEET, MAX_SUM, MAX_WEIGHT, MIN_BANDWIDTH, MISSING, PREVIEW_MAX_POINTS,
+    PREVIEW_MAX_SAMPLES, RECORD_WIDTH, ROW_WIDTH,
 };
 
 const HEAD: &str = "mark,half\n5,2\n\nminute,inj,vdk\n";
@@ -65,6 +66,15 @@ fn limits() {
     assert_eq!(evaluate(1, MIN_BANDWIDTH - 1), out_of_range);
     assert!(evaluate(1, MAX_BANDWIDTH).is_ok());
     assert_eq!(evaluate(1, MAX_BANDWIDTH + 1), out_of_range);
+    let preview = |samples, points| {
+        let (list, marks, bandwidths) = (vec![0; samples], vec![0; points], vec![1; points]);
+        let mut rows = vec![0; points * ROW_WIDTH];
+        tankcurve::preview(&list, &list, &marks, &bandwidths, &mut rows).map(|_| ())
+    };
+    assert_eq!(preview(PREVIEW_MAX_SAMPLES, PREVIEW_MAX_POINTS), Ok(()));
+    let too_many = refused(Report::TooMany, 0);
+    assert_eq!(preview(PREVIEW_MAX_SAMPLES + 1, 1), too_many);
+    assert_eq!(preview(1, PREVIEW_MAX_POINTS + 1), too_many);
     let fill = |length| tankcurve::fill(0, 0, 0, &mut vec![0; length], &mut vec![0; length]);
     assert_eq!(fill(MAX_POINTS), Ok(()));
     assert_eq!(fill(MAX_POINTS + 1), refused(Report::TooMany, 0));

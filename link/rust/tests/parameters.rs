@@ -4,7 +4,10 @@
 //! The expected numbers are those of the second implementation in `reference/`.
 
 use tankcurve::slices::{self, DETAIL_UNIT};
-use tankcurve::{Counts, Error, RecordRow, Refusal, Report, RunningSums, MAX_OUTPUT, ROW_WIDTH};
+use tankcurve::{
+    Counts, Error, RecordRow, Refusal, Report, RunningSums, MAX_OUTPUT, PREVIEW_MAX_SAMPLES,
+    ROW_WIDTH,
+};
 
 const MINUTES: [u16; 6] = [3, 8, 8, 15, 21, 40];
 const VALUES: [u16; 6] = [5, 7, 11, 13, 29, 31];
@@ -245,23 +248,65 @@ fn smooth() {
     assert_eq!(typed, after);
 }
 
+#[test]
+fn preview() {
+    let before: [u64; 3 * ROW_WIDTH] = std::array::from_fn(|i| 90 + i as u64);
+    let after = [0, 4, 70, 630, 9, 1, 5, 74, 858, 12, 3, 5, 78, 2022, 26];
+    let many = [0; PREVIEW_MAX_SAMPLES + 1];
+    let mut rows = before;
+    assert_eq!(
+        slices::preview(&MINUTES, &VALUES, &[9, 14, 22], &[6, 7, 16], &mut rows),
+        DETAIL_UNIT * 2 + 10
+    );
+    assert_eq!(
+        slices::preview(&many, &many, &[9, 14, 22], &[6, 7, 8], &mut rows),
+        6
+    );
+    assert_eq!(
+        slices::preview(&many, &VALUES, &[9, 14, 22], &[6, 7, 8], &mut rows),
+        8
+    );
+    assert_eq!(rows, before);
+    assert_eq!(
+        slices::preview(&MINUTES, &VALUES, &[9, 14, 22], &[6, 7, 8], &mut rows),
+        DETAIL_UNIT * 8
+    );
+    assert_eq!(rows, after);
+
+    let mut typed = before;
+    assert_eq!(
+        tankcurve::preview(&many, &many, &[9, 14, 22], &[6, 7, 8], &mut typed)
+            .map(|curve| curve.passes),
+        refused(Report::TooMany, 0)
+    );
+    assert_eq!(typed, before);
+    let curve =
+        tankcurve::preview(&MINUTES, &VALUES, &[9, 14, 22], &[6, 7, 8], &mut typed).unwrap();
+    assert_eq!((curve.passes, curve.rows.len()), (8, 3));
+    let rows: Vec<[u64; ROW_WIDTH]> = curve.rows.map(Into::into).collect();
+    assert_eq!(rows.concat(), after);
+    assert_eq!(typed, after);
+}
+
 /// As many points as samples, so that no exchange of lists shows in their lengths.
 #[test]
 fn smooth_lists_of_one_length() {
     let points = [9, 14, 22, 30, 31, 40];
     let bandwidths = [6, 7, 8, 9, 10, 11];
-    let mut rows = [90; 6 * ROW_WIDTH];
-    assert_eq!(
-        slices::smooth(&MINUTES, &VALUES, &points, &bandwidths, &mut rows),
-        DETAIL_UNIT * 11
-    );
-    assert_eq!(
-        rows,
-        [
-            0, 4, 70, 630, 9, 1, 5, 74, 858, 12, 3, 5, 78, 2022, 26, 4, 5, 0, 0, 65_536, 4, 6, 19,
-            589, 31, 5, 6, 121, 3751, 31
-        ]
-    );
+    for call in [slices::smooth, slices::preview] {
+        let mut rows = [90; 6 * ROW_WIDTH];
+        assert_eq!(
+            call(&MINUTES, &VALUES, &points, &bandwidths, &mut rows),
+            DETAIL_UNIT * 11
+        );
+        assert_eq!(
+            rows,
+            [
+                0, 4, 70, 630, 9, 1, 5, 74, 858, 12, 3, 5, 78, 2022, 26, 4, 5, 0, 0, 65_536, 4, 6,
+                19, 589, 31, 5, 6, 121, 3751, 31
+            ]
+        );
+    }
 }
 
 #[test]

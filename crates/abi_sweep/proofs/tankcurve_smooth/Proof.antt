@@ -2,6 +2,7 @@
 use Prim.Native.Nat.{_≤_}
 use native.Mathlib.Omega.{arith}
 use Rattle.meanings.specs.Calls.{smoothing-answer}
+use Rattle.meanings.proofs.Checks.{same-limits}
 use Rattle.abi_sweep.proofs.Places.{smooth-place, passes-few}
 use Rattle.abi_answers.proofs.Answered.{refused-code, accepted-number}
 use borrow.Author.Needs.{needs}
@@ -21,13 +22,13 @@ enum-known-passes : tie.Need-enum-known-passes
 enum-known-passes c = search needs
 
 mul-result : tie.Need-mul-result
-mul-result c = let few : c .before .passes .given .0 .0 ≤ 2048 = search passes-few in omega arith
+mul-result c = let few : c .before .passes .given .0 .0 ≤ 2048 = search (passes-few, same-limits) in omega arith
 
 same-length : tie.Need-same-length
 same-length c = search needs
 
 returns : tie.Need-returns
-returns c = (search (refused-code smoothing-answer, smooth-place), search needs)
+returns c = (search (refused-code smoothing-answer, smooth-place, same-limits), search needs)
 
 same-length-2 : tie.Need-same-length-2
 same-length-2 c = search needs

@@ -1,15 +1,15 @@
 -- The sweep under the limits that the code names.
 -- They are the full ones, which allow no more than themselves.
 use borrow.Author.Needs.{needs}
-use Rattle.estimator.proofs.Verdicts.{full-is-within, smooth-at-full, rows-at-full}
+use Rattle.estimator.proofs.Verdicts.{full-within, smooth-at, rows-at}
 use Rattle.estimator.proofs.smooth.Statement.{statement}
 use Rattle.estimator.proofs.smooth.Tie as tie
 
 returns : tie.Need-returns
-returns c = (search smooth-at-full, search rows-at-full)
+returns c = (search smooth-at, search rows-at)
 
 smooth-under-requires : tie.Need-smooth-under-requires
-smooth-under-requires c κs = search full-is-within
+smooth-under-requires c κs = search full-within
 
 pub smooth-spec : {M : Type 1} → statement M
 smooth-spec = tie.close (tie.spec (λ c κs. search needs) smooth-under-requires (λ c. search needs) returns)

@@ -3,8 +3,8 @@
 use crate::files::{Answer, Cases, Program};
 use reference::exported::{BOUNDS, COUNTS, READER, RECORD};
 use reference::{
-    fill, one_mark, one_mark_run, read, record_row, refusal_text, step, sweep, text, Record,
-    Refusal, MOST_OUTPUT, ROW_WIDTH,
+    fill, one_mark, one_mark_run, preview, read, record_row, refusal_text, step, sweep, text,
+    Record, Refusal, MOST_OUTPUT, ROW_WIDTH,
 };
 
 /// The most minutes, values, points or bandwidths: vectors_io's MOST_ELEMENTS.
@@ -51,6 +51,9 @@ fn sized(length: usize, wanted: usize) -> Result<(), Refusal> {
         })
     }
 }
+
+/// A sweep or a preview.
+type Sweep = fn(&[u16], &[u16], &[u16], &[u32], &mut [u64]) -> Result<u64, Refusal>;
 
 /// A record of its eight numbers.
 fn record_of(numbers: &[u64]) -> Record {
@@ -188,6 +191,27 @@ impl Cases {
         record
     }
 
+    /// The sweep, call 1, or the preview, call 3.
+    fn curve(
+        &mut self,
+        (number, name): (u64, &'static str),
+        call: Sweep,
+        (minutes, values): (&[u16], &[u16]),
+        (points, bandwidths): (&[u16], &[u32]),
+        rows: usize,
+    ) -> Answer {
+        let mut numbers = vec![number];
+        numbers.extend(listed(minutes, MOST_ELEMENTS));
+        numbers.extend(listed(values, MOST_ELEMENTS));
+        numbers.extend(listed(points, MOST_ELEMENTS));
+        numbers.extend(listed(bandwidths, MOST_ELEMENTS));
+        numbers.push(length(rows, MOST_ROWS));
+        self.case(Program::Sweep, &numbers, b"");
+        let mut list = vec![7; rows];
+        let result = call(minutes, values, points, bandwidths, &mut list);
+        self.answer(Program::Sweep, name, result, b"", vec![list])
+    }
+
     pub fn smooth(
         &mut self,
         minutes: &[u16],
@@ -196,16 +220,20 @@ impl Cases {
         bandwidths: &[u32],
         rows: usize,
     ) -> Answer {
-        let mut numbers = vec![1];
-        numbers.extend(listed(minutes, MOST_ELEMENTS));
-        numbers.extend(listed(values, MOST_ELEMENTS));
-        numbers.extend(listed(points, MOST_ELEMENTS));
-        numbers.extend(listed(bandwidths, MOST_ELEMENTS));
-        numbers.push(length(rows, MOST_ROWS));
-        self.case(Program::Sweep, &numbers, b"");
-        let mut list = vec![7; rows];
-        let result = sweep(minutes, values, points, bandwidths, &mut list);
-        self.answer(Program::Sweep, "smooth", result, b"", vec![list])
+        let (samples, grid) = ((minutes, values), (points, bandwidths));
+        self.curve((1, "smooth"), sweep, samples, grid, rows)
+    }
+
+    pub fn preview(
+        &mut self,
+        minutes: &[u16],
+        values: &[u16],
+        points: &[u16],
+        bandwidths: &[u32],
+        rows: usize,
+    ) -> Answer {
+        let (samples, grid) = ((minutes, values), (points, bandwidths));
+        self.curve((3, "preview"), preview, samples, grid, rows)
     }
 
     pub fn fill(

@@ -33,12 +33,13 @@ const PROGRAMS: [(Program, &str); 4] = [
 ];
 
 /// Each call, and what it can answer.
-const REPORTS: [(&str, &[u64]); 9] = [
+const REPORTS: [(&str, &[u64]); 10] = [
     ("evaluate", &[8, 6, 4, 9, 0]),
     ("window", &[8, 6, 4, 9, 0]),
     ("advance", &[8, 6, 11, 9, 0]),
     ("row", &[8, 0]),
     ("smooth", &[8, 6, 7, 4, 5, 9, 10, 0]),
+    ("preview", &[8, 6, 7, 4, 5, 9, 10, 0]),
     ("fill", &[8, 7, 6, 12, 13, 0]),
     ("read", &[8, 1, 2, 3, 4, 5, 9, 10, 6, 7, 0]),
     ("text", &[8, 1, 2, 3, 4, 5, 9, 10, 6, 7, 0]),

@@ -20,6 +20,7 @@
 //! vectors_sweep
 //! 1 smooth(minutes, values, points, bandwidths, rows*)     the sweep
 //! 2 fill(first, spacing, preset, points*, bandwidths*)     the mark filler
+//! 3 preview(minutes, values, points, bandwidths, rows*)    the preview
 //!
 //! vectors_sheet
 //! 1 read(sheet, minutes*, values*, points*, bandwidths*, counts*)   the reader
@@ -32,7 +33,7 @@
 //! ```
 //!
 //! An answer is a number and a detail. Number 0 is accepted, with the passes
-//! of a sweep, the bytes of a text, else 0 as detail; 1 to 13 is a report, with
+//! of a sweep or a preview, the bytes of a text, else 0 as detail; 1 to 13 is a report, with
 //! its place. The lists for a row, bounds, a record and counts have one length
 //! only (`ROW_WIDTH`, `BOUNDS`, `RECORD`, `COUNTS`), and out has `MOST_OUTPUT` bytes.
 //! Another length of these is report 8 at place 0, before any other. A refused
@@ -53,6 +54,7 @@
 //!                 4 RECORD point bandwidth length-of-row
 //! vectors_sweep   1 MINUTES VALUES POINTS BANDWIDTHS length-of-rows
 //!                 2 first spacing preset length-of-points length-of-bandwidths
+//!                 3 MINUTES VALUES POINTS BANDWIDTHS length-of-rows
 //! vectors_sheet   1 length-of-minutes -values -points -bandwidths -counts SHEET
 //! vectors_text    1 SHEET
 //!                 2 length-of-out SHEET

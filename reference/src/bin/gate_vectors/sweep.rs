@@ -21,6 +21,7 @@ pub fn cases(cases: &mut Cases) {
     fillings(cases);
     order(cases);
     lengths(cases);
+    previews(cases);
 }
 
 /// The cases C1 to C11, and the knob.
@@ -241,6 +242,48 @@ fn lengths(cases: &mut Cases) {
         cases.fill(5, 10, 12, points, bandwidths).refused(8, 0);
         cases.fill(65535, 10, 3, points, bandwidths).refused(8, 0);
     }
+}
+
+/// The preview at its limits and beside them, its reports in their order, and
+/// what it accepts beside the sweep's rows.
+#[rustfmt::skip]
+fn previews(cases: &mut Cases) {
+    let (m, v) = ([10, 20, 20, 35], [40, 60, 80, 20]);
+    let rows = [0, 3, 200, 14000, 70, 0, 4, 525, 30500, 58, 4, 4, 0, 0, MISSING];
+    cases.preview(&m, &v, &[20, 25, 60], &[10, 15, 20], 3 * ROW_WIDTH).accepted(8, &rows);
+
+    // As many readings and marks as there may be, one fewer and one more.
+    let (minutes, values) = drawn_readings(8);
+    for (readings, marks) in [(0, 63), (0, 64), (0, 65), (255, 1), (256, 1), (257, 1), (256, 64), (257, 64), (256, 65)] {
+        let points: Vec<u16> = (0..marks as u16).map(|k| 100 * k).collect();
+        let bandwidths = vec![90; marks];
+        let answer = cases.preview(&minutes[..readings], &values[..readings], &points, &bandwidths, marks * ROW_WIDTH);
+        if readings > 256 || marks > 64 {
+            answer.refused(6, 0);
+        } else {
+            let full = cases.smooth(&minutes[..readings], &values[..readings], &points, &bandwidths, marks * ROW_WIDTH);
+            answer.accepted(full.detail, &full.lists[0]);
+        }
+    }
+
+    // 8, 6, 7, 4, 5, 9, 10.
+    let falling = [&[3, 2], &[3; 255][..]].concat();
+    cases.preview(&[1; 257], &[1; 256], &[5], &[5], ROW_WIDTH).refused(8, 0);
+    cases.preview(&[1; 256], &[1; 257], &[5], &[5], ROW_WIDTH).refused(8, 0);
+    cases.preview(&[], &[], &[5; 65], &[5; 64], 65 * ROW_WIDTH).refused(8, 0);
+    cases.preview(&[], &[], &[5; 65], &[5; 65], 64 * ROW_WIDTH).refused(8, 0);
+    cases.preview(&falling, &[1; 257], &[], &[], 0).refused(6, 0);
+    cases.preview(&falling[..2], &[1; 2], &[5; 65], &[0; 65], 65 * ROW_WIDTH).refused(6, 0);
+    cases.preview(&falling[..2], &[1; 2], &[], &[], 0).refused(7, 0);
+    cases.preview(&[], &[], &[], &[], 0).refused(7, 0);
+    cases.preview(&falling[..256], &[1; 256], &[7, 6, 8], &[5, 5, 0], 3 * ROW_WIDTH).refused(4, 1);
+    cases.preview(&[1, 1, 0], &[1; 3], &[5], &[5], ROW_WIDTH).refused(4, 2);
+    cases.preview(&[3], &[1], &[7, 8, 7], &[0, 9, 9], 3 * ROW_WIDTH).refused(5, 2);
+    cases.preview(&[], &[], &[5, 6, 6, 4, 3], &[9; 5], 5 * ROW_WIDTH).refused(5, 3);
+    cases.preview(&[3], &[1], &[7, 7, 7], &[1, 9, 0], 3 * ROW_WIDTH).refused(9, 2);
+    cases.preview(&[], &[], &[5, 5, 5], &[5, 65537, 0], 3 * ROW_WIDTH).refused(9, 1);
+    cases.preview(&[3], &[1], &[7, 7, 7], &[1, 9, 1], 3 * ROW_WIDTH).refused(10, 1);
+    cases.preview(&[], &[], &[5, 6], &[5, 3], 2 * ROW_WIDTH).refused(10, 1);
 }
 
 fn random_sweep(random: &mut Random, cases: &mut Cases) {

@@ -1,0 +1,2 @@
+pub mod PreviewCases
+pub mod TwoLimits
