@@ -50,6 +50,7 @@ pub struct Calls {
     row: Tally,
     smooth: Tally,
     preview: Tally,
+    every_curve: Tally,
     fill: Tally,
     read: Tally,
     text: Tally,
@@ -124,6 +125,27 @@ fn same<T: PartialEq + Debug>(what: &str, expected: T, got: T) -> Result<(), Str
     Err(format!("{what}: expected {expected:?}, got {got:?}"))
 }
 
+/// A present value lies between the lowest and the highest value of the samples with a weight.
+fn among(
+    minutes: &[u16],
+    values: &[u16],
+    point: u16,
+    bandwidth: u32,
+    row: &[u64],
+) -> Result<(), String> {
+    let near = |&(&m, _): &(&u16, &u16)| u32::from(m.abs_diff(point)) < bandwidth;
+    let weighed = || minutes.iter().zip(values).filter(near);
+    let low = weighed().map(|(_, &v)| u64::from(v)).min();
+    let high = weighed().map(|(_, &v)| u64::from(v)).max();
+    let present = row[4] != tankcurve::MISSING;
+    same("weight", present, row[2] > 0)?;
+    same("a value at all", low.is_some(), present)?;
+    if present && (Some(row[4]) < low || Some(row[4]) > high) {
+        return Err(format!("value {} is not from {low:?} to {high:?}", row[4]));
+    }
+    Ok(())
+}
+
 /// Runs a comparison up to its first difference.
 fn attempt(comparison: impl FnOnce() -> Result<(), String>) -> Result<(), String> {
     comparison()
@@ -177,6 +199,7 @@ impl Calls {
             row: Tally::new("row", &[8]),
             smooth: Tally::new("smooth", &[8, 6, 7, 4, 5, 9, 10]),
             preview: Tally::new("preview", &[8, 6, 7, 4, 5, 9, 10]),
+            every_curve: Tally::new("every curve", &[4, 9]),
             fill: Tally::new("fill", &[8, 7, 6, 12, 13]),
             read: Tally::new("read", &[8, 1, 2, 3, 4, 5, 9, 10, 6, 7]),
             text: Tally::new("text", &[8, 1, 2, 3, 4, 5, 9, 10, 6, 7]),
@@ -185,7 +208,7 @@ impl Calls {
         }
     }
 
-    pub fn tallies(&self) -> [&Tally; 11] {
+    pub fn tallies(&self) -> [&Tally; 12] {
         [
             &self.evaluate,
             &self.window,
@@ -193,6 +216,7 @@ impl Calls {
             &self.row,
             &self.smooth,
             &self.preview,
+            &self.every_curve,
             &self.fill,
             &self.read,
             &self.text,
@@ -497,6 +521,56 @@ impl Calls {
             points = points,
             bandwidths = bandwidths,
             rows_len = rows_len
+        )
+    }
+
+    /// What holds of every curve, tried on the archive's calls at one point and over all of them: a present
+    /// value lies between the lowest and the highest value of the samples nearer to the point than the
+    /// bandwidth; and `moved`, the values in other places at samples of their minute, gives the same.
+    pub fn every_curve(
+        &mut self,
+        minutes: &[u16],
+        values: &[u16],
+        moved: &[u16],
+        points: &[u16],
+        bandwidths: &[u32],
+    ) -> Result<(), String> {
+        let rows_len = ROW_WIDTH * points.len();
+        let mut number = 0;
+        let found = attempt(|| {
+            for call in [slices::smooth, slices::preview] {
+                let mut lists = [vec![7; rows_len], vec![7; rows_len]];
+                let got = call(minutes, values, points, bandwidths, &mut lists[0]);
+                let beside = call(minutes, moved, points, bandwidths, &mut lists[1]);
+                same("values in other places", got, beside)?;
+                same("rows in other places", &lists[0], &lists[1])?;
+                if got % DETAIL_UNIT == 0 {
+                    for (k, row) in lists[0].chunks(ROW_WIDTH).enumerate() {
+                        among(minutes, values, points[k], bandwidths[k], row)?;
+                    }
+                }
+            }
+            for (&point, &bandwidth) in points.iter().zip(bandwidths) {
+                let mut lists = [[7; ROW_WIDTH]; 2];
+                let got = slices::evaluate(minutes, values, point, bandwidth, &mut lists[0]);
+                let beside = slices::evaluate(minutes, moved, point, bandwidth, &mut lists[1]);
+                same("a row in other places", (got, lists[0]), (beside, lists[1]))?;
+                if got == 0 {
+                    among(minutes, values, point, bandwidth, &lists[0])?;
+                }
+                number = (got % DETAIL_UNIT) as u8;
+            }
+            Ok(())
+        });
+        self.every_curve.count(number);
+        with_case!(
+            found,
+            "every curve",
+            minutes = minutes,
+            values = values,
+            moved = moved,
+            points = points,
+            bandwidths = bandwidths
         )
     }
 

@@ -5,7 +5,7 @@ use crate::calls::Calls;
 use crate::lists::{any_minutes, near_half, sample_count, LISTS};
 use crate::sheets;
 use reference::exported::{BOUNDS, READER, RECORD};
-use reference::generators::lists::{fall, some_point};
+use reference::generators::lists::{fall, rearranged, some_point};
 use reference::generators::random::Random;
 use reference::generators::sheets::feed_sheets;
 use reference::{
@@ -456,6 +456,34 @@ pub fn preview(calls: &mut Calls) -> Found {
             _ => random.between(1, 12) as usize,
         };
         some_sweep(calls, random, Calls::preview, (count, used))?;
+    }
+    Ok(())
+}
+
+/// Readings of few minutes, mostly in order, with their values in other places of equal minute.
+pub fn every_curve(calls: &mut Calls) -> Found {
+    let random = &mut Random(11);
+    for turn in 0..12_000 {
+        let count = match random.below(50) {
+            0 => random.pick(&[255, 256, 257, 1023, 1024]),
+            _ => random.below(40),
+        };
+        let clock = random.pick(&[1, 2, 5, 20, 200]);
+        let start = random.pick(&[0, 1000, 65_536 - clock]);
+        let mut minutes: Vec<u16> = (0..count)
+            .map(|_| (start + random.below(clock)) as u16)
+            .collect();
+        if random.chance(95) {
+            minutes.sort_unstable();
+        }
+        let values = LISTS.some_values(random, count);
+        let moved = rearranged(random, &minutes, &values);
+        let used = random.between(1, 6) as usize;
+        let (points, mut bandwidths) = LISTS.fit_points(random, &minutes, used);
+        if turn % 40 == 0 {
+            bandwidths[used - 1] = LISTS.bad_bandwidth(random);
+        }
+        calls.every_curve(&minutes, &values, &moved, &points, &bandwidths)?;
     }
     Ok(())
 }

@@ -46,6 +46,7 @@ fn compare(calls: &mut Calls, examples: &Path) -> Result<(), String> {
     cases::row(calls)?;
     cases::smooth(calls)?;
     cases::preview(calls)?;
+    cases::every_curve(calls)?;
     cases::fill(calls)?;
     cases::read_and_text(calls)?;
     cases::refusal_text(calls)?;

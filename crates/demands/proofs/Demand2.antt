@@ -47,20 +47,21 @@ swept-rows L w ts vs zs hs rs rs′ n v q e =
 -- what a call for C and Rust has stored of the row, where it is accepted
 module _ (n : ℕ) (ts vs : List ℕ) (z h : ℕ) (xs : List ℕ) (c : ℕ) (coded : c ≡ answered no-detail (sized n xs (evaluate full ts vs z h)))
     (accepted : code-refusal c ≡ none) where
-  given-row : (e : Estimate) × (sized n xs (evaluate full ts vs z h) ≡ given e)
+  pub given-row : (e : Estimate) × (sized n xs (evaluate full ts vs z h) ≡ given e)
   given-row = accepted-given (sized n xs (evaluate full ts vs z h)) (sym (evaluate-coded n xs ts vs z h c coded) ∙ accepted)
 
   -- such an answer has no detail
   code-is-zero : c ≡ 0
   code-is-zero = coded ∙ ap (answered no-detail) (given-row .1)
 
-  row-stored : (numbers : Estimate → List ℕ) → stored numbers (sized n xs (evaluate full ts vs z h)) xs ≡ numbers (given-row .0)
+  pub row-stored : (numbers : Estimate → List ℕ) → stored numbers (sized n xs (evaluate full ts vs z h)) xs ≡ numbers (given-row .0)
   row-stored numbers = ap (λ (t : Answer Estimate). stored numbers t xs) (given-row .1)
 
+  pub row-is-evaluate : evaluate full ts vs z h ≡ given (given-row .0)
+  row-is-evaluate = sym (sized-opens n xs (evaluate full ts vs z h) (ap refusal (given-row .1))) ∙ given-row .1
+
   row-published : AtMost max-u16 vs → PublishedRow ts vs z h (given-row .0)
-  row-published v =
-      let open-answer = sized-opens n xs (evaluate full ts vs z h) (ap refusal (given-row .1)) in
-      accepted-row-is-published full (same-limits full) ts vs z h (given-row .0) v (sym open-answer ∙ given-row .1)
+  row-published v = accepted-row-is-published full (same-limits full) ts vs z h (given-row .0) v row-is-evaluate
 
 pub demand-2 : Demand2
 demand-2 = record {

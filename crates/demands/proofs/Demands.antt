@@ -9,6 +9,7 @@ use Rattle.demands.proofs.Demand1.{exported-record-row-refused, exporte
 use Rattle.demands.proofs.Demand1.{exported-text-refused, exported-refusal-text-refused}
 use Rattle.demands.proofs.Demand2.{demand-2}
 use Rattle.demands.proofs.Demand3.{demand-3-of-calls}
+use Rattle.demands.proofs.EveryCurve.{every-curve}
 use Rattle.demands.proofs.LineEndings.{line-endings}
 use Rattle.demands.proofs.OtherCalls.{other-calls}
 use Rattle.demands.proofs.Preview.{preview-holds}
@@ -42,5 +43,6 @@ demands = record {
   other-calls = other-calls;
   line-endings = line-endings;
   preview-holds = preview-holds;
+  every-curve = every-curve;
   worked-cases = document-cases-hold;
 }

@@ -3,6 +3,7 @@ pub mod Demand1
 pub mod Demand2
 pub mod Demand3
 pub mod Demands
+pub mod EveryCurve
 pub mod FirstFaults
 pub mod LineEndings
 pub mod OtherCalls

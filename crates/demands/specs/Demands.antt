@@ -42,6 +42,8 @@ use Rattle.meanings.specs.Output.{curve-text, refusal-text, program}
 use Rattle.meanings.specs.Cases.{AllHold}
 use Rattle.meanings.specs.Document.{document-cases}
 use Rattle.meanings.specs.Calls.{evaluation-answer, advance-answer, smoothing-answer, filling-answer, parsing-answer, writing-answer}
+use Rattle.laws_rows.specs.AmongReadings.{Among}
+use Rattle.laws_rows.specs.Rearranged.{Rearranged}
 use Rattle.laws_rows.specs.TwoLimits.{Fits, Over}
 use Rattle.text.specs.Table.{stored-row}
 use Rattle.meanings.specs.Codes.{detail-unit}
@@ -400,6 +402,48 @@ pub record Preview : Type 0 where
       → ExportedSmooth ts vs zs hs rs d rs₂ → ((d ≡ 8) → c ≡ 8) × (¬ (d ≡ 8) → c ≡ 6)
 
 -- ---------------------------------------------------------------------------------------------------------------------------------------
+-- What holds of every curve
+
+pub record EveryCurve : Type 0 where
+  -- a present value lies between the lowest and the highest value of the readings with a weight above zero: at one mark
+  pub evaluate-among : (ts vs : List ℕ) (z h : ℕ) (e : Estimate) → EvaluateCall ts vs z h (Row e) → ¬ (e .value ≡ missing) → Among ts vs z h e
+  -- in each five numbers of an accepted sweep's rows, and of a preview's
+  pub smooth-among : (ts vs zs hs rs : List ℕ) (n : ℕ) (rs′ : List ℕ) (k : ℕ) → SmoothCall ts vs zs hs rs (Passes n) rs′ → k < length zs
+      → ¬ (stored-row rs′ k .value ≡ missing) → Among ts vs (getD zs k 0) (getD hs k 0) (stored-row rs′ k)
+  pub preview-among : (ts vs zs hs rs : List ℕ) (n : ℕ) (rs′ : List ℕ) (k : ℕ) → PreviewCall ts vs zs hs rs (Passes n) rs′ → k < length zs
+      → ¬ (stored-row rs′ k .value ≡ missing) → Among ts vs (getD zs k 0) (getD hs k 0) (stored-row rs′ k)
+  -- and in each row that the program writes
+  pub sheet-among : (s : List ℕ) (c : Contents) (k : ℕ) → IsSheet full s c → k < length (c .points)
+      → ¬ (estimate (c .minutes) (c .values) (getD (c .points) k 0) (getD (c .bandwidths) k 0) .value ≡ missing)
+      → Among (c .minutes) (c .values) (getD (c .points) k 0) (getD (c .bandwidths) k 0)
+      (estimate (c .minutes) (c .values) (getD (c .points) k 0) (getD (c .bandwidths) k 0))
+  -- the same of the calls for C and Rust
+  pub exported-evaluate-among : (ts vs : List ℕ) (z h : ℕ) (row : List ℕ) (c : ℕ) (row′ : List ℕ) → ExportedEvaluate ts vs z h row c row′
+      → code-refusal c ≡ none → ¬ (stored-row row′ 0 .value ≡ missing) → Among ts vs z h (stored-row row′ 0)
+  pub exported-smooth-among : (ts vs zs hs rs : List ℕ) (c : ℕ) (rs′ : List ℕ) (k : ℕ) → ExportedSmooth ts vs zs hs rs c rs′ → code-refusal c ≡ none
+      → k < length zs → ¬ (stored-row rs′ k .value ≡ missing) → Among ts vs (getD zs k 0) (getD hs k 0) (stored-row rs′ k)
+  pub exported-preview-among : (ts vs zs hs rs : List ℕ) (c : ℕ) (rs′ : List ℕ) (k : ℕ) → ExportedPreview ts vs zs hs rs c rs′
+      → code-refusal c ≡ none → k < length zs → ¬ (stored-row rs′ k .value ≡ missing)
+      → Among ts vs (getD zs k 0) (getD hs k 0) (stored-row rs′ k)
+  -- readings of equal minute may change places: both calls give the same answer and leave the same rows, refusals included
+  pub evaluate-alike : (ts vs vs′ : List ℕ) (z h : ℕ) (a b : Evaluation) → Rearranged ts vs vs′ → EvaluateCall ts vs z h a
+      → EvaluateCall ts vs′ z h b → evaluation-answer a ≡ evaluation-answer b
+  pub smooth-alike : (ts vs vs′ zs hs rs : List ℕ) (a b : Smoothing) (rs₁ rs₂ : List ℕ) → Rearranged ts vs vs′ → SmoothCall ts vs zs hs rs a rs₁
+      → SmoothCall ts vs′ zs hs rs b rs₂ → (smoothing-answer a ≡ smoothing-answer b) × (rs₁ ≡ rs₂)
+  pub preview-alike : (ts vs vs′ zs hs rs : List ℕ) (a b : Smoothing) (rs₁ rs₂ : List ℕ) → Rearranged ts vs vs′ → PreviewCall ts vs zs hs rs a rs₁
+      → PreviewCall ts vs′ zs hs rs b rs₂ → (smoothing-answer a ≡ smoothing-answer b) × (rs₁ ≡ rs₂)
+  -- two sheets that differ only so print alike
+  pub sheets-alike : (s s′ : List ℕ) (c : Contents) (vs′ : List ℕ) → Rearranged (c .minutes) (c .values) vs′ → IsSheet full s c
+      → IsSheet full s′ (record { minutes = c .minutes; values = vs′; points = c .points; bandwidths = c .bandwidths }) → program s ≡ program s′
+  -- the same of the calls for C and Rust
+  pub exported-evaluate-alike : (ts vs vs′ : List ℕ) (z h : ℕ) (row : List ℕ) (c d : ℕ) (row₁ row₂ : List ℕ) → Rearranged ts vs vs′
+      → ExportedEvaluate ts vs z h row c row₁ → ExportedEvaluate ts vs′ z h row d row₂ → (c ≡ d) × (row₁ ≡ row₂)
+  pub exported-smooth-alike : (ts vs vs′ zs hs rs : List ℕ) (c d : ℕ) (rs₁ rs₂ : List ℕ) → Rearranged ts vs vs′ → ExportedSmooth ts vs zs hs rs c rs₁
+      → ExportedSmooth ts vs′ zs hs rs d rs₂ → (c ≡ d) × (rs₁ ≡ rs₂)
+  pub exported-preview-alike : (ts vs vs′ zs hs rs : List ℕ) (c d : ℕ) (rs₁ rs₂ : List ℕ) → Rearranged ts vs vs′
+      → ExportedPreview ts vs zs hs rs c rs₁ → ExportedPreview ts vs′ zs hs rs d rs₂ → (c ≡ d) × (rs₁ ≡ rs₂)
+
+-- ---------------------------------------------------------------------------------------------------------------------------------------
 -- All of it, what holds of line endings (LineEndings.antt), and the worked cases of SPECIFICATION 7.6, 7.9 and 7.10
 pub record Demands : Type 2 where
   pub demand-1 : Demand1
@@ -408,4 +452,5 @@ pub record Demands : Type 2 where
   pub other-calls : OtherCalls
   pub line-endings : LineEndings
   pub preview-holds : Preview
+  pub every-curve : EveryCurve
   pub worked-cases : AllHold document-cases

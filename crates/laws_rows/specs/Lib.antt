@@ -1,2 +1,5 @@
+pub mod AmongReadings
 pub mod PreviewCases
+pub mod Rearranged
 pub mod TwoLimits
+pub mod Weighted

@@ -82,7 +82,7 @@ scaled-kernel-is-kernel d h pos = by (leb d h) refl
     by true e = near (h * h - d * d)
     by false e = rw (far-is-zero d h (leb-false d h e)) far
 
-outside-is-zero : (z h t : ℕ) → ¬ Inside z h t → kernel z h t ≡ 0
+pub outside-is-zero : (z h t : ℕ) → ¬ Inside z h t → kernel z h t ≡ 0
 unfolding kernel distance
 outside-is-zero z h t out = by (leb (distance t z) h) refl
   where
@@ -91,7 +91,7 @@ outside-is-zero z h t out = by (leb (distance t z) h) refl
     by false e = far-is-zero (distance t z) h (leb-false _ _ e)
 
 -- from all samples to the run
-total-is-over-run : (g : ℕ → ℕ) (ts : List ℕ) (z h : ℕ) → Ordered ts → ((i : ℕ) → ¬ Inside z h (getD ts i 0) → g i ≡ 0)
+pub total-is-over-run : (g : ℕ → ℕ) (ts : List ℕ) (z h : ℕ) → Ordered ts → ((i : ℕ) → ¬ Inside z h (getD ts i 0) → g i ≡ 0)
     → total g 0 (length ts) ≡ over-run g ts z h
 total-is-over-run g ts z h ordered zeros =
     let l = left-at-most-right ts z h in

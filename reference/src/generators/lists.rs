@@ -114,6 +114,16 @@ fn slip(random: &mut Random, list: &mut [u16]) {
     }
 }
 
+/// The values in other places, each still at a reading of its minute.
+pub fn rearranged(random: &mut Random, minutes: &[u16], values: &[u16]) -> Vec<u16> {
+    let mut moved = values.to_vec();
+    for i in 0..moved.len().min(minutes.len()) {
+        let alike: Vec<usize> = (0..=i).filter(|&j| minutes[j] == minutes[i]).collect();
+        moved.swap(i, random.pick(&alike));
+    }
+    moved
+}
+
 /// A mark, mostly near one of the readings.
 pub fn some_point(random: &mut Random, minutes: &[u16]) -> u16 {
     match random.below(8) {
