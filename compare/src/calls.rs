@@ -47,6 +47,7 @@ pub struct Calls {
     evaluate: Tally,
     window: Tally,
     advance: Tally,
+    turn: Tally,
     row: Tally,
     smooth: Tally,
     preview: Tally,
@@ -158,10 +159,20 @@ fn sized<T, const N: usize>(list: &mut [T]) -> Result<&mut [T; N], String> {
         .map_err(|_| format!("the type has {N} elements and not {length}"))
 }
 
-/// The eight numbers of a record.
+/// The nine numbers of a record.
 fn numbers(record: Record) -> [u64; RECORD] {
     let [s00, s10, s20, s01, s11, s21] = record.sums;
-    [record.left, record.right, s00, s10, s20, s01, s11, s21]
+    [
+        record.left,
+        record.right,
+        s00,
+        s10,
+        s20,
+        s01,
+        s11,
+        s21,
+        record.passes,
+    ]
 }
 
 /// The same record, typed.
@@ -176,8 +187,31 @@ fn running_sums(record: Record) -> RunningSums {
         s01,
         s11,
         s21,
+        passes: record.passes,
     }
 }
+
+/// A call that makes another record of one: the step or the turn, in its three forms.
+struct Moving {
+    name: &'static str,
+    reference: fn(Record, &[u16], &[u16], u16, u32) -> Result<Record, reference::Refusal>,
+    export: fn(&mut [u64], &[u16], &[u16], u16, u32) -> u64,
+    typed: fn(&mut RunningSums, &[u16], &[u16], u16, u32) -> Result<(), Error>,
+}
+
+const STEP: Moving = Moving {
+    name: "advance",
+    reference: reference::step,
+    export: slices::advance,
+    typed: tankcurve::advance,
+};
+
+const TURN: Moving = Moving {
+    name: "turn",
+    reference: reference::turn,
+    export: slices::turn,
+    typed: tankcurve::turn,
+};
 
 /// The report that a text of the program tells, or 0.
 fn told(text: &[u8]) -> u8 {
@@ -196,6 +230,7 @@ impl Calls {
             evaluate: Tally::new("evaluate", &[8, 6, 4, 9]),
             window: Tally::new("window", &[8, 6, 4, 9]),
             advance: Tally::new("advance", &[8, 6, 11, 9]),
+            turn: Tally::new("turn", &[8, 6, 4, 11, 9]),
             row: Tally::new("row", &[8]),
             smooth: Tally::new("smooth", &[8, 6, 7, 4, 5, 9, 10]),
             preview: Tally::new("preview", &[8, 6, 7, 4, 5, 9, 10]),
@@ -208,11 +243,12 @@ impl Calls {
         }
     }
 
-    pub fn tallies(&self) -> [&Tally; 12] {
+    pub fn tallies(&self) -> [&Tally; 13] {
         [
             &self.evaluate,
             &self.window,
             &self.advance,
+            &self.turn,
             &self.row,
             &self.smooth,
             &self.preview,
@@ -342,23 +378,32 @@ impl Calls {
         )
     }
 
-    /// One step. Gives the record that it returned or left.
-    pub fn advance(
+    /// The tally of a call on a record.
+    fn count(&mut self, call: &Moving, number: u8) {
+        match call.name {
+            "turn" => self.turn.count(number),
+            _ => self.advance.count(number),
+        }
+    }
+
+    /// One step or turn. Gives the record that it returned or left.
+    fn moved(
         &mut self,
+        call: &Moving,
         record: Record,
         minutes: &[u16],
         values: &[u16],
         point: u16,
         bandwidth: u32,
     ) -> Result<Record, String> {
-        let result = reference::step(record, minutes, values, point, bandwidth).map_err(refused);
+        let result = (call.reference)(record, minutes, values, point, bandwidth).map_err(refused);
         let answer = result.err().unwrap_or((0, 0));
         let after = result.unwrap_or(record);
         let lent_minutes = Lent::holding(&mut self.patterns, minutes);
         let lent_values = Lent::holding(&mut self.patterns, values);
         let mut lent_record = Lent::holding(&mut self.patterns, &numbers(record));
         let found = attempt(|| {
-            let got = slices::advance(
+            let got = (call.export)(
                 lent_record.list_mut(),
                 lent_minutes.list(),
                 lent_values.list(),
@@ -370,7 +415,7 @@ impl Calls {
             lent_values.untouched("values")?;
             lent_record.holds("record", &numbers(after))?;
             let mut sums = running_sums(record);
-            let got = tankcurve::advance(
+            let got = (call.typed)(
                 &mut sums,
                 lent_minutes.list(),
                 lent_values.list(),
@@ -380,10 +425,10 @@ impl Calls {
             same("typed", result.map(|_| ()), typed(got))?;
             same("typed, record", running_sums(after), sums)
         });
-        self.advance.count(answer.0);
+        self.count(call, answer.0);
         with_case!(
             found,
-            "advance",
+            call.name,
             record = numbers(record),
             minutes = minutes,
             values = values,
@@ -393,9 +438,10 @@ impl Calls {
         Ok(after)
     }
 
-    /// One step with a record of another length than 8.
-    pub fn advance_wrong_length(
+    /// One step or turn with a record of another length than 9.
+    fn moved_wrong_length(
         &mut self,
+        call: &Moving,
         record_len: usize,
         minutes: &[u16],
         values: &[u16],
@@ -407,7 +453,7 @@ impl Calls {
         // All zero, so that it is the record's length and not its content that is refused.
         let mut record = Lent::holding(&mut self.patterns, &vec![0; record_len]);
         let found = attempt(|| {
-            let got = slices::advance(
+            let got = (call.export)(
                 record.list_mut(),
                 lent_minutes.list(),
                 lent_values.list(),
@@ -419,10 +465,10 @@ impl Calls {
             lent_values.untouched("values")?;
             record.untouched("record")
         });
-        self.advance.count(WRONG_LENGTH.0);
+        self.count(call, WRONG_LENGTH.0);
         with_case!(
             found,
-            "advance",
+            call.name,
             record_len = record_len,
             minutes = minutes,
             values = values,
@@ -431,7 +477,51 @@ impl Calls {
         )
     }
 
-    /// The row of a record, also through lists of other lengths than 8 and 5.
+    pub fn advance(
+        &mut self,
+        record: Record,
+        minutes: &[u16],
+        values: &[u16],
+        point: u16,
+        bandwidth: u32,
+    ) -> Result<Record, String> {
+        self.moved(&STEP, record, minutes, values, point, bandwidth)
+    }
+
+    pub fn turn(
+        &mut self,
+        record: Record,
+        minutes: &[u16],
+        values: &[u16],
+        point: u16,
+        bandwidth: u32,
+    ) -> Result<Record, String> {
+        self.moved(&TURN, record, minutes, values, point, bandwidth)
+    }
+
+    pub fn advance_wrong_length(
+        &mut self,
+        record_len: usize,
+        minutes: &[u16],
+        values: &[u16],
+        point: u16,
+        bandwidth: u32,
+    ) -> Result<(), String> {
+        self.moved_wrong_length(&STEP, record_len, minutes, values, point, bandwidth)
+    }
+
+    pub fn turn_wrong_length(
+        &mut self,
+        record_len: usize,
+        minutes: &[u16],
+        values: &[u16],
+        point: u16,
+        bandwidth: u32,
+    ) -> Result<(), String> {
+        self.moved_wrong_length(&TURN, record_len, minutes, values, point, bandwidth)
+    }
+
+    /// The row of a record, also through lists of other lengths than 9 and 5.
     pub fn row(
         &mut self,
         record: Record,
@@ -441,7 +531,7 @@ impl Calls {
         row_len: usize,
     ) -> Result<(), String> {
         let result = reference::record_row(record, point, bandwidth);
-        let fits = record_len == 8 && row_len == ROW_WIDTH;
+        let fits = record_len == RECORD && row_len == ROW_WIDTH;
         let answer = if fits { (0, 0) } else { WRONG_LENGTH };
         let cycle = numbers(record).into_iter().cycle();
         let held: Vec<u64> = cycle.take(record_len).collect();

@@ -164,6 +164,7 @@ fn valid_record(random: &mut Random, count: usize) -> Record {
         left: left as u64,
         right: right as u64,
         sums: some_sums(random),
+        passes: some_sums(random)[0],
     }
 }
 
@@ -193,8 +194,10 @@ pub fn advance(calls: &mut Calls) -> Found {
                             left,
                             right,
                             sums: some_sums(random),
+                            passes: some_sums(random)[0],
                         };
                         calls.advance(record, &minutes, values, point, bandwidth)?;
+                        calls.turn(record, &minutes, values, point, bandwidth)?;
                     }
                 }
             }
@@ -210,8 +213,10 @@ pub fn advance(calls: &mut Calls) -> Found {
                     left: 0,
                     right,
                     sums: some_sums(random),
+                    passes: some_sums(random)[0],
                 };
                 calls.advance(record, &minutes, &values, point, bandwidth)?;
+                calls.turn(record, &minutes, &values, point, bandwidth)?;
             }
         }
     }
@@ -239,6 +244,99 @@ pub fn advance(calls: &mut Calls) -> Found {
     Ok(())
 }
 
+/// Steps and turns over the same samples; the small and the large lists of the step are those of the turn too.
+pub fn turn(calls: &mut Calls) -> Found {
+    let random = &mut Random(12);
+    // Every set of the faults 8, 6, 4, 11, 9, also with a record of a wrong length.
+    for faults in 0..32 {
+        let count = if faults & 2 == 0 { 1024 } else { 1025 };
+        let mut minutes = LISTS.ordered_minutes(random, count);
+        if faults & 4 != 0 {
+            minutes[count - 1] = 0;
+            minutes[count - 2] = 1;
+        }
+        let values = LISTS.some_values(random, count - faults % 2);
+        let mut record = valid_record(random, 1024);
+        if faults & 8 != 0 {
+            record.left = record.right + 1;
+        }
+        let bandwidth = if faults & 16 == 0 { 65_536 } else { 65_537 };
+        calls.turn(record, &minutes, &values, 40_000, bandwidth)?;
+        for length in wrong_lengths(RECORD) {
+            calls.turn_wrong_length(length, &minutes, &values, 40_000, bandwidth)?;
+        }
+    }
+    for _ in 0..4_000 {
+        turns(calls, random)?;
+    }
+    for _ in 0..20_000 {
+        turn_of_any_origin(calls, random)?;
+    }
+    Ok(())
+}
+
+/// From a fresh record over ordered samples: after each accepted turn the record's edges and sums are those of
+/// a fresh one turned there, and its row is that of the question at one mark. From any valid record, what the
+/// second implementation says.
+fn turns(calls: &mut Calls, random: &mut Random) -> Found {
+    let count = sample_count(random);
+    let minutes = LISTS.ordered_minutes(random, count);
+    let values = LISTS.some_values(random, count);
+    let reached = random.chance(80);
+    let mut record = if reached {
+        Record::default()
+    } else {
+        valid_record(random, count)
+    };
+    for _ in 0..random.between(1, 12) {
+        let point = some_point(random, &minutes);
+        let mut bandwidth = LISTS.some_bandwidth(random, &minutes, point);
+        if random.chance(10) {
+            bandwidth = LISTS.bad_bandwidth(random);
+        }
+        if random.chance(30) {
+            record = calls.advance(record, &minutes, &values, point, bandwidth)?;
+            continue;
+        }
+        record = calls.turn(record, &minutes, &values, point, bandwidth)?;
+        let fresh = reference::turn(Record::default(), &minutes, &values, point, bandwidth);
+        if let (true, Ok(fresh)) = (reached, fresh) {
+            calls.row(record, point, bandwidth, RECORD, ROW_WIDTH)?;
+            let direct = reference::one_mark(&minutes, &values, point, bandwidth);
+            let same = Record {
+                passes: fresh.passes,
+                ..record
+            };
+            if same != fresh || direct != Ok(reference::record_row(record, point, bandwidth)) {
+                return Err(format!(
+                    "turn: {record:?} at {point}, {bandwidth} is not {fresh:?}, {direct:?}"
+                ));
+            }
+        }
+    }
+    Ok(())
+}
+
+fn turn_of_any_origin(calls: &mut Calls, random: &mut Random) -> Found {
+    let count = sample_count(random);
+    let mut minutes = LISTS.ordered_minutes(random, count);
+    let mut values = LISTS.some_values(random, count);
+    let point = some_point(random, &minutes);
+    let mut bandwidth = LISTS.some_bandwidth(random, &minutes, point);
+    if random.chance(10) {
+        LISTS.damage_samples(random, &mut minutes, &mut values);
+    }
+    if random.chance(10) {
+        bandwidth = LISTS.bad_bandwidth(random);
+    }
+    let mut record = valid_record(random, minutes.len());
+    if random.chance(15) {
+        damage_record(random, &mut record, minutes.len());
+    }
+    calls.turn(record, &minutes, &values, point, bandwidth)?;
+    Ok(())
+}
+
 /// Records of any origin and those of steps, at any point and with any bandwidth; where the record is that
 /// of the point's window, the row is also that of the question at one mark.
 pub fn row(calls: &mut Calls) -> Found {
@@ -248,6 +346,7 @@ pub fn row(calls: &mut Calls) -> Found {
             left: some_sums(random)[0],
             right: some_sums(random)[1],
             sums: some_sums(random),
+            passes: some_sums(random)[0],
         };
         let point = some_point(random, &[]);
         let bandwidth = match random.below(3) {
@@ -255,12 +354,12 @@ pub fn row(calls: &mut Calls) -> Found {
             1 => random.pick(&[0, 1, 65_535, 65_536, 65_537, u32::MAX - 1, u32::MAX]),
             _ => u32::from(point) + random.below(3) as u32,
         };
-        calls.row(record, point, bandwidth, 8, ROW_WIDTH)?;
+        calls.row(record, point, bandwidth, RECORD, ROW_WIDTH)?;
         if random.chance(2) {
-            let record_len = random.pick(&wrong_lengths(8));
+            let record_len = random.pick(&wrong_lengths(RECORD));
             let row_len = random.pick(&wrong_lengths(ROW_WIDTH));
             calls.row(record, point, bandwidth, record_len, ROW_WIDTH)?;
-            calls.row(record, point, bandwidth, 8, row_len)?;
+            calls.row(record, point, bandwidth, RECORD, row_len)?;
             calls.row(record, point, bandwidth, record_len, row_len)?;
         }
     }
@@ -272,7 +371,7 @@ pub fn row(calls: &mut Calls) -> Found {
         let mut record = Record::default();
         for (&point, &bandwidth) in points.iter().zip(&bandwidths) {
             record = calls.advance(record, &minutes, &values, point, bandwidth)?;
-            calls.row(record, point, bandwidth, 8, ROW_WIDTH)?;
+            calls.row(record, point, bandwidth, RECORD, ROW_WIDTH)?;
             let direct = reference::one_mark(&minutes, &values, point, bandwidth);
             if direct != Ok(reference::record_row(record, point, bandwidth)) {
                 return Err(format!(

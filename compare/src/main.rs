@@ -43,6 +43,7 @@ fn compare(calls: &mut Calls, examples: &Path) -> Result<(), String> {
     published(calls, examples)?;
     cases::evaluate_and_window(calls)?;
     cases::advance(calls)?;
+    cases::turn(calls)?;
     cases::row(calls)?;
     cases::smooth(calls)?;
     cases::preview(calls)?;

@@ -36,7 +36,7 @@ fn plain_read(read: Reader, input: &Input, lent: &mut Buffers) -> u64 {
 }
 
 /// Every contestant answers what the proved call returns: detail and number as one number.
-pub static CALLS: [Contestant; 9] = [
+pub static CALLS: [Contestant; 11] = [
     Contestant {
         name: "tankcurve_smooth",
         call: |input, lent| {
@@ -107,7 +107,29 @@ pub static CALLS: [Contestant; 9] = [
             length.map_or_else(|refusal| refusal.code(), |n| DETAIL_UNIT * n as u64)
         },
     },
+    Contestant {
+        name: "tankcurve_turn",
+        call: |input, _| turned(input, 27_189),
+    },
+    Contestant {
+        name: "tankcurve_turn, refused with 9",
+        call: |input, _| turned(input, 0),
+    },
 ];
+
+/// A record of positions 12 up to 1,012 of the full input, turned to the mark in the middle: with half width 27,189
+/// both edges go out by four positions, and 1,008 readings are in the window.
+fn turned(input: &Input, bandwidth: u32) -> u64 {
+    let mut record = [12, 1012, 0, 0, 0, 0, 0, 0, 0];
+    let answer = slices::turn(
+        &mut record,
+        &input.minutes,
+        &input.values,
+        37_621,
+        bandwidth,
+    );
+    answer + DETAIL_UNIT * record[8]
+}
 
 pub fn called(name: &str) -> &'static Contestant {
     CALLS

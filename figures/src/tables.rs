@@ -107,6 +107,37 @@ fn beside_rust(program: &str, plain: &str, full: &Input) -> Result<(), String> {
     Ok(())
 }
 
+/// A turn beside one that is refused after the order check and has moved nothing.
+fn turn(full: &Input) -> Result<(), String> {
+    let names = ["tankcurve_turn", "tankcurve_turn, refused with 9"];
+    let timed = times(&[(called(names[0]), full), (called(names[1]), full)]);
+    let counts = [
+        instructions(names[0], 1, BANDWIDTH)?,
+        instructions(names[1], 1, BANDWIDTH)?,
+    ];
+    println!("\n### The turn\n");
+    println!(
+        "A record of 1,000 of 1,024 readings, turned to a window that has four more on each side, beside the same turn with
+half width 0, which is refused with 9 once the order of the minutes has been looked at.
+"
+    );
+    println!("| what | least time | instructions | ratio, instructions | goal |");
+    println!("|---|---|---|---|---|");
+    let ratio = counts[0] as f64 / counts[1] as f64;
+    println!(
+        "| refused with 9 | {} | {} | 1.000 | |",
+        micros(least(&timed[1])),
+        grouped(counts[1])
+    );
+    println!(
+        "| over 8 positions | {} | {} | {ratio:.3} | at most 1.1: {} |",
+        micros(least(&timed[0])),
+        grouped(counts[0]),
+        if ratio <= 1.1 { "met" } else { "not met" }
+    );
+    Ok(())
+}
+
 fn beside_direct_sums() -> Result<(), String> {
     println!("\n### The sweep beside direct evaluation\n");
     println!(
@@ -278,6 +309,7 @@ all, the loader's too.
     beside_rust(program, plain, full)?;
     searches()?;
     beside_direct_sums()?;
+    turn(full)?;
     growth(&parts)
 }
 

@@ -59,10 +59,10 @@ extern "C" {
 #endif
 
 /*
- * The version that this header belongs to, 1.2.0: major * 65536 + minor * 256 + patch. tankcurve_version gives that of the archive. What is
- * counted by it stands in link/abi-1.2.0.
+ * The version that this header belongs to, 2.0.0: major * 65536 + minor * 256 + patch. tankcurve_version gives that of the archive. What is
+ * counted by it stands in link/abi-2.0.0.
  */
-#define TANKCURVE_VERSION 0x010200
+#define TANKCURVE_VERSION 0x020000
 
 /* The lengths and limits. */
 #define TANKCURVE_MAX_SAMPLES 1024 /* samples ("readings") in a list, and the length of the reader's lists of them */
@@ -73,7 +73,7 @@ extern "C" {
 #define TANKCURVE_MAX_OUTPUT 31291 /* bytes of a text; the length of every out */
 #define TANKCURVE_ROW_LEN 5        /* enum tankcurve_row_field: left, right, weight, sum, value */
 #define TANKCURVE_BOUNDS_LEN 2     /* left, right, as in a row */
-#define TANKCURVE_RECORD_LEN 8     /* enum tankcurve_record_field: left, right, s00, s10, s20, s01, s11, s21 */
+#define TANKCURVE_RECORD_LEN 9     /* enum tankcurve_record_field: left, right, s00, s10, s20, s01, s11, s21, passes */
 #define TANKCURVE_COUNTS_LEN 2     /* enum tankcurve_counts_field: samples, points */
 
 /* Where a field stands in its list: row[TANKCURVE_ROW_VALUE]; that of row k of a sweep is rows[TANKCURVE_ROW_LEN * k + TANKCURVE_ROW_VALUE]. */
@@ -92,7 +92,8 @@ enum tankcurve_record_field {
     TANKCURVE_RECORD_S20 = 4,
     TANKCURVE_RECORD_S01 = 5,
     TANKCURVE_RECORD_S11 = 6,
-    TANKCURVE_RECORD_S21 = 7
+    TANKCURVE_RECORD_S21 = 7,
+    TANKCURVE_RECORD_PASSES = 8
 };
 enum tankcurve_counts_field {
     TANKCURVE_COUNTS_SAMPLES = 0,
@@ -221,9 +222,10 @@ uint64_t tankcurve_window(const uint16_t *minutes, size_t minutes_len, const uin
                           uint32_t bandwidth, uint64_t *bounds, size_t bounds_len);
 
 /*
- * Moves a running record to the next point ("a step") [The running record and the book]. record: 8 numbers, read and written: left, right,
- * and six sums s00, s10, s20, s01, s11, s21, spq that of minute^p * value^q, modulo 2^64. A fresh record is all zero. The step moves right
- * and then left, never back, adds the samples that right has reached and subtracts those that left has passed. From a fresh record, over the
+ * Moves a running record to the next point ("a step") [The running record and the book]. record: 9 numbers, read and written: left, right,
+ * six sums s00, s10, s20, s01, s11, s21, spq that of minute^p * value^q, and the passes, how far both edges have gone; sums and passes
+ * modulo 2^64. A fresh record is all zero. The step moves right and then left, never back, adds the samples that right has reached and
+ * subtracts those that left has passed. From a fresh record, over the
  * same ordered minutes and with no accepted step whose edges lie back, the sums are those over the run of the last accepted point; of another
  * record only what was added and subtracted is said. The order of the minutes and of the edges is not looked at. Detail 0. Reports: 8
  * (minutes and values differ in length, or record has another length), 6, 11, 9.
@@ -233,12 +235,24 @@ uint64_t tankcurve_advance(uint64_t *record, size_t record_len, const uint16_t *
                            size_t values_len, uint16_t point, uint32_t bandwidth);
 
 /*
- * The row of a running record ("the row of a record") at one point z with bandwidth h [The running record and the book]. record: 8 numbers of
+ * Turns a running record to any point and bandwidth ("the turn"), forth or back [The turn]. record: 9 numbers, read and written, as those of
+ * tankcurve_advance. left and right become those of the window's row; the sums gain those over the new run and lose those over the old one,
+ * and the passes gain the distances of both edges, all modulo 2^64. From a record that steps and turns over the same minutes and values have
+ * led to, beginning with a fresh one, the sums are then those over the new run, and tankcurve_row at that point and bandwidth gives the row
+ * of tankcurve_evaluate. Detail 0. Reports: 8 (minutes and values differ in length, or record has another length), 6, 4 at the lowest
+ * position whose minute is below the one before, 11, 9.
+ */
+TANKCURVE_ANSWER
+uint64_t tankcurve_turn(uint64_t *record, size_t record_len, const uint16_t *minutes, size_t minutes_len, const uint16_t *values,
+                        size_t values_len, uint16_t point, uint32_t bandwidth);
+
+/*
+ * The row of a running record ("the row of a record") at one point z with bandwidth h [The running record and the book]. record: 9 numbers of
  * any origin, which are read; row: 5 numbers. left and right are the record's; weight: (h^2 - z^2) * s00 + 2 * z * s10 - s20, and sum the same
  * of s01, s11 and s21, both modulo 2^64; value: sum / weight to the nearest whole number, a half to the even neighbour, or TANKCURVE_MISSING if
  * weight is 0.
  *
- * WARNING: pass the point and bandwidth of the last accepted step; at others the row may look like a good one with value 0 or 1. Where the
+ * WARNING: pass the point and bandwidth of the last accepted step or turn; at others the row may look like a good one with value 0 or 1. Where the
  * record has the edges and sums of the window of z and h, as after an accepted tankcurve_advance at z with h from a fresh record, over the same
  * ordered minutes and with no edge back, it is the row of tankcurve_evaluate, and a value that is present is at most 65,535. Of any other
  * record, and at any other point or bandwidth, it may have all 64 bits: ask tankcurve_of_readings before it goes into a smaller type, which

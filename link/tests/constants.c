@@ -208,7 +208,7 @@ static void missing(void)
 static void fields(void)
 {
     const uint16_t at[] = {3, 8, 8, 15, 21, 40}, of[] = {5, 7, 11, 13, 29, 31};
-    uint64_t row[TANKCURVE_ROW_LEN], record[TANKCURVE_RECORD_LEN] = {0, 3, 100, 200, 300, 400, 500, UINT64_MAX};
+    uint64_t row[TANKCURVE_ROW_LEN], record[TANKCURVE_RECORD_LEN] = {0, 3, 100, 200, 300, 400, 500, UINT64_MAX, 40};
     gives("fields of a row", tankcurve_evaluate(at, 6, of, 6, 14, 7, row, TANKCURVE_ROW_LEN), TANKCURVE_ACCEPTED, 0);
     same("left", row[TANKCURVE_ROW_LEFT], 1);
     same("right", row[TANKCURVE_ROW_RIGHT], 5);
@@ -224,6 +224,7 @@ static void fields(void)
     same("s01", record[TANKCURVE_RECORD_S01], 437);
     same("s11", record[TANKCURVE_RECORD_S11], 1289);
     same("s21", record[TANKCURVE_RECORD_S21], 15668);
+    same("passes", record[TANKCURVE_RECORD_PASSES], 43);
     gives("fields of counts", read_sheet("mark,half\n5,2\n6,2\n\nminute,inj,vdk\n1,3,1\n2,1,1\n3,3,1\n4,3,1\n"), TANKCURVE_ACCEPTED, 0);
     same("samples", numbers[TANKCURVE_COUNTS_SAMPLES], 3);
     same("points", numbers[TANKCURVE_COUNTS_POINTS], 2);

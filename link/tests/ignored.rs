@@ -8,7 +8,8 @@ pub fn ignored(shorts: &mut [u16], words: &mut [u32], numbers: &mut [u64], bytes
     tankcurve::slices::evaluate(&[], &[], 0, 1, numbers);
     tankcurve::slices::window(&[], &[], 0, 1, numbers);
     tankcurve::slices::advance(numbers, &[], &[], 0, 1);
-    tankcurve::slices::row(&[0; 8], 0, 1, numbers);
+    tankcurve::slices::turn(numbers, &[], &[], 0, 1);
+    tankcurve::slices::row(&[0; 9], 0, 1, numbers);
     tankcurve::slices::smooth(&[], &[], &[0], &[1], numbers);
     tankcurve::slices::preview(&[], &[], &[0], &[1], numbers);
     tankcurve::slices::fill(0, 0, 0, shorts, words);

@@ -100,11 +100,11 @@ static void window(void)
 
 static void advance(void)
 {
-    const uint64_t before[] = {0, 3, 100, 200, 300, 400, 500, UINT64_MAX, 90};
-    const uint64_t after[] = {1, 5, 101, 233, 957, 437, 1289, 15668, 90};
-    const uint64_t crossed[] = {3, 1, 0, 0, 0, 0, 0, 0};
-    uint64_t record[TANKCURVE_RECORD_LEN + 1] = {0, 3, 100, 200, 300, 400, 500, UINT64_MAX, 90};
-    uint64_t other[TANKCURVE_RECORD_LEN] = {3, 1, 0, 0, 0, 0, 0, 0};
+    const uint64_t before[] = {0, 3, 100, 200, 300, 400, 500, UINT64_MAX, 40, 90};
+    const uint64_t after[] = {1, 5, 101, 233, 957, 437, 1289, 15668, 43, 90};
+    const uint64_t crossed[] = {3, 1, 0, 0, 0, 0, 0, 0, 0};
+    uint64_t record[TANKCURVE_RECORD_LEN + 1] = {0, 3, 100, 200, 300, 400, 500, UINT64_MAX, 40, 90};
+    uint64_t other[TANKCURVE_RECORD_LEN] = {3, 1, 0, 0, 0, 0, 0, 0, 0};
     same("advance, bandwidth 0", tankcurve_advance(record, TANKCURVE_RECORD_LEN, minutes, SAMPLES, values, SAMPLES, 16, 0),
          TANKCURVE_BANDWIDTH_OUT_OF_RANGE);
     same("advance, one value less", tankcurve_advance(record, TANKCURVE_RECORD_LEN, minutes, SAMPLES, values, SAMPLES - 1, 16, 8),
@@ -117,6 +117,33 @@ static void advance(void)
     same_list("advance, the crossed record", other, crossed, sizeof crossed);
     same("advance", tankcurve_advance(record, TANKCURVE_RECORD_LEN, minutes, SAMPLES, values, SAMPLES, 16, 8), 0);
     same_list("advance, record", record, after, sizeof after);
+}
+
+/* Forth as the step goes, and back, which no step does. */
+static void turn(void)
+{
+    const uint64_t before[] = {0, 3, 100, 200, 300, 400, 500, UINT64_MAX, 40, 90};
+    const uint64_t after[] = {1, 5, 101, 233, 957, 437, 1289, 15668, 43, 90};
+    const uint64_t back[] = {0, 3, 100, 200, 300, 400, 500, UINT64_MAX, 46, 90};
+    const uint64_t crossed[] = {3, 1, 0, 0, 0, 0, 0, 0, 0};
+    uint64_t record[TANKCURVE_RECORD_LEN + 1] = {0, 3, 100, 200, 300, 400, 500, UINT64_MAX, 40, 90};
+    uint64_t other[TANKCURVE_RECORD_LEN] = {3, 1, 0, 0, 0, 0, 0, 0, 0};
+    same("turn, bandwidth 0", tankcurve_turn(record, TANKCURVE_RECORD_LEN, minutes, SAMPLES, values, SAMPLES, 16, 0),
+         TANKCURVE_BANDWIDTH_OUT_OF_RANGE);
+    same("turn, minutes that fall", tankcurve_turn(record, TANKCURVE_RECORD_LEN, falling, SAMPLES, values, SAMPLES, 16, 0),
+         TANKCURVE_DETAIL_UNIT * 4 + TANKCURVE_SAMPLE_OUT_OF_ORDER);
+    same("turn, one value less", tankcurve_turn(record, TANKCURVE_RECORD_LEN, minutes, SAMPLES, values, SAMPLES - 1, 16, 8),
+         TANKCURVE_LENGTH_MISMATCH);
+    same("turn, a longer record", tankcurve_turn(record, TANKCURVE_RECORD_LEN + 1, minutes, SAMPLES, values, SAMPLES, 16, 8),
+         TANKCURVE_LENGTH_MISMATCH);
+    same_list("turn, record of a refusal", record, before, sizeof before);
+    same("turn, a crossed record", tankcurve_turn(other, TANKCURVE_RECORD_LEN, minutes, SAMPLES, values, SAMPLES, 16, 8),
+         TANKCURVE_INVALID_RECORD);
+    same_list("turn, the crossed record", other, crossed, sizeof crossed);
+    same("turn", tankcurve_turn(record, TANKCURVE_RECORD_LEN, minutes, SAMPLES, values, SAMPLES, 16, 8), 0);
+    same_list("turn, record", record, after, sizeof after);
+    same("turn, back", tankcurve_turn(record, TANKCURVE_RECORD_LEN, minutes, SAMPLES, values, SAMPLES, 8, 5), 0);
+    same_list("turn, record back", record, back, sizeof back);
 }
 
 static void smooth(void)
@@ -145,9 +172,9 @@ static void row_of_a_record(void)
 {
     const uint64_t before[] = {90, 91, 92, 93, 94, 95};
     const uint64_t of_window[] = {1, 5, 74, 858, 12, 95};
-    const uint64_t foreign[TANKCURVE_RECORD_LEN + 1] = {3, 7, 100, 200, 300, 400, 500, 9, 8};
+    const uint64_t foreign[TANKCURVE_RECORD_LEN + 1] = {3, 7, 100, 200, 300, 400, 500, 9, 2, 8};
     const uint64_t of_foreign[] = {3, 7, 20500, 73591, 4, 95};
-    const uint64_t wrapping[TANKCURVE_RECORD_LEN] = {3, 7, 2, 0, 0, UINT64_MAX, 0, 0};
+    const uint64_t wrapping[TANKCURVE_RECORD_LEN] = {3, 7, 2, 0, 0, UINT64_MAX, 0, 0, 0};
     const uint64_t of_wrapping[] = {3, 7, 2, UINT64_MAX, UINT64_C(9223372036854775808), 95};
     uint64_t record[TANKCURVE_RECORD_LEN] = {0};
     uint64_t row[TANKCURVE_ROW_LEN + 1] = {90, 91, 92, 93, 94, 95};
@@ -169,7 +196,7 @@ static void widths(void)
     const uint32_t h = TANKCURVE_MAX_BANDWIDTH, greatest = UINT32_MAX, preset = 65536 + 4;
     const uint64_t whole_row[] = {0, 6, 25769802857, 412316836773, 16};
     const uint64_t whole_bounds[] = {0, 6};
-    const uint64_t whole_record[] = {0, 6, 6, 95, 2403, 96, 2203, 66511};
+    const uint64_t whole_record[] = {0, 6, 6, 95, 2403, 96, 2203, 66511, 6};
     const uint64_t foreign[TANKCURVE_RECORD_LEN] = {3, 7, 100, 200, 300, 400, 500, 9};
     const uint64_t of_greatest[] = {3, 7, UINT64_C(18446743214716073016), UINT64_C(18446740637735628807), 1};
     uint64_t row[TANKCURVE_ROW_LEN], bounds[TANKCURVE_BOUNDS_LEN], record[TANKCURVE_RECORD_LEN] = {0};
@@ -181,6 +208,8 @@ static void widths(void)
     same_list("window, bounds of the greatest bandwidth", bounds, whole_bounds, sizeof whole_bounds);
     same("advance, the greatest bandwidth", tankcurve_advance(record, TANKCURVE_RECORD_LEN, minutes, SAMPLES, values, SAMPLES, 14, h), 0);
     same_list("advance, record of the greatest bandwidth", record, whole_record, sizeof whole_record);
+    same("turn, the greatest bandwidth", tankcurve_turn(record, TANKCURVE_RECORD_LEN, minutes, SAMPLES, values, SAMPLES, 14, h), 0);
+    same_list("turn, record of the greatest bandwidth", record, whole_record, sizeof whole_record);
     same("row, a bandwidth of 32 bits", tankcurve_row(foreign, TANKCURVE_RECORD_LEN, 16, greatest, row, TANKCURVE_ROW_LEN), 0);
     same_list("row, row of a bandwidth of 32 bits", row, of_greatest, sizeof of_greatest);
     same("fill, a preset of 17 bits", tankcurve_fill(100, 7, preset, points, 1, bandwidths, 1), TANKCURVE_UNKNOWN_PRESET);
@@ -350,6 +379,7 @@ int main(void)
     empty_lists();
     window();
     advance();
+    turn();
     smooth();
     preview();
     row_of_a_record();

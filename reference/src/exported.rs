@@ -9,8 +9,8 @@ pub const DETAIL_UNIT: u64 = 256;
 /// The numbers of a run's bounds, left and right.
 pub const BOUNDS: usize = 2;
 
-/// The numbers of a record: left, right and the six sums.
-pub const RECORD: usize = 8;
+/// The numbers of a record: left, right, the six sums and the passes.
+pub const RECORD: usize = 9;
 
 /// The numbers of the reader's counts: kept readings and marks.
 pub const COUNTS: usize = 2;

@@ -50,12 +50,14 @@ pub struct Refusal {
 
 /// The running record; the default one is fresh. The sums are three of 1,
 /// minute and squared minute, then three of the same, each times its reading's
-/// value [The running record and the book].
+/// value; the passes are how far both edges have gone, either way [The running
+/// record and the book].
 #[derive(Clone, Copy, Debug, Default, PartialEq, Eq)]
 pub struct Record {
     pub left: u64,
     pub right: u64,
     pub sums: [u64; 6],
+    pub passes: u64,
 }
 
 fn refuse<T>(number: u8, place: usize) -> Result<T, Refusal> {
@@ -237,17 +239,58 @@ pub fn step(
     // out.
     let taken = six_sums(minutes, values, old_right, right);
     let gone = six_sums(minutes, values, old_left, left);
+    Ok(moved(record, left, right, taken, gone))
+}
+
+/// A record with other edges, with some sums more and some less, and with the
+/// way of both edges in its passes; sums and passes are remainders modulo 2^64.
+fn moved(record: Record, left: usize, right: usize, more: [i128; 6], less: [i128; 6]) -> Record {
+    let remainder = |exact: i128| exact.rem_euclid(1i128 << 64) as u64;
+    let way = |from: u64, to: usize| (to as i128 - i128::from(from)).abs();
     let mut sums = [0u64; 6];
     for k in 0..6 {
-        let exact = i128::from(record.sums[k]) + taken[k] - gone[k];
-        sums[k] = exact.rem_euclid(1i128 << 64) as u64;
+        sums[k] = remainder(i128::from(record.sums[k]) + more[k] - less[k]);
     }
-
-    Ok(Record {
+    let travelled = way(record.left, left) + way(record.right, right);
+    Record {
         left: left as u64,
         right: right as u64,
         sums,
-    })
+        passes: remainder(i128::from(record.passes) + travelled),
+    }
+}
+
+/// The record turned to any mark and half width: its edges become those of the
+/// row there, forth or back, and its sums gain those over the new run and lose
+/// those over the old; or the first of the reports 8, 6, 4, 11 and 9 that holds
+/// [The turn].
+pub fn turn(
+    record: Record,
+    minutes: &[u16],
+    values: &[u16],
+    mark: u16,
+    half: u32,
+) -> Result<Record, Refusal> {
+    if minutes.len() != values.len() {
+        return refuse(8, 0);
+    }
+    if minutes.len() > MOST_READINGS {
+        return refuse(6, 0);
+    }
+    if let Some(position) = first_fall(minutes) {
+        return refuse(4, position);
+    }
+    if record.left > record.right || record.right > minutes.len() as u64 {
+        return refuse(11, 0);
+    }
+    if half_is_bad(half) {
+        return refuse(9, 0);
+    }
+    let five = row(minutes, values, mark, half);
+    let (left, right) = (five[0] as usize, five[1] as usize);
+    let inside = six_sums(minutes, values, left, right);
+    let outside = six_sums(minutes, values, record.left as usize, record.right as usize);
+    Ok(moved(record, left, right, inside, outside))
 }
 
 /// The row of a record of any origin at a mark with a half width, both any

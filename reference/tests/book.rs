@@ -113,6 +113,7 @@ fn steps_and_book() {
             assert_eq!(record.right, book.taken.len() as u64);
             assert_eq!(record.left, book.gone.len() as u64);
             assert_eq!(record.sums, sums);
+            assert_eq!(record.passes, record.right + record.left);
             let passed = |from: u64, to: u64| (from as usize..to as usize).collect::<Vec<_>>();
             assert_eq!(passed(before.right, record.right), book.taken[taken..]);
             assert_eq!(passed(before.left, record.left), book.gone[gone..]);
@@ -157,6 +158,7 @@ fn sweep_and_steps_and_rows() {
         }
         assert_eq!(passes, (book.taken.len() + book.gone.len()) as u64);
         assert_eq!(passes, record.right + record.left);
+        assert_eq!(passes, record.passes);
         assert!(passes <= 2 * minutes.len() as u64);
     }
 }

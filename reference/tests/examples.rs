@@ -114,6 +114,7 @@ fn c9_jumped_over() {
         left: 1,
         right: 1,
         sums: [0; 6],
+        passes: 2,
     };
     assert_eq!(second, gone);
 }

@@ -52,6 +52,7 @@ fn record(left: u64, right: u64) -> Record {
         left,
         right,
         sums: [5; 6],
+        passes: 0,
     }
 }
 
@@ -103,17 +104,21 @@ fn step_sums_wrap() {
         left: 0,
         right: 0,
         sums: [u64::MAX; 6],
+        passes: u64::MAX,
     };
     let up = step(full, &[2], &[3], 2, 1).unwrap();
     assert_eq!((up.left, up.right), (0, 1));
     assert_eq!(up.sums, [0, 1, 3, 2, 5, 11]);
+    assert_eq!(up.passes, 0);
     let empty = Record {
         left: 0,
         right: 1,
         sums: [0; 6],
+        passes: 0,
     };
     let down = step(empty, &[2], &[3], 9, 1).unwrap();
     assert_eq!((down.left, down.right), (1, 1));
+    assert_eq!(down.passes, 1);
     let less = |n: u64| 0u64.wrapping_sub(n);
     assert_eq!(
         down.sums,

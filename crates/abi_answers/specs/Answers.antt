@@ -40,7 +40,7 @@ count-numbers c = c .samples ∷ c .points ∷ []
 
 -- how many numbers a running record has
 abbrev pub record-length : ℕ
-record-length = 8
+record-length = 9
 
 -- a running record as these numbers, and back
 abbrev pub record-numbers : RunningSums → List ℕ
@@ -53,6 +53,7 @@ record-numbers r =
     ∷ r .sums .s01
     ∷ r .sums .s11
     ∷ r .sums .s21
+    ∷ r .passes
     ∷ []
 
 abbrev pub record-of : List ℕ → RunningSums
@@ -67,6 +68,7 @@ record-of xs = record {
     s11 = getD xs 6 0;
     s21 = getD xs 7 0;
   };
+  passes = getD xs 8 0;
 }
 
 -- the record of a list of so many numbers, a fresh one of another list

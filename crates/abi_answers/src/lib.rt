@@ -15,7 +15,7 @@ ghost use Rattle.meanings.specs.Codes.{code};
 ghost use Rattle.abi_answers.specs.Answers.{short, replaced, record-numbers, record-in};
 
 // How many numbers a running record has: record-length of specs/Answers.antt.
-pub const RECORD_LENGTH: usize = 8;
+pub const RECORD_LENGTH: usize = 9;
 
 // Places that a code can hold lie below this: place-limit of specs/Answers.antt, 2^56.
 pub const PLACE_LIMIT: u64 = 72057594037927936;
@@ -70,6 +70,7 @@ pub fn put_record(out: &mut [u64], running: RunningSums)
     out[5] = running.sums.s01;
     out[6] = running.sums.s11;
     out[7] = running.sums.s21;
+    out[8] = running.passes;
 }
 
 // The running record of so many numbers; a fresh one of a list of another length.
@@ -88,6 +89,7 @@ pub fn record_of(numbers: &[u64]) -> RunningSums
                 s11: 0,
                 s21: 0,
             },
+            passes: 0,
         };
     }
     RunningSums {
@@ -101,5 +103,6 @@ pub fn record_of(numbers: &[u64]) -> RunningSums
             s11: numbers[6],
             s21: numbers[7],
         },
+        passes: numbers[8],
     }
 }

@@ -17,7 +17,8 @@ ghost use Rattle.meanings.specs.Running.{advance as advance-meaning, record-row
 ghost use Rattle.meanings.specs.Codes.{answered, no-detail};
 ghost use Rattle.abi_answers.specs.Answers.{sized, stored, record-length, record-numbers, record-of as record-meaning};
 
-// The single step. running: eight numbers of any origin, left, right and the six sums s00, s10, s20, s01, s11, s21.
+// The single step. running: nine numbers of any origin, left, right, the six sums s00, s10, s20, s01, s11, s21, and the
+// passes.
 #[no_mangle]
 pub extern "C" fn tankcurve_advance(
     running: &mut [u64],
@@ -41,7 +42,7 @@ pub extern "C" fn tankcurve_advance(
     }
 }
 
-// The row that a running record gives at a mark. running: eight numbers of any origin; row: five numbers. Every half width is taken.
+// The row that a running record gives at a mark. running: nine numbers of any origin; row: five numbers. Every half width is taken.
 #[no_mangle]
 pub extern "C" fn tankcurve_row(running: &[u64], point: u16, bandwidth: u32, row: &mut [u64]) -> u64
     ensures { λ r. ⌜ r ≡ answered no-detail (sized record-length (now (running .entry)) (sized row-width (now (row .entry)) (given (record-row (record-meaning (now (running .entry))) point bandwidth)))) ⌝ }

@@ -1,4 +1,5 @@
 pub mod OneSample
 pub mod Products
 pub mod Quotients
+pub mod TwoSums
 pub mod Wrapping

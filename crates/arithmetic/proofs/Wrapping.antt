@@ -14,7 +14,7 @@ pub plus-plus : (w a b c : ℕ) → plus w (plus w a b) c ≡ plus w a (b + c)
 plus-plus w a b c = mod-add-mod (a + b) (2 ^ w) c ∙ rw add-assoc
 
 -- b and what b lacks of 2^w, added
-plus-full-turn : (w a b : ℕ) → (a + b + (2 ^ w - b % 2 ^ w)) % 2 ^ w ≡ a % 2 ^ w
+pub plus-full-turn : (w a b : ℕ) → (a + b + (2 ^ w - b % 2 ^ w)) % 2 ^ w ≡ a % 2 ^ w
 plus-full-turn w a b =
     let turn : a + b % 2 ^ w + (2 ^ w - b % 2 ^ w) ≡ a + 2 ^ w = omega (arith, mod-lt b (pow-pos w)) in
     sym (mod-add-mod (a + b) (2 ^ w) _) ∙ rw (← (add-mod-mod a b (2 ^ w)), mod-add-mod, turn) (add-mod-right a (2 ^ w))

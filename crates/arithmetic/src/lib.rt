@@ -1,8 +1,9 @@
-// The estimator's arithmetic on single numbers: the six running sums with one reading more or less, kept modulo 2^64, the weight or sum that
-// three of them give, a row's value, and the least minute of a window. Every function takes every input.
+// The estimator's arithmetic on single numbers: the six running sums with one reading more or less, and the passes with the way of an edge,
+// kept modulo 2^64, the weight or sum that three of the sums give, a row's value, and the least minute of a window. Every function takes every input.
 use meanings::PowerSums;
 ghost use mathlib.Core.Path.{_≡_};
 ghost use Prim.Native.Nat.{_-_, _*_, _%_, _^_};
+ghost use Rattle.meanings.specs.Lists.{distance};
 ghost use Rattle.meanings.specs.Estimate.{value-of};
 ghost use Rattle.meanings.specs.Running.{six, sum-at, plus, minus, combined};
 
@@ -55,6 +56,30 @@ pub fn minus_sample(s: PowerSums, time: u16, value: u16) -> PowerSums
         s11: std::num::wrapping_sub_u64(s.s11, t * v),
         s21: std::num::wrapping_sub_u64(s.s21, tt * v),
     }
+}
+
+// Six sums with six others less.
+pub fn minus_sums(s: PowerSums, less: PowerSums) -> PowerSums
+    ensures { λ r. ⌜ r ≡ six (λ p q. minus 64 (sum-at s p q) (sum-at less p q)) ⌝ }
+{
+    PowerSums {
+        s00: std::num::wrapping_sub_u64(s.s00, less.s00),
+        s10: std::num::wrapping_sub_u64(s.s10, less.s10),
+        s20: std::num::wrapping_sub_u64(s.s20, less.s20),
+        s01: std::num::wrapping_sub_u64(s.s01, less.s01),
+        s11: std::num::wrapping_sub_u64(s.s11, less.s11),
+        s21: std::num::wrapping_sub_u64(s.s21, less.s21),
+    }
+}
+
+// Passes with the way of one edge more, forth or back, modulo 2^64.
+pub fn plus_travel(passes: u64, from: usize, to: usize) -> u64
+    ensures { λ r. ⌜ r ≡ plus 64 passes (distance from to) ⌝ }
+{
+    if from < to {
+        return std::num::wrapping_add_u64(passes, (to - from) as u64);
+    }
+    std::num::wrapping_add_u64(passes, (from - to) as u64)
 }
 
 // k × s modulo 2^64. There is no product that wraps, so the halves of s are multiplied one by one: of the upper half's product only the lower

@@ -12,8 +12,8 @@ use Rattle.meanings.specs.declared.Verdict.the-variants.{Fit, Faulty}
 use Rattle.meanings.specs.declared.Found.{Found}
 use Rattle.meanings.specs.declared.Found.the-variants.{At, Nothing}
 use Rattle.meanings.specs.Lists.{lowest}
-use Rattle.meanings.specs.Reports.{Fault, fault-of, verdict-fault, found-position, first-of, decreases, size-checks, sample-order-checks, series-checks}
-use Rattle.meanings.specs.Reports.{record-checks, bandwidth-checks, evaluate-checks, advance-checks}
+use Rattle.meanings.specs.Reports.{Check, Fault, fault-of, verdict-fault, found-position, first-of, decreases, size-checks, sample-order-checks, series-checks}
+use Rattle.meanings.specs.Reports.{record-checks, bandwidth-checks, evaluate-checks, advance-checks, turn-checks}
 use Rattle.meanings.proofs.Checks.{found-in-front, found-none-in-front, found-behind}
 
 module _ (L : Limits) (ts vs : List ℕ) {v : Verdict} (e : verdict-fault v ≡ first-of (size-checks L ts vs)) where
@@ -37,16 +37,42 @@ module _ (L : Limits) (ts vs : List ℕ) (h : ℕ) {v : Verdict} (e : verdict-fa
   pub evaluate-bandwidth : {o : Option Fault} → v ≡ Fit → o ≡ first-of (bandwidth-checks h) → o ≡ first-of (evaluate-checks L ts vs h)
   evaluate-bandwidth {o} q b = found-behind (series-checks L ts vs) (bandwidth-checks h) v o e q b
 
+-- checks of the readings in front of those of a record and a half width
+module _ (front : List Check) (n l r h : ℕ) {v : Verdict} (e : verdict-fault v ≡ first-of front) where
+  readings-decide : {x : Refusal} → v ≡ Faulty x → some (fault-of x) ≡ first-of (front ++ (record-checks n l r ++ bandwidth-checks h))
+  readings-decide {x} q = found-in-front front (record-checks n l r ++ bandwidth-checks h) v x e q
+
+  after-readings : v ≡ Fit → first-of (front ++ (record-checks n l r ++ bandwidth-checks h)) ≡ first-of (record-checks n l r ++ bandwidth-checks h)
+  after-readings q = found-none-in-front front (record-checks n l r ++ bandwidth-checks h) v e q
+
+  module _ (q : v ≡ Fit) {u : Verdict} (d : verdict-fault u ≡ first-of (record-checks n l r)) where
+    record-decides : {x : Refusal} → u ≡ Faulty x → some (fault-of x) ≡ first-of (front ++ (record-checks n l r ++ bandwidth-checks h))
+    record-decides {x} p = found-in-front (record-checks n l r) (bandwidth-checks h) u x d p ∙ sym (after-readings q)
+
+    bandwidth-decides : {o : Option Fault} → u ≡ Fit → o ≡ first-of (bandwidth-checks h)
+        → o ≡ first-of (front ++ (record-checks n l r ++ bandwidth-checks h))
+    bandwidth-decides {o} p b = found-behind (record-checks n l r) (bandwidth-checks h) u o d p b ∙ sym (after-readings q)
+
+-- the step has the sizes in front
 module _ (L : Limits) (ts vs : List ℕ) (l r h : ℕ) {v : Verdict} (e : verdict-fault v ≡ first-of (size-checks L ts vs)) where
   pub advance-sizes : {x : Refusal} → v ≡ Faulty x → some (fault-of x) ≡ first-of (advance-checks L ts vs l r h)
-  advance-sizes {x} q = found-in-front (size-checks L ts vs) (record-checks (length ts) l r ++ bandwidth-checks h) v x e q
-
-  after-sizes : v ≡ Fit → first-of (advance-checks L ts vs l r h) ≡ first-of (record-checks (length ts) l r ++ bandwidth-checks h)
-  after-sizes q = found-none-in-front (size-checks L ts vs) (record-checks (length ts) l r ++ bandwidth-checks h) v e q
+  advance-sizes = readings-decide (size-checks L ts vs) (length ts) l r h e
 
   module _ (q : v ≡ Fit) {u : Verdict} (d : verdict-fault u ≡ first-of (record-checks (length ts) l r)) where
     pub advance-record : {x : Refusal} → u ≡ Faulty x → some (fault-of x) ≡ first-of (advance-checks L ts vs l r h)
-    advance-record {x} p = found-in-front (record-checks (length ts) l r) (bandwidth-checks h) u x d p ∙ sym (after-sizes q)
+    advance-record = record-decides (size-checks L ts vs) (length ts) l r h e q d
 
     pub advance-bandwidth : {o : Option Fault} → u ≡ Fit → o ≡ first-of (bandwidth-checks h) → o ≡ first-of (advance-checks L ts vs l r h)
-    advance-bandwidth {o} p b = found-behind (record-checks (length ts) l r) (bandwidth-checks h) u o d p b ∙ sym (after-sizes q)
+    advance-bandwidth = bandwidth-decides (size-checks L ts vs) (length ts) l r h e q d
+
+-- the turn the sizes and the order
+module _ (L : Limits) (ts vs : List ℕ) (l r h : ℕ) {v : Verdict} (e : verdict-fault v ≡ first-of (series-checks L ts vs)) where
+  pub turn-series : {x : Refusal} → v ≡ Faulty x → some (fault-of x) ≡ first-of (turn-checks L ts vs l r h)
+  turn-series = readings-decide (series-checks L ts vs) (length ts) l r h e
+
+  module _ (q : v ≡ Fit) {u : Verdict} (d : verdict-fault u ≡ first-of (record-checks (length ts) l r)) where
+    pub turn-of-record : {x : Refusal} → u ≡ Faulty x → some (fault-of x) ≡ first-of (turn-checks L ts vs l r h)
+    turn-of-record = record-decides (series-checks L ts vs) (length ts) l r h e q d
+
+    pub turn-bandwidth : {o : Option Fault} → u ≡ Fit → o ≡ first-of (bandwidth-checks h) → o ≡ first-of (turn-checks L ts vs l r h)
+    turn-bandwidth = bandwidth-decides (series-checks L ts vs) (length ts) l r h e q d

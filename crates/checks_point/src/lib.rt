@@ -1,5 +1,5 @@
-// The refusals of readings, of a record's edges and of one half width, and of the two calls at one mark that are made of them, the question
-// and the step, for any pair of limits. Every function takes every input.
+// The refusals of readings, of a record's edges and of one half width, and of the three calls at one mark that are made of them, the question,
+// the step and the turn, for any pair of limits. Every function takes every input.
 use checks::first_decrease;
 use checks::out_of_range;
 use meanings::Found;
@@ -8,7 +8,7 @@ use meanings::Refusal;
 use meanings::Report;
 use meanings::Verdict;
 ghost use mathlib.Core.Path.{_≡_};
-ghost use Rattle.meanings.specs.Reports.{verdict-fault, first-of, size-checks, series-checks, record-checks, bandwidth-checks, evaluate-checks, advance-checks};
+ghost use Rattle.meanings.specs.Reports.{verdict-fault, first-of, size-checks, series-checks, record-checks, bandwidth-checks, evaluate-checks, advance-checks, turn-checks};
 
 // What the lengths of readings earn: 8, 6.
 pub fn size_fault(minutes: &[u16], values: &[u16], limits: Limits) -> Verdict
@@ -101,6 +101,28 @@ pub fn advance_fault(
     match size_fault(minutes, values, limits) {
         Verdict::Faulty(refusal) => Verdict::Faulty(refusal),
         Verdict::Fit => match record_fault(minutes.len(), left, right) {
+            Verdict::Faulty(refusal) => Verdict::Faulty(refusal),
+            Verdict::Fit => bandwidth_fault(bandwidth),
+        },
+    }
+}
+
+// What a turn is refused for, of a record with these edges: 8, 6, 4, 11, 9.
+pub fn turn_fault(
+    minutes: &[u16],
+    values: &[u16],
+    left: usize,
+    right: usize,
+    bandwidth: u32,
+    limits: Limits,
+) -> Verdict
+    ensures { λ r. ⌜ verdict-fault r ≡ first-of (turn-checks limits (now (minutes .entry)) (now (values .entry)) left right bandwidth) ⌝ }
+{
+    let series = series_fault(minutes, values, limits);
+    let samples = minutes.len();
+    match series {
+        Verdict::Faulty(refusal) => Verdict::Faulty(refusal),
+        Verdict::Fit => match record_fault(samples, left, right) {
             Verdict::Faulty(refusal) => Verdict::Faulty(refusal),
             Verdict::Fit => bandwidth_fault(bandwidth),
         },

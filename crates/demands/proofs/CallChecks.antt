@@ -135,7 +135,7 @@ module _ {ks : List Check} {cs : Conditions} where
   edge-finds zs hs f = record { each = (finds-lowest 10 _ (length zs) _ (λ i g. g .within) (edge-falls zs hs), f .each) }
 
 -- no check finds no condition
-none-left : FindAll [] no-more
+pub none-left : FindAll [] no-more
 none-left = record { each = tt }
 
 -- the calls

@@ -31,7 +31,7 @@ use Rattle.meanings.specs.Calls.{evaluation-answer, advance-answer, smoothing-a
 use Rattle.meanings.specs.Calls.{window-start, smooth, smooth-rows, fill, fill-points, fill-bandwidths, read, counts}
 use Rattle.meanings.specs.Calls.{write, write-buffer, write-refusal-text, refusal-buffer}
 use Rattle.meanings.specs.Codes.{answered, no-detail}
-use Rattle.abi_answers.specs.Answers.{sized, bounds, count-numbers, record-numbers, record-of}
+use Rattle.abi_answers.specs.Answers.{sized, bounds, count-numbers, record-numbers, record-of, record-length}
 use Rattle.estimator.proofs.evaluate.Met as evaluate-met
 use Rattle.estimator.proofs.window.Met as window-met
 use Rattle.estimator.proofs.advance.Met as advance-met
@@ -223,40 +223,41 @@ exported-window-refused ts vs z h bs c bs′ k =
     exported-stays t c _ (evaluate-coded 2 bs ts vs z h c (k .ensured .0)) (evaluate-exactly 2 bs ts vs z h)
     (bs′ ≡ bs) (λ e q. k .ensured .1 ∙ stored-stays bounds t bs e q)
 
--- the step on a list of eight numbers
+-- the step on a list of nine numbers
 module _ (xs ts vs : List ℕ) (z h : ℕ) where
-  advance-exactly : RefusedExactly (refusal (sized 8 xs (advance ts vs (record-of xs) z h)))
-      (FirstFault (length-first 8 xs (advance-conditions ts vs (record-of xs .left) (record-of xs .right) h)))
+  advance-exactly : RefusedExactly (refusal (sized record-length xs (advance ts vs (record-of xs) z h)))
+      (FirstFault (length-first record-length xs (advance-conditions ts vs (record-of xs .left) (record-of xs .right) h)))
   unfolding advance
   advance-exactly =
       let r = record-of xs in
-      decided-exactly (moved ts vs r z h) (length-first-finds 8 xs (advance-finds ts vs (r .left) (r .right) h))
-      (sized-is-checked 8 xs (advance-checks full ts vs (r .left) (r .right) h) (moved ts vs r z h))
+      decided-exactly (moved ts vs r z h) (length-first-finds record-length xs (advance-finds ts vs (r .left) (r .right) h))
+      (sized-is-checked record-length xs (advance-checks full ts vs (r .left) (r .right) h) (moved ts vs r z h))
 
-  pub advance-coded : (c : ℕ) → c ≡ answered no-detail (sized 8 xs (advance ts vs (record-of xs) z h))
-      → code-refusal c ≡ refusal (sized 8 xs (advance ts vs (record-of xs) z h))
+  pub advance-coded : (c : ℕ) → c ≡ answered no-detail (sized record-length xs (advance ts vs (record-of xs) z h))
+      → code-refusal c ≡ refusal (sized record-length xs (advance ts vs (record-of xs) z h))
   advance-coded c q =
-      exported-refusal no-detail (sized 8 xs (advance ts vs (record-of xs) z h)) c _ q
-      (first-numbered (length-first 8 xs (advance-conditions ts vs (record-of xs .left) (record-of xs .right) h)) refl) advance-exactly
+      exported-refusal no-detail (sized record-length xs (advance ts vs (record-of xs) z h)) c _ q
+      (first-numbered (length-first record-length xs (advance-conditions ts vs (record-of xs .left) (record-of xs .right) h)) refl) advance-exactly
 
 pub exported-advance-refused : (xs ts vs : List ℕ) (z h c : ℕ) (xs′ : List ℕ) → ExportedAdvance xs ts vs z h c xs′
-    → RefusedAndStays (code-refusal c) (FirstFault (length-first 8 xs (advance-conditions ts vs (record-of xs .left) (record-of xs .right) h))) (xs′ ≡ xs)
+    → RefusedAndStays (code-refusal c)
+    (FirstFault (length-first record-length xs (advance-conditions ts vs (record-of xs .left) (record-of xs .right) h))) (xs′ ≡ xs)
 exported-advance-refused xs ts vs z h c xs′ k =
-    let t = sized 8 xs (advance ts vs (record-of xs) z h) in
+    let t = sized record-length xs (advance ts vs (record-of xs) z h) in
     exported-stays t c _ (advance-coded xs ts vs z h c (k .ensured .0)) (advance-exactly xs ts vs z h)
     (xs′ ≡ xs) (λ e q. k .ensured .1 ∙ stored-stays record-numbers t xs e q)
 
--- the row of a record of eight numbers, behind a list of five
+-- the row of a record of nine numbers, behind a list of five
 module _ (xs : List ℕ) (z h : ℕ) (row : List ℕ) where
   abbrev pub row-coded : Answer Estimate
-  row-coded = sized 8 xs (sized 5 row (given (record-row (record-of xs) z h)))
+  row-coded = sized record-length xs (sized 5 row (given (record-row (record-of xs) z h)))
 
   record-row-exactly : RefusedExactly (refusal row-coded) (FirstFault (record-row-conditions xs row))
   record-row-exactly =
       let e = record-row (record-of xs) z h in
       let nothing : FindAll [] no-more = record { each = tt } in
-      decided-exactly e (length-first-finds 8 xs (length-first-finds 5 row nothing))
-      (ap (sized 8 xs) (sized-is-checked 5 row [] e) ∙ sized-is-checked 8 xs (length-check 5 row ∷ []) e)
+      decided-exactly e (length-first-finds record-length xs (length-first-finds 5 row nothing))
+      (ap (sized record-length xs) (sized-is-checked 5 row [] e) ∙ sized-is-checked record-length xs (length-check 5 row ∷ []) e)
 
   pub record-row-coded : (c : ℕ) → c ≡ answered no-detail row-coded → code-refusal c ≡ refusal row-coded
   record-row-coded c q = exported-refusal no-detail row-coded c _ q (first-numbered (record-row-conditions xs row) refl) record-row-exactly

@@ -1,6 +1,6 @@
 -- Demand 3 of the calls. By its contract each call leaves the record that the step's meaning gives, so a list of calls leaves what a list of
 -- steps leaves, and the claim about the list holds of the records and answers that the caller saw. The exported call is the same step on a
--- record that is kept as eight numbers.
+-- record that is kept as nine numbers.
 use Prim.Native.Nat.{ℕ, suc, _+_, _*_, _<_}
 use mathlib.Core.Path.{_≡_, refl, sym, ap, _∙_}
 use mathlib.Core.List.{List, [], _∷_, _++_}
@@ -27,7 +27,7 @@ use Rattle.meanings.proofs.SmoothLog.{smooth-passes}
 use Rattle.meanings.proofs.SmoothRows.{smooth-row-is-record-row}
 use Rattle.text.specs.Table.{stored-row}
 use Rattle.meanings.specs.Codes.{detail-unit, answered, no-detail}
-use Rattle.abi_answers.specs.Answers.{sized, stored, record-of, record-numbers}
+use Rattle.abi_answers.specs.Answers.{sized, stored, record-of, record-numbers, record-length}
 use Rattle.abi_answers.proofs.Stores.{record-read-back}
 use Rattle.demands.specs.Calls.{ExportedAdvance}
 use Rattle.demands.specs.Conditions.{code-refusal}
@@ -39,7 +39,7 @@ use Rattle.demands.proofs.Refusals.{accepted-given}
 use Rattle.demands.proofs.Demand1.{advance-coded, smooth-coded}
 use Rattle.demands.proofs.Rows.{five-are-row}
 
-held-is-next-record : (r : RunningSums) (a : Advance) → held r a ≡ next-record r (advance-answer a)
+pub held-is-next-record : (r : RunningSums) (a : Advance) → held r a ≡ next-record r (advance-answer a)
 held-is-next-record r (Moved r′) = refl
 held-is-next-record r (Advance.Refused e) = refl
 
@@ -73,44 +73,45 @@ matches ts vs ms r o e =
       within = w .inside;
     })
 
--- a step on eight numbers is the step on their record
+-- a step on nine numbers is the step on their record
 pub record NumbersStep (xs ts vs : List ℕ) (z h c : ℕ) (xs′ : List ℕ) : Type 0 where
-  pub eight : length xs′ ≡ 8
+  pub nine : length xs′ ≡ record-length
   pub moves-record : record-of xs′ ≡ next-record (record-of xs) (advance ts vs (record-of xs) z h)
   pub tells : code-refusal c ≡ refusal (advance ts vs (record-of xs) z h)
 
-stored-record : (xs : List ℕ) → length xs ≡ 8 → (t : Answer RunningSums)
-    → (length (stored record-numbers t xs) ≡ 8) × (record-of (stored record-numbers t xs) ≡ next-record (record-of xs) t)
+pub stored-record : (xs : List ℕ) → length xs ≡ record-length → (t : Answer RunningSums)
+    → (length (stored record-numbers t xs) ≡ record-length) × (record-of (stored record-numbers t xs) ≡ next-record (record-of xs) t)
 stored-record xs e (given r) = (refl, record-read-back r)
 stored-record xs e (refused f) = (e, refl)
 
-opened : {A : Type 0} (xs : List ℕ) (t : Answer A) → length xs ≡ 8 → sized 8 xs t ≡ t
+pub opened : {A : Type 0} (xs : List ℕ) (t : Answer A) → length xs ≡ record-length → sized record-length xs t ≡ t
 unfolding sized
-opened xs t e = rw (eq-eqb (length xs) 8 e)
+opened xs t e = rw (eq-eqb (length xs) record-length e)
 
-numbers-step : (xs ts vs : List ℕ) (z h c : ℕ) (xs′ : List ℕ) → length xs ≡ 8 → ExportedAdvance xs ts vs z h c xs′ → NumbersStep xs ts vs z h c xs′
+pub numbers-step : (xs ts vs : List ℕ) (z h c : ℕ) (xs′ : List ℕ) → length xs ≡ record-length
+    → ExportedAdvance xs ts vs z h c xs′ → NumbersStep xs ts vs z h c xs′
 numbers-step xs ts vs z h c xs′ e k =
     let t = advance ts vs (record-of xs) z h in
     let o = opened xs t e in
     let q : xs′ ≡ stored record-numbers t xs = k .ensured .1 ∙ ap (λ (a : Answer RunningSums). stored record-numbers a xs) o in
     let s = stored-record xs e t in
     record {
-      eight = ap length q ∙ s .0;
+      nine = ap length q ∙ s .0;
       moves-record = ap record-of q ∙ s .1;
       tells = advance-coded xs ts vs z h c (k .ensured .0) ∙ ap refusal o;
     }
 
-left-by-exported : {ts vs xs xs′ : List ℕ} {ms : List Move} → ExportedSteps ts vs xs ms xs′ → length xs ≡ 8
-    → (length xs′ ≡ 8) × (record-of xs′ ≡ after ts vs (record-of xs) ms)
+left-by-exported : {ts vs xs xs′ : List ℕ} {ms : List Move} → ExportedSteps ts vs xs ms xs′ → length xs ≡ record-length
+    → (length xs′ ≡ record-length) × (record-of xs′ ≡ after ts vs (record-of xs) ms)
 left-by-exported demands.ExportedSteps.no-step e = (e, refl)
 left-by-exported {ts} {vs} {xs} (demands.ExportedSteps.one-step {xs′ = xs′} {ms = ms} m c k s) e =
     let n = numbers-step xs ts vs (m .point) (m .bandwidth) c xs′ e k in
-    let l = left-by-exported s (n .eight) in
+    let l = left-by-exported s (n .nine) in
     (l .0, l .1 ∙ ap (λ (q : RunningSums). after ts vs q ms) (n .moves-record))
 
-refused-numbers : (xs ts vs : List ℕ) (z h c : ℕ) (xs′ : List ℕ) → ¬ (length xs ≡ 8) → ExportedAdvance xs ts vs z h c xs′ → (c ≡ 8) × (xs′ ≡ xs)
+refused-numbers : (xs ts vs : List ℕ) (z h c : ℕ) (xs′ : List ℕ) → ¬ (length xs ≡ record-length) → ExportedAdvance xs ts vs z h c xs′ → (c ≡ 8) × (xs′ ≡ xs)
 unfolding sized
-refused-numbers xs ts vs z h c xs′ n k = let e = ne-eqb (length xs) 8 n in (rw e at (k .ensured .0), rw e at (k .ensured .1))
+refused-numbers xs ts vs z h c xs′ n k = let e = ne-eqb (length xs) record-length n in (rw e at (k .ensured .0), rw e at (k .ensured .1))
 
 module _ (ts vs zs hs rs rs′ : List ℕ) (n : ℕ) (minutes : AtMost max-u16 ts) (values : AtMost max-u16 vs)
     (accepted : smooth full ts vs zs hs rs ≡ given n) (rows : rs′ ≡ smooth-rows full ts vs zs hs rs) where
@@ -131,7 +132,7 @@ demand-3-of-calls = record {
       let l = left-by-exported s refl in
       let n = numbers-step xs ts vs (m .point) (m .bandwidth) c xs′ (l .0) k in (
         l .0,
-        n .eight,
+        n .nine,
         seen-step-holds ts vs ms before rest m (code-refusal c) (record-of xs) (record-of xs′) o q (l .1) (n .tells) (n .moves-record),
       );
   each-exported-once = λ ts vs ms xs o s. matches ts vs ms (record-of xs) o (left-by-exported s refl .1);
@@ -139,7 +140,7 @@ demand-3-of-calls = record {
   steps-leave = λ ts vs r r′ ms s. left-by-steps s;
   exported-steps-leave = λ ts vs xs xs′ ms e s. left-by-exported s e;
   exported-step-accepted = λ xs ts vs z h c xs′ k q.
-      let t = sized 8 xs (advance ts vs (record-of xs) z h) in
+      let t = sized record-length xs (advance ts vs (record-of xs) z h) in
       k .ensured .0 ∙ ap (answered no-detail) (accepted-given t (sym (advance-coded xs ts vs z h c (k .ensured .0)) ∙ q) .1);
   window-record-row = λ ts vs z h r e e′ v left right sums q c.
       c .ensured ∙ row-of-window-record ts vs z h r e′ v left right sums (sym (q .ensured));

@@ -21,7 +21,7 @@ use Rattle.meanings.proofs.Checks.{given-accepted}
 use Rattle.meanings.proofs.Grids.{fill-accepts, grid-length, grid-at}
 use Rattle.laws_sheet.proofs.Outcomes.{read-is-printed}
 use Rattle.meanings.specs.Codes.{detail-unit, answered, no-detail}
-use Rattle.abi_answers.specs.Answers.{sized, stored, count-numbers, record-of}
+use Rattle.abi_answers.specs.Answers.{sized, stored, count-numbers, record-of, record-length}
 use Rattle.demands.specs.Demands.{FilledGrid, SheetRead, OtherCalls}
 use Rattle.demands.proofs.Refusals.{accepted-given, sized-opens, counts-refused}
 use Rattle.demands.proofs.Demand1.{row-coded, record-row-coded, fill-coded, read-coded, text-coded, refusal-text-coded}
@@ -100,7 +100,7 @@ other-calls = record {
       let t : Answer Estimate = given (record-row (record-of xs) z h) in
       let o = row-coded xs z h row in
       let n = sym (record-row-coded xs z h row c (k .ensured .0)) ∙ q in
-      let opens = sized-opens 8 xs (sized row-width row t) n in
+      let opens = sized-opens record-length xs (sized row-width row t) n in
       let whole : o ≡ t = opens ∙ sized-opens row-width row t (sym (ap refusal opens) ∙ n) in
       let stored-row : row′ ≡ fields (record-row (record-of xs) z h) = k .ensured .1 ∙ ap (λ (a : Answer Estimate). stored fields a row) whole in (
         k .ensured .0 ∙ ap (answered no-detail) whole,

@@ -30,7 +30,7 @@ use Rattle.meanings.proofs.Rounding.{rounded-nearest, nearest-unique, value-pre
 use Rattle.meanings.proofs.SmoothRows.{record-of-window-gives-row}
 use Rattle.meanings.proofs.Steps.{at-window}
 use Rattle.meanings.specs.Codes.{answered, no-detail}
-use Rattle.abi_answers.specs.Answers.{sized, stored, record-of}
+use Rattle.abi_answers.specs.Answers.{sized, stored, record-of, record-length}
 use Rattle.abi_answers.proofs.Answered.{right-size}
 use Rattle.demands.specs.Calls.{ExportedEvaluate, ExportedRecordRow}
 use Rattle.demands.specs.Conditions.{NoFault, FallsAt, OutOfRange, evaluate-conditions}
@@ -158,11 +158,11 @@ answered-row (Row d) e q = let same : d ≡ e = cc in ap Row same
 answered-row (Evaluation.Refused f) e q = let z : _≡_ {A = ℕ} 0 1 = cc in absurd (omega arith)
 
 -- the exported calls, with lists of their lengths
-pub exported-record-row-gives : (xs : List ℕ) (z h : ℕ) (row : List ℕ) (c : ℕ) (row′ : List ℕ) → length xs ≡ 8 → length row ≡ 5
+pub exported-record-row-gives : (xs : List ℕ) (z h : ℕ) (row : List ℕ) (c : ℕ) (row′ : List ℕ) → length xs ≡ record-length → length row ≡ 5
     → ExportedRecordRow xs z h row c row′ → (c ≡ 0) × (row′ ≡ fields (record-row (record-of xs) z h))
-exported-record-row-gives xs z h row c row′ eight five k =
+exported-record-row-gives xs z h row c row′ nine five k =
     let t : Answer Estimate = given (record-row (record-of xs) z h) in
-    let open-answer = sym (right-size 5 row five t ∙ right-size 8 xs eight (sized 5 row t)) in
+    let open-answer = sym (right-size 5 row five t ∙ right-size record-length xs nine (sized 5 row t)) in
     (k .ensured .0 ∙ ap (answered no-detail) open-answer, k .ensured .1 ∙ ap (λ (a : Answer Estimate). stored fields a row) open-answer)
 
 pub exported-evaluate-gives : (ts vs : List ℕ) (z h : ℕ) (row : List ℕ) (c : ℕ) (row′ : List ℕ) (e : Estimate) → length row ≡ 5

@@ -13,6 +13,7 @@ use Rattle.meanings.specs.Limits.{full, max-u16, max-bandwidth, row-width, max-
 use Rattle.meanings.specs.Reports.{Fault}
 use Rattle.meanings.specs.Grid.{presets}
 use Rattle.meanings.specs.Codes.{detail-unit}
+use Rattle.abi_answers.specs.Answers.{record-length}
 
 -- reports in the order in which they count: a number, and at which places its condition holds
 pub data Conditions : Type 1 where
@@ -140,9 +141,9 @@ buffer-conditions out = condition 8 (AtZero (¬ (length out ≡ max-output))) no
 abbrev pub length-first : ℕ → List ℕ → Conditions → Conditions
 length-first n xs cs = condition 8 (AtZero (¬ (length xs ≡ n))) cs
 
--- the row of a record, as exported: eight numbers, then five, and nothing else is refused
+-- the row of a record, as exported: nine numbers, then five, and nothing else is refused
 abbrev pub record-row-conditions : List ℕ → List ℕ → Conditions
-record-row-conditions xs row = length-first 8 xs (length-first 5 row no-more)
+record-row-conditions xs row = length-first record-length xs (length-first 5 row no-more)
 
 -- what the one number of an exported answer says: a report, its number and its place as detail, or that the call is accepted
 abbrev pub code-refusal : ℕ → Option Fault

@@ -47,7 +47,7 @@ use Rattle.laws_rows.specs.Rearranged.{Rearranged}
 use Rattle.laws_rows.specs.TwoLimits.{Fits, Over}
 use Rattle.text.specs.Table.{stored-row}
 use Rattle.meanings.specs.Codes.{detail-unit}
-use Rattle.abi_answers.specs.Answers.{record-of}
+use Rattle.abi_answers.specs.Answers.{record-of, record-length}
 use Rattle.abi_version.specs.Version.{version}
 use Rattle.demands.specs.Calls.{Place, EveryInputTaken, EvaluateCall, WindowCall, AdvanceCall, RecordRowCall, SmoothCall, PreviewCall}
 use Rattle.demands.specs.Calls.{FillCall, ReadCall, TextCall, RefusalTextCall, ExportedEvaluate, ExportedWindow}
@@ -159,7 +159,7 @@ pub record Demand1 : Type 2 where
       → RefusedAndStays (code-refusal c) (FirstFault (length-first 2 bounds (evaluate-conditions ts vs h))) (bounds′ ≡ bounds)
   pub exported-advance-refused : (xs ts vs : List ℕ) (z h c : ℕ) (xs′ : List ℕ) → ExportedAdvance xs ts vs z h c xs′
       → RefusedAndStays (code-refusal c)
-      (FirstFault (length-first 8 xs (advance-conditions ts vs (record-of xs .left) (record-of xs .right) h))) (xs′ ≡ xs)
+      (FirstFault (length-first record-length xs (advance-conditions ts vs (record-of xs .left) (record-of xs .right) h))) (xs′ ≡ xs)
   -- the row of a record, which refuses nothing in Rattle, has two lists of fixed length here
   pub exported-record-row-refused : (xs : List ℕ) (z h : ℕ) (row : List ℕ) (c : ℕ) (row′ : List ℕ) → ExportedRecordRow xs z h row c row′
       → RefusedAndStays (code-refusal c) (FirstFault (record-row-conditions xs row)) (row′ ≡ row)
@@ -223,7 +223,7 @@ pub data Steps (ts vs : List ℕ) : RunningSums → List Move → RunningSums �
   one-step : {r r′ : RunningSums} {ms : List Move} (m : Move) (a : Advance) → AdvanceCall r ts vs (m .point) (m .bandwidth) a
       → Steps ts vs (held r a) ms r′ → Steps ts vs r (m ∷ ms) r′
 
--- the same of the call for C and Rust, over one lent list of eight numbers that nobody else writes
+-- the same of the call for C and Rust, over one lent list of nine numbers that nobody else writes
 pub data ExportedSteps (ts vs : List ℕ) : List ℕ → List Move → List ℕ → Type 0 where
   no-step : {xs : List ℕ} → ExportedSteps ts vs xs [] xs
   one-step : {xs xs′ xs″ : List ℕ} {ms : List Move} (m : Move) (c : ℕ) → ExportedAdvance xs ts vs (m .point) (m .bandwidth) c xs′
@@ -231,7 +231,7 @@ pub data ExportedSteps (ts vs : List ℕ) : List ℕ → List Move → List ℕ 
 
 -- a fresh record as numbers
 abbrev pub zeros : List ℕ
-zeros = replicate 8 0
+zeros = replicate record-length 0
 
 -- readings of 16 bits whose minutes never fall, and steps whose accepted ones never take an edge back
 pub record OrderedSteps (ts vs : List ℕ) (ms : List Move) : Type 0 where
@@ -257,19 +257,19 @@ pub record Demand3 : Type 0 where
   -- what the log refuses a step with, and so by each-step the call, is 8, 6 or 9 at place 0
   pub refused-with : (ts vs : List ℕ) (m : Move) (e : Fault) → log-refusal ts vs m ≡ some e
       → ((e .number ≡ 8) ⊎ (e .number ≡ 6) ⊎ (e .number ≡ 9)) × (e .place ≡ 0)
-  -- the same of the call for C and Rust, from eight zeros
+  -- the same of the call for C and Rust, from nine zeros
   pub each-exported-step : (ts vs : List ℕ) (ms before rest : List Move) (m : Move) (xs : List ℕ) (c : ℕ) (xs′ : List ℕ) → OrderedSteps ts vs ms
       → ms ≡ before ++ m ∷ rest → ExportedSteps ts vs zeros before xs → ExportedAdvance xs ts vs (m .point) (m .bandwidth) c xs′
-      → (length xs ≡ 8) × (length xs′ ≡ 8) × StepHolds ts vs before m (code-refusal c) (record-of xs) (record-of xs′)
+      → (length xs ≡ record-length) × (length xs′ ≡ record-length) × StepHolds ts vs before m (code-refusal c) (record-of xs) (record-of xs′)
   pub each-exported-once : (ts vs : List ℕ) (ms : List Move) (xs : List ℕ) → OrderedSteps ts vs ms → ExportedSteps ts vs zeros ms xs
       → LogMatches ts vs ms (record-of xs)
   -- a list of another length gets 8 at place 0 from every call and stays; the event log has no such list
-  pub other-length : (xs ts vs : List ℕ) (z h c : ℕ) (xs′ : List ℕ) → ¬ (length xs ≡ 8) → ExportedAdvance xs ts vs z h c xs′
+  pub other-length : (xs ts vs : List ℕ) (z h c : ℕ) (xs′ : List ℕ) → ¬ (length xs ≡ record-length) → ExportedAdvance xs ts vs z h c xs′
       → (c ≡ 8) × (xs′ ≡ xs)
   -- from a record of any origin, over any readings and with any edges, calls leave the records that the step's meaning gives
   pub steps-leave : (ts vs : List ℕ) (r r′ : RunningSums) (ms : List Move) → Steps ts vs r ms r′ → r′ ≡ after ts vs r ms
-  pub exported-steps-leave : (ts vs xs xs′ : List ℕ) (ms : List Move) → length xs ≡ 8 → ExportedSteps ts vs xs ms xs′
-      → (length xs′ ≡ 8) × (record-of xs′ ≡ after ts vs (record-of xs) ms)
+  pub exported-steps-leave : (ts vs xs xs′ : List ℕ) (ms : List Move) → length xs ≡ record-length → ExportedSteps ts vs xs ms xs′
+      → (length xs′ ≡ record-length) × (record-of xs′ ≡ after ts vs (record-of xs) ms)
   pub exported-step-accepted : (xs ts vs : List ℕ) (z h c : ℕ) (xs′ : List ℕ) → ExportedAdvance xs ts vs z h c xs′ → code-refusal c ≡ none → c ≡ 0
   -- a record with the edges and sums of a mark's window, whatever it has come by, gives the row of the question at that mark
   pub window-record-row : (ts vs : List ℕ) (z h : ℕ) (r : RunningSums) (e e′ : Estimate) → AtMost max-u16 vs → r .left ≡ left-of ts z h

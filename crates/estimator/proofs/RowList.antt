@@ -44,13 +44,13 @@ pub record SmoothedTo (ts vs zs hs R₀ : List ℕ) (k : ℕ) (R : List ℕ) (r 
 
 pub smoothed-begins : {ts vs zs hs R₀ : List ℕ} {q : PowerSums} → SmoothAccepted ts vs zs hs (length R₀)
     → ((i : ℕ) → Fits w16 (getD ts i 0)) → ((i : ℕ) → Fits w16 (getD vs i 0)) → q ≡ six (λ p q. 0)
-    → SmoothedTo ts vs zs hs R₀ 0 R₀ (record { left = 0; right = 0; sums = q })
+    → SmoothedTo ts vs zs hs R₀ 0 R₀ (record { left = 0; right = 0; sums = q; passes = 0 })
 smoothed-begins a t v e = record {
   small = of-16-bits (a .lists .even) (a .lists .few) t v;
   accepted = a;
   upto = zero-le;
   stored = refl;
-  running = ap (λ (q : PowerSums). record { left = 0; right = 0; sums = q }) e;
+  running = ap (λ (q : PowerSums). record { left = 0; right = 0; sums = q; passes = 0 }) e;
 }
 
 module _ {ts vs zs hs R₀ : List ℕ} {k : ℕ} {R : List ℕ} {r : RunningSums} (w : SmoothedTo ts vs zs hs R₀ k R r) where

@@ -49,6 +49,7 @@ pub(crate) fn smooth_rows(
         left: 0,
         right: 0,
         sums: zero_sums(),
+        passes: 0,
     };
     let mut k = 0;
     while k < points.len() {

@@ -3,6 +3,7 @@ use crate::edges::first_from;
 use crate::sums::with_run;
 use crate::sums::without_run;
 use arithmetic::lowest_minute;
+use arithmetic::plus_travel;
 use meanings::RunningSums;
 ghost use mathlib.Core.Path.{_≡_};
 ghost use Rattle.meanings.specs.Running.{moved as moved-meaning};
@@ -25,5 +26,12 @@ pub(crate) fn moved(
     let sums = running.sums;
     let taken = with_run(sums, minutes, values, running.right, right);
     let sums = without_run(taken, minutes, values, running.left, left);
-    RunningSums { left, right, sums }
+    let passes = plus_travel(running.passes, running.left, left);
+    let passes = plus_travel(passes, running.right, right);
+    RunningSums {
+        left,
+        right,
+        sums,
+        passes,
+    }
 }

@@ -15,6 +15,7 @@ use Rattle.meanings.specs.Lists.{distance}
 use Rattle.meanings.specs.Output.{program, curve-text, refusal-text, decimal, decimal-with}
 use Rattle.meanings.specs.Running.{advance, moved, record-row}
 use Rattle.meanings.specs.Sheet.{read-sheet}
+use Rattle.meanings.specs.Turn.{turned, turn-record}
 use Rattle.meanings.proofs.EqualSamples.{equal-samples}
 
 pub document-cases-hold : AllHold document-cases
@@ -49,7 +50,7 @@ the-longest = ap (λ a. estimated a ∷ []) (equal-samples 1024 3 4 3 1 (omega a
 behind-the-longest : AllHold (drop 13 own-cases)
 unfolding evaluate window window-start smooth smooth-rows fill fill-points fill-bandwidths read write write-buffer write-refusal-text refusal-buffer
     estimate left-of right-of kernel distance weight-of sum-of value-of rounded program curve-text refusal-text decimal decimal-with advance
-    moved record-row read-sheet
+    moved record-row read-sheet turned turn-record
 behind-the-longest = refl
 
 pub own-cases-hold : AllHold own-cases

@@ -19,7 +19,7 @@ use Rattle.meanings.specs.Limits.{full, preview, LimitsWithin, max-bandw
 use Rattle.meanings.specs.Reports.{Fault, fault-of, verdict-fault, given, unless}
 use Rattle.meanings.specs.Reports.{Check, at, fault-or, first-of, differ, decreases, bad-bandwidth}
 use Rattle.meanings.specs.Reports.{edge-below, edge-decreases, uneven-samples, uneven-points, size-checks, sample-order-checks, series-checks}
-use Rattle.meanings.specs.Reports.{record-checks, bandwidth-checks, curve-size-checks, advance-checks, log-checks}
+use Rattle.meanings.specs.Reports.{record-checks, bandwidth-checks, curve-size-checks, advance-checks, turn-checks, log-checks}
 use Rattle.meanings.specs.Calls.{evaluate-refusal}
 use Rattle.meanings.proofs.Search.{lowest-none}
 
@@ -204,6 +204,35 @@ advance-accepts L w ts vs left right h e =
     record {
       even = s .even;
       few = le-trans (s .few) (w .samples);
+      edges = o .0;
+      inside = o .1;
+      positive = r .0;
+      bandwidth = r .1;
+    }
+
+-- what a turn accepts under such limits, of a record with these edges
+pub record TurnAccepted (ts vs : List ℕ) (left right h : ℕ) : Type 0 where
+  pub even : length ts ≡ length vs
+  pub few : length ts ≤ full .samples
+  pub ordered : Ordered ts
+  pub edges : left ≤ right
+  pub inside : right ≤ length ts
+  pub positive : 0 < h
+  pub bandwidth : h ≤ max-bandwidth
+
+pub turn-accepts : (L : Limits) → LimitsWithin L full → (ts vs : List ℕ) (left right h : ℕ)
+    → first-of (turn-checks L ts vs left right h) ≡ none → TurnAccepted ts vs left right h
+turn-accepts L w ts vs left right h e =
+    let a = none-of-both (series-checks L ts vs) (record-checks (length ts) left right ++ bandwidth-checks h) e in
+    let b = none-of-both (size-checks L ts vs) (sample-order-checks ts) (a .0) in
+    let c = none-of-both (record-checks (length ts) left right) (bandwidth-checks h) (a .1) in
+    let s = size-accepts L ts vs (b .0) in
+    let o = record-accepts (length ts) left right (c .0) in
+    let r = bandwidth-accepts h (c .1) in
+    record {
+      even = s .even;
+      few = le-trans (s .few) (w .samples);
+      ordered = sample-order-accepts ts (b .1);
       edges = o .0;
       inside = o .1;
       positive = r .0;

@@ -114,7 +114,11 @@ module _ (ts vs : List ℕ) where
   sums-are-over-run none = refl
   sums-are-over-run (some m) = refl
 
-  sums-are-window : Ordered ts → (o : Option Move) → record-at ts vs o .sums ≡ window-direct ts vs o
+  passes-are-edges : (o : Option Move) → record-at ts vs o .passes ≡ record-at ts vs o .right + record-at ts vs o .left
+  passes-are-edges none = refl
+  passes-are-edges (some m) = refl
+
+  pub sums-are-window : Ordered ts → (o : Option Move) → record-at ts vs o .sums ≡ window-direct ts vs o
   sums-are-window ordered none = refl
   sums-are-window ordered (some m) = six-agree _ _ (λ p q a b. sym (range-sum-is-window-sum p q ts vs (m .point) (m .bandwidth) ordered))
 
@@ -148,7 +152,7 @@ module _ (ts vs : List ℕ) (minutes : AtMost max-u16 ts) (values : AtMost max-u
       by none q =
           let w = record-at-onward ts vs o m (e q) in
           moved-lands ts vs (accepted-small m q) ordered (m .point) (m .bandwidth) (record-at ts vs o) (record-at-within ts vs o .edges)
-          (w .right-stays-or-rises) (w .left-stays-or-rises) (sums-are-over-run ts vs o)
+          (w .right-stays-or-rises) (w .left-stays-or-rises) (sums-are-over-run ts vs o) (passes-are-edges ts vs o)
       by (some g) q = refl
 
   log-steps : (o : Option Move) (m : Move) → (log-refusal ts vs m ≡ none → NotBelow o m)
@@ -165,7 +169,7 @@ module _ (ts vs : List ℕ) (minutes : AtMost max-u16 ts) (values : AtMost max-u
           }
       by (some g) q = refl
 
-  record-stands : (o : Option Move) (ms : List Move) → NoEdgeBackAfter ts vs o ms
+  pub record-stands : (o : Option Move) (ms : List Move) → NoEdgeBackAfter ts vs o ms
       → after ts vs (record-at ts vs o) ms ≡ record-at ts vs (accepted-after ts vs o ms)
   record-stands o [] e = refl
   record-stands o (m ∷ ms) e = rw (record-steps o m (e .0)) (record-stands (accepted-next ts vs o m) ms (e .1))

@@ -30,7 +30,7 @@ pub record Onward (ts : List ℕ) (r r′ : RunningSums) : Type 0 where
 pub fresh-within : (ts : List ℕ) → Within ts fresh
 fresh-within ts = omega arith
 
-moved-onward : (ts vs : List ℕ) (r : RunningSums) (z h : ℕ) → Within ts r → Onward ts r (moved ts vs r z h)
+pub moved-onward : (ts vs : List ℕ) (r : RunningSums) (z h : ℕ) → Within ts r → Onward ts r (moved ts vs r z h)
 unfolding moved
 moved-onward ts vs r z h w = onward (new-right ts (r .right) z h) _ (first-is-first _ _ _) (first-is-first _ _ _)
   where

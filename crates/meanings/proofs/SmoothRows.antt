@@ -96,10 +96,11 @@ smooth-is-one-step-a-point ts vs zs hs s a (suc k) l =
     ∙ ap (λ (x : RunningSums). after-step ts vs x step) before
     ∙ ap (next-record (running-at ts vs zs hs k)) (step-accepted ts vs zs hs s a k l)
 
--- the record of a window gives the window's row: nothing that wraps is lost, since weight and sum fit 64 bits
-window-gives-row : (ts vs : List ℕ) (z h : ℕ) → Ordered ts → WithinLimits ts vs h → record-row (at-window ts vs z h) z h ≡ estimate ts vs z h
+-- the record of a window gives the window's row, whatever its passes: nothing that wraps is lost, since weight and sum fit 64 bits
+window-gives-row : (ts vs : List ℕ) (z h n : ℕ) → Ordered ts → WithinLimits ts vs h
+    → record-row (record { left = left-of ts z h; right = right-of ts z h; sums = window-sums ts vs z h; passes = n }) z h ≡ estimate ts vs z h
 unfolding record-row estimate
-window-gives-row ts vs z h o f = rw (weight-had, sum-had)
+window-gives-row ts vs z h n o f = rw (weight-had, sum-had)
   where
     weight-had : combined 64 z h (window-sum ts vs z h 0 0) (window-sum ts vs z h 1 0) (window-sum ts vs z h 2 0) ≡ weight-of ts z h
     weight-had =
@@ -113,10 +114,10 @@ window-gives-row ts vs z h o f = rw (weight-had, sum-had)
 pub record-of-window-gives-row : (ts vs : List ℕ) (z h : ℕ) (r : RunningSums) → Ordered ts → WithinLimits ts vs h → r .left ≡ left-of ts z h
     → r .right ≡ right-of ts z h → r .sums ≡ window-sums ts vs z h → record-row r z h ≡ estimate ts vs z h
 record-of-window-gives-row ts vs z h r o f left right sums =
-    ap (λ (x : RunningSums). record-row x z h) same ∙ window-gives-row ts vs z h o f
+    ap (λ (x : RunningSums). record-row x z h) same ∙ window-gives-row ts vs z h (r .passes) o f
   where
-    same : r ≡ at-window ts vs z h
-    same = λ i. record { left = left i; right = right i; sums = sums i }
+    same : r ≡ record { left = left-of ts z h; right = right-of ts z h; sums = window-sums ts vs z h; passes = r .passes }
+    same = λ i. record { left = left i; right = right i; sums = sums i; passes = r .passes }
 
 -- the five numbers of mark k are those of the row that the record after k + 1 steps gives
 pub smooth-row-is-record-row : (L : Limits) → LimitsWithin L full → (ts vs zs hs rs : List ℕ) (n k : ℕ) → AtMost max-u16 ts → AtMost max-u16 vs
@@ -130,4 +131,4 @@ smooth-row-is-record-row L w ts vs zs hs rs n k minutes values q l =
     smooth-row-is-evaluate L ts vs zs hs rs n k q l L (le-refl _) .1
     ∙ sym
     (rw (smooth-is-one-step-a-point ts vs zs hs s a (suc k) l)
-    (ap fields (window-gives-row ts vs (getD zs k 0) (getD hs k 0) (a .ordered) fit)))
+    (ap fields (window-gives-row ts vs (getD zs k 0) (getD hs k 0) _ (a .ordered) fit)))

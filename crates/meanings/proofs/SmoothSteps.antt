@@ -117,6 +117,7 @@ module _ (ts vs zs hs : List ℕ) (s : Small ts vs) (a : CurveAccepted ts vs zs 
       (right-grows ts (getD zs k 0) (getD hs k 0) (getD zs (suc k) 0) (getD hs (suc k) 0) (a .right-edges k l))
       (left-grows ts (getD zs k 0) (getD hs k 0) (getD zs (suc k) 0) (getD hs (suc k) 0) (a .left-edges k l))
       refl
+      refl
 
   -- the record's edges lie within the readings
   pub running-within : (k : ℕ) → (running-at ts vs zs hs k .left ≤ running-at ts vs zs hs k .right) × (running-at ts vs zs hs k .right ≤ length ts)

@@ -9,11 +9,11 @@ use borrow.Author.Tests.{lt-ltb, le-ltb, le-leb, lt-leb}
 use lib.ListN.{length, getD}
 use Rattle.meanings.specs.declared.PowerSums.{PowerSums}
 use Rattle.meanings.specs.declared.RunningSums.{RunningSums}
-use Rattle.meanings.specs.Lists.{total, Ordered, AtMost}
+use Rattle.meanings.specs.Lists.{total, distance, Ordered, AtMost}
 use Rattle.meanings.specs.Limits.{full, max-u16}
 use Rattle.meanings.specs.Estimate.{left-of, right-of}
 use Rattle.meanings.specs.Running.{term, power-sum, six, sum-at, plus, minus, new-right}
-use Rattle.meanings.specs.Running.{new-left, new-sums, moved, window-sums, fresh}
+use Rattle.meanings.specs.Running.{new-left, new-sums, new-passes, moved, window-sums, fresh}
 use Rattle.meanings.proofs.Bounds.{total-at-most}
 use Rattle.meanings.proofs.Search.{first-is-first, first-unique}
 use Rattle.meanings.proofs.Totals.{total-split}
@@ -66,6 +66,15 @@ pub wraps-back : (w s a b c : ℕ) → s + a ≡ b + c → s + a < 2 ^ w → min
 wraps-back w s a b c e l =
     rw (mod-eq-of-lt l, mod-eq-of-lt (let m : b < 2 ^ w = omega arith in m))
     (ap (λ (n : ℕ). n % 2 ^ w) (let k : s + a + (2 ^ w - b) ≡ c + 2 ^ w = omega arith in k) ∙ add-mod-right c (2 ^ w) ∙ mod-eq-of-lt (omega arith))
+
+-- edges that only go forth: their passes are the edges' sum
+pub passes-count : (r : RunningSums) (l′ r′ : ℕ) → r .left ≤ l′ → r .right ≤ r′ → r .passes ≡ r .right + r .left → r′ + l′ < 2 ^ 64
+    → new-passes r l′ r′ ≡ r′ + l′
+unfolding distance
+passes-count r l′ r′ a b n small = mod-eq-of-lt (omega arith) ∙ whole
+  where
+    whole : r .passes + (distance (r .left) l′ + distance (r .right) r′) ≡ r′ + l′
+    whole = omega arith
 
 -- two ways to give the six sums are one where they agree at the six powers
 pub six-agree : (f g : ℕ → ℕ → ℕ) → ((p q : ℕ) → p ≤ 2 → q ≤ 1 → f p q ≡ g p q) → six f ≡ six g
@@ -136,20 +145,33 @@ module _ (ts vs : List ℕ) (s : Small ts vs) where
           let most = power-sum-bound (r .left) (r′ - r .left) p q x y (omega arith) in
           wraps-back 64 _ _ _ _ (omega arith) (omega arith)
 
--- the record of a window: the row's edges, and the direct sums over its run
+-- the record of a window: the row's edges, the direct sums over its run, and the passes of edges that have only gone forth
 abbrev pub at-window : List ℕ → List ℕ → ℕ → ℕ → RunningSums
-at-window ts vs z h = record { left = left-of ts z h; right = right-of ts z h; sums = window-sums ts vs z h }
+at-window ts vs z h = record {
+  left = left-of ts z h;
+  right = right-of ts z h;
+  sums = window-sums ts vs z h;
+  passes = right-of ts z h + left-of ts z h;
+}
 
 module _ (ts vs : List ℕ) (s : Small ts vs) (o : Ordered ts) (z h : ℕ) where
   -- a step to a window whose edges the record's have not passed lands on that window's record
   pub moved-lands : (r : RunningSums) → r .left ≤ r .right → r .right ≤ right-of ts z h → r .left ≤ left-of ts z h
       → r .sums ≡ six (power-sum ts vs (r .left) (r .right - r .left))
+      → r .passes ≡ r .right + r .left
       → moved ts vs r z h ≡ at-window ts vs z h
   unfolding moved
-  moved-lands r a b c e =
+  moved-lands r a b c e n =
       rw (right-found ts z h o (r .right) b, left-found ts z h o (r .left) c)
-      (ap (λ (t : PowerSums). record { left = left-of ts z h; right = right-of ts z h; sums = t })
-      (sums-move ts vs s r (left-of ts z h) (right-of ts z h) a b (right-at-most-length ts z h) c (left-at-most-right ts z h) e))
+      (λ i. record {
+        left = left-of ts z h;
+        right = right-of ts z h;
+        sums = sums-move ts vs s r (left-of ts z h) (right-of ts z h) a b (right-at-most-length ts z h) c (left-at-most-right ts z h) e i;
+        passes = passes-count r _ _ c b n small i;
+      })
+    where
+      small : right-of ts z h + left-of ts z h < 2 ^ 64
+      small = omega (arith, s .few, left-at-most-right ts z h, right-at-most-length ts z h)
 
   pub fresh-lands : moved ts vs fresh z h ≡ at-window ts vs z h
-  fresh-lands = moved-lands fresh (omega arith) zero-le zero-le refl
+  fresh-lands = moved-lands fresh (omega arith) zero-le zero-le refl refl

@@ -110,16 +110,17 @@ all-at-second = summing-all three-minutes three-values all-at-first
 
 -- the first mark does not tell it from the step
 pub summing-all-fits-the-first-mark : record-after three-minutes three-values (take 1 two-steps) ≡ all-at-first
-unfolding advance moved
+unfolding advance moved distance
 summing-all-fits-the-first-mark = refl
 
 -- at the second it idles
 pub summing-all-idles : all-at-second ≡ all-at-first
+unfolding distance
 summing-all-idles = refl
 
 -- which is not the step's record, since the left edge stays at 0
 pub no-summing-all-at-the-first-mark : ¬ (record-after three-minutes three-values two-steps ≡ all-at-second)
-unfolding advance moved
+unfolding advance moved distance
 no-summing-all-at-the-first-mark e = let n : _≡_ {A = ℕ} 2 0 = ap (λ (r : RunningSums). r .left) e in omega arith
 
 -- nor are its sums the direct ones of demand 3

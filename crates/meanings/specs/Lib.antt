@@ -19,3 +19,4 @@ pub mod Reports
 pub mod Running
 pub mod Sheet
 pub mod SheetForm
+pub mod Turn

@@ -2,18 +2,22 @@
 -- later report of the call's order holds too, and values at a half and beside it.
 use Prim.Native.Nat.{ℕ, _+_, _-_, _^_}
 use mathlib.Core.List.{List, [], _∷_, _++_}
+use mathlib.Core.Option.{Option, none, some}
 use lib.ListN.{replicate}
+use Rattle.meanings.specs.declared.PowerSums.{PowerSums}
 use Rattle.meanings.specs.declared.RunningSums.{RunningSums}
 use Rattle.meanings.specs.declared.Limits.{Limits}
 use Rattle.meanings.specs.Limits.{full, max-output}
 use Rattle.meanings.specs.Bytes.{ascii}
 use Rattle.meanings.specs.Moves.{Move}
-use Rattle.meanings.specs.Reports.{given}
+use Rattle.meanings.specs.Reports.{Fault, given}
 use Rattle.meanings.specs.EventLog.{EventLog}
 use Rattle.meanings.specs.Sheet.{Contents}
+use Rattle.meanings.specs.Turn.{Motion, step as a-step, turn as a-turn}
 use Rattle.meanings.specs.Cases.{Case, _⇒_, row, run, sums, step, record-gives, steps, smooth-over, filler, sheet}
 use Rattle.meanings.specs.Cases.{reader, output, curve-into, refusal-into, estimated, part, powers, stepped, logged, smooth-gives, filled}
-use Rattle.meanings.specs.Cases.{outcome, read-into, written, holds, is-row, is-report, is-sums, is-record, contents}
+use Rattle.meanings.specs.Cases.{outcome, read-into, written, holds, is-row, is-report, is-sums, is-record, is-counted, contents}
+use Rattle.meanings.specs.Cases.{turn-over, motions, turned-to, reached}
 
 abbrev fives : ℕ → List ℕ
 fives n = replicate n 5
@@ -412,6 +416,66 @@ line-ending-cases =
     ∷ sheet full (replicate 32769 13) ⇒ outcome (is-report 1 32768)
     ∷ []
 
+-- the readings of most turns
+abbrev four-minutes : List ℕ
+four-minutes = 10 ∷ 20 ∷ 20 ∷ 35 ∷ []
+
+abbrev four-values : List ℕ
+four-values = 40 ∷ 60 ∷ 80 ∷ 20 ∷ []
+
+-- the sums over both readings at 20, and over all four
+abbrev two-sums : PowerSums
+two-sums = is-sums 2 40 800 140 2800 56000
+
+abbrev four-sums : PowerSums
+four-sums = is-sums 4 85 2125 200 3900 84500
+
+abbrev turn-report : ℕ → ℕ → Option Fault
+turn-report n p = some (record { number = n; place = p })
+
+-- a record whose passes are at their greatest
+abbrev full-record : RunningSums
+full-record = is-counted 1 3 (is-sums 7 0 0 0 0 (2 ^ 64 - 1)) (2 ^ 64 - 1)
+
+-- a record foreign to any readings
+abbrev foreign : RunningSums
+foreign = is-counted 1 0 (is-sums 5 5 5 5 5 5) 9
+
+abbrev pub turn-cases : List Case
+turn-cases =
+    -- wider on both sides, narrower again, past all readings, and back: passes count both edges, forth and back
+    motions four-minutes four-values (a-step (move 20 5) ∷ []) ⇒ reached (is-counted 1 3 two-sums 4)
+    ∷ motions four-minutes four-values (a-step (move 20 5) ∷ a-turn (move 20 15) ∷ []) ⇒ reached (is-counted 0 4 four-sums 6)
+    ∷ motions four-minutes four-values (a-step (move 20 5) ∷ a-turn (move 20 15) ∷ a-turn (move 20 5) ∷ []) ⇒ reached (is-counted 1 3 two-sums 8)
+    ∷ motions four-minutes four-values (a-step (move 20 5) ∷ a-turn (move 20 15) ∷ a-turn (move 20 5) ∷ a-turn (move 60 20) ∷ [])
+    ⇒ reached (is-counted 4 4 (is-sums 0 0 0 0 0 0) 12)
+    ∷ motions four-minutes four-values
+    (a-step (move 20 5) ∷ a-turn (move 20 15) ∷ a-turn (move 20 5) ∷ a-turn (move 60 20) ∷ a-turn (move 20 5) ∷ [])
+    ⇒ reached (is-counted 1 3 two-sums 16)
+    -- a step does not go back, a turn behind it does
+    ∷ motions four-minutes four-values (a-step (move 35 5) ∷ a-step (move 20 5) ∷ []) ⇒ reached (is-counted 3 4 (is-sums 1 35 1225 20 700 24500) 7)
+    ∷ motions four-minutes four-values (a-step (move 35 5) ∷ a-turn (move 20 5) ∷ []) ⇒ reached (is-counted 1 3 two-sums 10)
+    -- refused ones leave the record, passes and all
+    ∷ motions four-minutes four-values (a-turn (move 20 5) ∷ a-turn (move 20 0) ∷ a-step (move 20 0) ∷ []) ⇒ reached (is-counted 1 3 two-sums 4)
+    -- a record from elsewhere: sums and passes wrap
+    ∷ turn-over four-minutes four-values full-record 20 15 ⇒ turned-to none (is-counted 0 4 (is-sums 9 45 1325 60 1100 28499) 1)
+    -- both edges are closed, and a window without readings has its place among them
+    ∷ turn-over (9 ∷ 10 ∷ 30 ∷ 31 ∷ []) (1 ∷ 1 ∷ 1 ∷ 1 ∷ []) (is-record 0 0 (is-sums 0 0 0 0 0 0)) 20 10
+    ⇒ turned-to none (is-record 1 3 (is-sums 2 40 1000 2 40 1000))
+    ∷ turn-over four-minutes four-values (is-record 3 4 (is-sums 1 35 1225 20 700 24500)) 15 1 ⇒ turned-to none (is-counted 1 1 (is-sums 0 0 0 0 0 0) 12)
+    ∷ turn-over [] [] (is-record 0 0 (is-sums 0 0 0 0 0 0)) 0 65536 ⇒ turned-to none (is-record 0 0 (is-sums 0 0 0 0 0 0))
+    -- 8, 6, 4, 11, 9
+    ∷ turn-over (1 ∷ 0 ∷ []) (1 ∷ []) foreign 0 0 ⇒ turned-to (turn-report 8 0) foreign
+    ∷ turn-over [] (1 ∷ []) foreign 0 1 ⇒ turned-to (turn-report 8 0) foreign
+    ∷ turn-over (1 ∷ replicate 1024 0) (replicate 1025 0) foreign 0 0 ⇒ turned-to (turn-report 6 0) foreign
+    ∷ turn-over (1 ∷ 2 ∷ 1 ∷ 0 ∷ []) (1 ∷ 1 ∷ 1 ∷ 1 ∷ []) foreign 0 0 ⇒ turned-to (turn-report 4 2) foreign
+    ∷ turn-over (1 ∷ []) (1 ∷ []) foreign 0 0 ⇒ turned-to (turn-report 11 0) foreign
+    ∷ turn-over (1 ∷ []) (1 ∷ []) (is-record 0 2 (is-sums 0 0 0 0 0 0)) 0 0 ⇒ turned-to (turn-report 11 0) (is-record 0 2 (is-sums 0 0 0 0 0 0))
+    ∷ turn-over (1 ∷ []) (1 ∷ []) (is-record 1 1 (is-sums 5 5 5 5 5 5)) 1 0 ⇒ turned-to (turn-report 9 0) (is-record 1 1 (is-sums 5 5 5 5 5 5))
+    ∷ turn-over (1 ∷ []) (1 ∷ []) (is-record 1 1 (is-sums 5 5 5 5 5 5)) 1 65537
+    ⇒ turned-to (turn-report 9 0) (is-record 1 1 (is-sums 5 5 5 5 5 5))
+    ∷ []
+
 abbrev pub own-cases : List Case
 own-cases =
     one-point-cases
@@ -423,3 +487,4 @@ own-cases =
     ++ record-cases
     ++ rounding-cases
     ++ line-ending-cases
+    ++ turn-cases

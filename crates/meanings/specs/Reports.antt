@@ -195,7 +195,11 @@ evaluate-checks L ts vs h = series-checks L ts vs ++ bandwidth-checks h
 abbrev pub advance-checks : Limits → List ℕ → List ℕ → ℕ → ℕ → ℕ → List Check
 advance-checks L ts vs left right h = size-checks L ts vs ++ record-checks (length ts) left right ++ bandwidth-checks h
 
--- what of these the book looks at, which has no record: 8, 6, 9
+-- the turn of a record with these edges: 8, 6, 4, 11, 9
+abbrev pub turn-checks : Limits → List ℕ → List ℕ → ℕ → ℕ → ℕ → List Check
+turn-checks L ts vs left right h = series-checks L ts vs ++ record-checks (length ts) left right ++ bandwidth-checks h
+
+-- what of the step's the book looks at, which has no record: 8, 6, 9
 abbrev pub log-checks : Limits → List ℕ → List ℕ → ℕ → List Check
 log-checks L ts vs h = size-checks L ts vs ++ bandwidth-checks h
 

@@ -6,7 +6,7 @@ use lib.ListN.{length, getD}
 use Rattle.meanings.specs.declared.Estimate.{Estimate}
 use Rattle.meanings.specs.declared.PowerSums.{PowerSums}
 use Rattle.meanings.specs.declared.RunningSums.{RunningSums}
-use Rattle.meanings.specs.Lists.{first, total}
+use Rattle.meanings.specs.Lists.{first, total, distance}
 use Rattle.meanings.specs.Estimate.{over-run, value-of}
 use Rattle.meanings.specs.Limits.{full}
 use Rattle.meanings.specs.Moves.{Move}
@@ -49,7 +49,7 @@ minus w a b = (a + (2 ^ w - b % 2 ^ w)) % 2 ^ w
 
 -- fresh: all zero
 abbrev pub fresh : RunningSums
-fresh = record { left = 0; right = 0; sums = six (λ p q. 0) }
+fresh = record { left = 0; right = 0; sums = six (λ p q. 0); passes = 0 }
 
 -- new right: from the old one on, up to a minute beyond the right edge or to the end of the readings
 abbrev pub new-right : List ℕ → ℕ → ℕ → ℕ → ℕ
@@ -67,9 +67,14 @@ new-sums ts vs r left′ right′ =
     (plus 64 (sum-at (r .sums) p q) (power-sum ts vs (r .right) (right′ - r .right) p q))
     (power-sum ts vs (r .left) (left′ - r .left) p q))
 
+-- new passes: with the distances that both edges travel, modulo 2^64
+abbrev pub new-passes : RunningSums → ℕ → ℕ → ℕ
+new-passes r left′ right′ = plus 64 (r .passes) (distance (r .left) left′ + distance (r .right) right′)
+
 -- the record with its edges at the new left and the new right
 abbrev pub moved-to : List ℕ → List ℕ → RunningSums → ℕ → ℕ → RunningSums
-moved-to ts vs r left′ right′ = record { left = left′; right = right′; sums = new-sums ts vs r left′ right′ }
+moved-to ts vs r left′ right′ =
+    record { left = left′; right = right′; sums = new-sums ts vs r left′ right′; passes = new-passes r left′ right′ }
 
 -- what an accepted step makes of a record: new right first, then new left
 unfoldable pub moved : List ℕ → List ℕ → RunningSums → ℕ → ℕ → RunningSums

@@ -70,11 +70,12 @@ pub struct PowerSums {
     pub s21: u64,
 }
 
-// The running record.
+// The running record: the edges, the sums over the run between them, and how far both edges have travelled.
 pub struct RunningSums {
     pub left: usize,
     pub right: usize,
     pub sums: PowerSums,
+    pub passes: u64,
 }
 
 // What the question at one mark gives: the row or the report.
@@ -87,6 +88,12 @@ pub enum Evaluation {
 pub enum Advance {
     Moved(RunningSums),
     Refused(Refusal),
+}
+
+// What a turn gives: the record, as it was where the turn is refused, and what the turn is refused for.
+pub struct Turning {
+    pub running: RunningSums,
+    pub verdict: Verdict,
 }
 
 // What a sweep gives: its passes or the report.

@@ -1,9 +1,10 @@
-// The calls at one mark, the single step and the row of a record on the vectors of stdin: each answer, with the lent list whole. What is written is held to the
+// The calls at one mark, the single step, the turn and the row of a record on the vectors of stdin: each answer, with the lent list whole. What is written is held to the
 // file stdout. Both files are made by the second implementation: bin gate_vectors of reference/, which says their form.
 use abi_point::tankcurve_evaluate;
 use abi_point::tankcurve_window;
 use abi_record::tankcurve_advance;
 use abi_record::tankcurve_row;
+use abi_turn::tankcurve_turn;
 use vectors_io::MOST_BYTES;
 use vectors_io::MOST_CASES;
 use vectors_io::MOST_ELEMENTS;
@@ -68,12 +69,34 @@ fn point_case(input: &[u8], from: usize, window: bool) {
     );
 }
 
-fn advance_with(running: &mut [u64], minutes: &[u16], values: &[u16], point: u16, bandwidth: u32) {
-    show_answer(tankcurve_advance(running, minutes, values, point, bandwidth));
+// The step, or the turn.
+fn record_call(
+    running: &mut [u64],
+    minutes: &[u16],
+    values: &[u16],
+    point: u16,
+    bandwidth: u32,
+    turn: bool,
+) -> u64 {
+    if turn {
+        return tankcurve_turn(running, minutes, values, point, bandwidth);
+    }
+    tankcurve_advance(running, minutes, values, point, bandwidth)
+}
+
+fn record_with(
+    running: &mut [u64],
+    minutes: &[u16],
+    values: &[u16],
+    point: u16,
+    bandwidth: u32,
+    turn: bool,
+) {
+    show_answer(record_call(running, minutes, values, point, bandwidth, turn));
     show_u64(running);
 }
 
-fn advance_case(input: &[u8], from: usize) {
+fn record_case(input: &[u8], from: usize, turn: bool) {
     let mut running = [0u64; 16];
     let mut minutes = [0u16; MOST_ELEMENTS];
     let mut values = [0u16; MOST_ELEMENTS];
@@ -85,12 +108,13 @@ fn advance_case(input: &[u8], from: usize) {
     let rc = r.count;
     let mc = m.count;
     let vc = v.count;
-    advance_with(
+    record_with(
         &mut running[..rc],
         &minutes[..mc],
         &values[..vc],
         narrow_u16(point.value),
         narrow_u32(bandwidth.value),
+        turn,
     );
 }
 
@@ -124,8 +148,9 @@ fn case(input: &[u8]) {
     match which {
         1 => point_case(input, from, false),
         2 => point_case(input, from, true),
-        3 => advance_case(input, from),
+        3 => record_case(input, from, false),
         4 => row_case(input, from),
+        5 => record_case(input, from, true),
         _ => (),
     }
 }

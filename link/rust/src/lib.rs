@@ -36,9 +36,9 @@ pub use row::{Estimate, NoEstimate, RecordRow, Rows};
 /// of the linked archive.
 ///
 /// ```
-/// assert_eq!(tankcurve::VERSION, 0x01_02_00);
+/// assert_eq!(tankcurve::VERSION, 0x02_00_00);
 /// ```
-pub const VERSION: u32 = 0x01_02_00;
+pub const VERSION: u32 = 0x02_00_00;
 
 /// How many samples ("readings") there may be, and how many places the reader's lists of them have.
 ///
@@ -103,13 +103,13 @@ pub const MAX_OUTPUT: usize = 31_291;
 /// ```
 pub const ROW_WIDTH: usize = 5;
 
-/// How many numbers a record has: left, right, s00, s10, s20, s01, s11, s21.
+/// How many numbers a record has: left, right, s00, s10, s20, s01, s11, s21, passes.
 ///
 /// ```
 /// let fresh = [0; tankcurve::RECORD_WIDTH];
 /// assert_eq!(tankcurve::RunningSums::from(fresh), tankcurve::RunningSums::default());
 /// ```
-pub const RECORD_WIDTH: usize = 8;
+pub const RECORD_WIDTH: usize = 9;
 
 /// The number that a row of weight 0 has for its value: missing.
 ///
@@ -163,11 +163,12 @@ pub const MAX_BANDWIDTH: u32 = 65_536;
 
 /// The running sums ("running record"); the default is the fresh record. `spq` adds up minute to the
 /// power p times value to the power q, modulo 2^64, of the samples that steps have added and not
-/// subtracted. Those are the run of the last accepted point if the steps were as [`advance`] says.
+/// subtracted. Those are the run of the last accepted point if the steps were as [`advance`] says, or if the
+/// last was a [`turn`] of a record that steps and turns have led to.
 ///
 /// ```
 /// let fresh = tankcurve::RunningSums::default();
-/// assert_eq!(<[u64; tankcurve::RECORD_WIDTH]>::from(fresh), [0; 8]);
+/// assert_eq!(<[u64; tankcurve::RECORD_WIDTH]>::from(fresh), [0; 9]);
 /// ```
 #[derive(Clone, Copy, Debug, Default, PartialEq, Eq)]
 #[must_use]
@@ -188,6 +189,8 @@ pub struct RunningSums {
     pub s11: u64,
     /// The sum of squared minute times value.
     pub s21: u64,
+    /// How many positions both edges have passed, forth and back, modulo 2^64. No call looks at it.
+    pub passes: u64,
 }
 
 impl RunningSums {
@@ -208,7 +211,9 @@ impl RunningSums {
 }
 
 impl From<[u64; RECORD_WIDTH]> for RunningSums {
-    fn from([left, right, s00, s10, s20, s01, s11, s21]: [u64; RECORD_WIDTH]) -> RunningSums {
+    fn from(
+        [left, right, s00, s10, s20, s01, s11, s21, passes]: [u64; RECORD_WIDTH],
+    ) -> RunningSums {
         RunningSums {
             left,
             right,
@@ -218,13 +223,16 @@ impl From<[u64; RECORD_WIDTH]> for RunningSums {
             s01,
             s11,
             s21,
+            passes,
         }
     }
 }
 
 impl From<RunningSums> for [u64; RECORD_WIDTH] {
     fn from(r: RunningSums) -> [u64; RECORD_WIDTH] {
-        [r.left, r.right, r.s00, r.s10, r.s20, r.s01, r.s11, r.s21]
+        [
+            r.left, r.right, r.s00, r.s10, r.s20, r.s01, r.s11, r.s21, r.passes,
+        ]
     }
 }
 
@@ -353,11 +361,44 @@ pub fn advance(
     report::outcome(answer).map(|_| ())
 }
 
+/// Turns the running sums to any point and bandwidth ("the turn"), forth or back. Reports 8, 6, 4, 11, 9.
+///
+/// Left and right become those of the window's row. The sums gain those over the new run and lose those over
+/// the old one, and the passes gain the distances of both edges. From a record that steps and turns over the
+/// same minutes and values have led to, beginning with a fresh one, the sums are then those over the new run,
+/// and the row of the record is that of [`evaluate`].
+///
+/// ```
+/// # fn main() -> Result<(), tankcurve::Error> {
+/// let (minutes, values) = ([10, 20, 20, 35], [40, 60, 80, 20]);
+/// let mut record = tankcurve::RunningSums::default();
+/// tankcurve::advance(&mut record, &minutes, &values, 20, 5)?;
+/// tankcurve::turn(&mut record, &minutes, &values, 20, 15)?;
+/// assert_eq!((record.left, record.right, record.passes), (0, 4, 6));
+/// let row = tankcurve::Estimate::try_from(record.row(20, 15)?).unwrap();
+/// assert_eq!(row, tankcurve::evaluate(&minutes, &values, 20, 15)?);
+/// # Ok(())
+/// # }
+/// ```
+pub fn turn(
+    record: &mut RunningSums,
+    minutes: &[u16],
+    values: &[u16],
+    point: u16,
+    bandwidth: u32,
+) -> Result<(), Error> {
+    let mut numbers = <[u64; RECORD_WIDTH]>::from(*record);
+    let answer = slices::turn(&mut numbers, minutes, values, point, bandwidth);
+    *record = RunningSums::from(numbers);
+    report::outcome(answer).map(|_| ())
+}
+
 /// The row of a running record of any origin at one point. Pass the point and bandwidth of the last accepted
-/// step; at others the row may look like a good one with value 0 or 1.
+/// step or turn; at others the row may look like a good one with value 0 or 1.
 ///
 /// Where the record has the edges and sums of the window of point and bandwidth, as after an accepted
-/// [`advance`] to it from a fresh record, over the same ordered minutes and with no edge back, it is the row
+/// [`advance`] to it from a fresh record, over the same ordered minutes and with no edge back, or after an
+/// accepted [`turn`] to it of a record that steps and turns have led to, it is the row
 /// of [`evaluate`]. Convert it to [`Estimate`] then: some rows of other records are told by that, not all.
 /// Every point and every bandwidth is taken. A record of this type earns no report.
 ///

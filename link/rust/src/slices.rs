@@ -71,6 +71,17 @@ mod exports {
             bandwidth: u32,
         ) -> u64;
 
+        pub fn tankcurve_turn(
+            record: *mut u64,
+            record_len: usize,
+            minutes: *const u16,
+            minutes_len: usize,
+            values: *const u16,
+            values_len: usize,
+            point: u16,
+            bandwidth: u32,
+        ) -> u64;
+
         pub fn tankcurve_row(
             record: *const u64,
             record_len: usize,
@@ -229,13 +240,13 @@ pub fn window(
 }
 
 /// Moves the running sums to the next point. `record`: [`crate::RECORD_WIDTH`] numbers, read and written:
-/// left, right, s00, s10, s20, s01, s11, s21. The order of the minutes and of the edges is not looked at, as
+/// left, right, s00, s10, s20, s01, s11, s21, passes. The order of the minutes and of the edges is not looked at, as
 /// [`crate::advance`] says. Detail 0.
 ///
 /// ```
-/// let mut record = [0; 8];
+/// let mut record = [0; 9];
 /// assert_eq!(tankcurve::slices::advance(&mut record, &[5, 9], &[2, 3], 9, 1), 0);
-/// assert_eq!(record, [1, 2, 1, 9, 81, 3, 27, 243]);
+/// assert_eq!(record, [1, 2, 1, 9, 81, 3, 27, 243, 3]);
 /// ```
 #[must_use]
 pub fn advance(
@@ -259,17 +270,47 @@ pub fn advance(
     }
 }
 
+/// Turns the running sums to any point and bandwidth, forth or back. `record`: [`crate::RECORD_WIDTH`] numbers,
+/// read and written: left, right, s00, s10, s20, s01, s11, s21, passes. Detail 0.
+///
+/// ```
+/// let mut record = [1, 2, 1, 9, 81, 3, 27, 243, 3];
+/// assert_eq!(tankcurve::slices::turn(&mut record, &[5, 9], &[2, 3], 5, 1), 0);
+/// assert_eq!(record, [0, 1, 1, 5, 25, 2, 10, 50, 5]);
+/// ```
+#[must_use]
+pub fn turn(
+    record: &mut [u64],
+    minutes: &[u16],
+    values: &[u16],
+    point: u16,
+    bandwidth: u32,
+) -> u64 {
+    unsafe {
+        exports::tankcurve_turn(
+            record.as_mut_ptr(),
+            record.len(),
+            minutes.as_ptr(),
+            minutes.len(),
+            values.as_ptr(),
+            values.len(),
+            point,
+            bandwidth,
+        )
+    }
+}
+
 /// The row of a record of any origin. `record`: [`crate::RECORD_WIDTH`] numbers, read: left, right, s00, s10,
-/// s20, s01, s11, s21; `row`: [`crate::ROW_WIDTH`] numbers: left, right, weight, sum, value. Pass the point and
+/// s20, s01, s11, s21, passes; `row`: [`crate::ROW_WIDTH`] numbers: left, right, weight, sum, value. Pass the point and
 /// bandwidth of the last accepted step; at others the row may look like a good one with value 0 or 1.
 /// Detail 0.
 ///
 /// ```
 /// use tankcurve::slices;
 /// let mut row = [0; 5];
-/// assert_eq!(slices::row(&[3, 7, 100, 200, 300, 400, 500, 9], 16, 20, &mut row), 0);
+/// assert_eq!(slices::row(&[3, 7, 100, 200, 300, 400, 500, 9, 4], 16, 20, &mut row), 0);
 /// assert_eq!(row, [3, 7, 20_500, 73_591, 4]);
-/// assert_eq!(slices::row(&[0; 7], 16, 20, &mut row), 8);
+/// assert_eq!(slices::row(&[0; 8], 16, 20, &mut row), 8);
 /// ```
 #[must_use]
 pub fn row(record: &[u64], point: u16, bandwidth: u32, row: &mut [u64]) -> u64 {

@@ -258,7 +258,7 @@ fn missing() {
     let without = Estimate::try_from([0, 1, 0, 0, 70]).unwrap();
     assert_eq!((without.value(), without.raw_value()), (None, 70));
     // A record that no readings gave: its value is 65,536 with a weight.
-    let foreign = RunningSums::from([0, 0, 1, 0, 0, MISSING, 0, 0]);
+    let foreign = RunningSums::from([0, 0, 1, 0, 0, MISSING, 0, 0, 0]);
     let row = foreign.row(0, 1).unwrap();
     assert_eq!((row.present(), row.value()), (true, Some(MISSING)));
     assert_eq!(row.raw_value(), MISSING);

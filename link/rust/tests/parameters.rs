@@ -112,16 +112,16 @@ fn window() {
 
 #[test]
 fn advance() {
-    let before = [0, 3, 100, 200, 300, 400, 500, u64::MAX];
-    let after = [1, 5, 101, 233, 957, 437, 1289, 15_668];
+    let before = [0, 3, 100, 200, 300, 400, 500, u64::MAX, 40];
+    let after = [1, 5, 101, 233, 957, 437, 1289, 15_668, 43];
     let mut record = before;
     assert_eq!(slices::advance(&mut record, &MINUTES, &VALUES, 16, 0), 9);
     assert_eq!(record, before);
     assert_eq!(slices::advance(&mut record, &MINUTES, &VALUES, 16, 8), 0);
     assert_eq!(record, after);
-    let mut long = [1; 9];
+    let mut long = [1; 10];
     assert_eq!(slices::advance(&mut long, &MINUTES, &VALUES, 16, 8), 8);
-    assert_eq!(long, [1; 9]);
+    assert_eq!(long, [1; 10]);
 
     let sums = RunningSums {
         left: 0,
@@ -132,6 +132,7 @@ fn advance() {
         s01: 400,
         s11: 500,
         s21: u64::MAX,
+        passes: 40,
     };
     let mut running = sums;
     assert_eq!(
@@ -152,17 +153,52 @@ fn advance() {
         s01: 437,
         s11: 1289,
         s21: 15_668,
+        passes: 43,
     };
     assert_eq!(running, moved);
+}
+
+/// Forth as the step goes, and back, which no step does.
+#[test]
+fn turn() {
+    let before = [0, 3, 100, 200, 300, 400, 500, u64::MAX, 40];
+    let after = [1, 5, 101, 233, 957, 437, 1289, 15_668, 43];
+    let mut record = before;
+    assert_eq!(slices::turn(&mut record, &MINUTES, &VALUES, 16, 0), 9);
+    assert_eq!(
+        slices::turn(&mut record, &FALLING, &VALUES, 16, 0),
+        256 * 4 + 4
+    );
+    assert_eq!(record, before);
+    assert_eq!(slices::turn(&mut record, &MINUTES, &VALUES, 16, 8), 0);
+    assert_eq!(record, after);
+    assert_eq!(slices::turn(&mut record, &MINUTES, &VALUES, 8, 5), 0);
+    assert_eq!(record[..8], before[..8]);
+    assert_eq!(record[8], 46);
+    let mut long = [1; 10];
+    assert_eq!(slices::turn(&mut long, &MINUTES, &VALUES, 16, 8), 8);
+    assert_eq!(long, [1; 10]);
+
+    let mut running = RunningSums::from(before);
+    assert_eq!(
+        tankcurve::turn(&mut running, &FALLING, &VALUES, 16, 8),
+        refused(Report::SampleOutOfOrder, 4)
+    );
+    assert_eq!(running, RunningSums::from(before));
+    assert_eq!(
+        tankcurve::turn(&mut running, &MINUTES, &VALUES, 16, 8),
+        Ok(())
+    );
+    assert_eq!(running, RunningSums::from(after));
 }
 
 /// The row of a record: that of `evaluate` where the record is of its window, and modulo 2^64 for one
 /// of any origin.
 #[test]
 fn row() {
-    let foreign = [3, 7, 100, 200, 300, 400, 500, 9];
+    let foreign = [3, 7, 100, 200, 300, 400, 500, 9, 2];
     let mut row = [90; ROW_WIDTH + 1];
-    assert_eq!(slices::row(&foreign[..7], 16, 20, &mut row[..5]), 8);
+    assert_eq!(slices::row(&foreign[..8], 16, 20, &mut row[..5]), 8);
     assert_eq!(slices::row(&foreign, 16, 20, &mut row), 8);
     assert_eq!(row, [90; ROW_WIDTH + 1]);
     assert_eq!(slices::row(&foreign, 16, 20, &mut row[..5]), 0);
@@ -170,7 +206,7 @@ fn row() {
 
     let typed = tankcurve::row(RunningSums::from(foreign), 16, 20);
     assert_eq!(typed, Ok(RecordRow::from([3, 7, 20_500, 73_591, 4])));
-    let wrapping = RunningSums::from([3, 7, 2, 0, 0, u64::MAX, 0, 0]);
+    let wrapping = RunningSums::from([3, 7, 2, 0, 0, u64::MAX, 0, 0, 0]);
     assert_eq!(
         wrapping.row(0, 1),
         Ok(RecordRow::from([3, 7, 2, u64::MAX, 1 << 63]))
@@ -200,13 +236,18 @@ fn widths() {
         0
     );
     assert_eq!(bounds, [0, 6]);
-    let mut record = [0; 8];
+    let mut record = [0; 9];
+    assert_eq!(
+        slices::turn(&mut record, &MINUTES, &VALUES, 14, greatest),
+        0
+    );
+    record = [0; 9];
     assert_eq!(
         slices::advance(&mut record, &MINUTES, &VALUES, 14, greatest),
         0
     );
-    assert_eq!(record, [0, 6, 6, 95, 2403, 96, 2203, 66511]);
-    let foreign = [3, 7, 100, 200, 300, 400, 500, 9];
+    assert_eq!(record, [0, 6, 6, 95, 2403, 96, 2203, 66511, 6]);
+    let foreign = [3, 7, 100, 200, 300, 400, 500, 9, 2];
     assert_eq!(slices::row(&foreign, 16, u32::MAX, &mut row), 0);
     assert_eq!(row, [3, 7, 18446743214716073016, 18446740637735628807, 1]);
     assert_eq!(slices::fill(100, 7, 65_540, &mut [0], &mut [0]), 12);

@@ -1,4 +1,4 @@
--- A list of another length stays; eight stores fill one of a record's length.
+-- A list of another length stays; nine stores fill one of a record's length.
 use Rattle.abi_answers.specs.Answers.{record-numbers}
 use native.Mathlib.Omega.{arith}
 use lib.ListN.{length-set}
@@ -35,6 +35,9 @@ slice-write-out-7 c = simp length-set (omega arith)
 slice-write-out-8 : tie.Need-slice-write-out-8
 slice-write-out-8 c = simp length-set (omega arith)
 
+slice-write-out-9 : tie.Need-slice-write-out-9
+slice-write-out-9 c = simp length-set (omega arith)
+
 same-length : tie.Need-same-length
 same-length c = search needs
 
@@ -54,5 +57,6 @@ put-record-spec =
     slice-write-out-6
     slice-write-out-7
     slice-write-out-8
+    slice-write-out-9
     same-length
     returns-2)

@@ -1,4 +1,4 @@
--- A record of another length is refused first; else the step is that of the call below on the record that the eight numbers are.
+-- A record of another length is refused first; else the step is that of the call below on the record that the nine numbers are.
 use Rattle.meanings.specs.Calls.{advance-answer}
 use Rattle.abi_record.proofs.Places.{advance-place}
 use Rattle.abi_answers.proofs.Answered.{sized-place, refused-code, refused-stays, accepted-code, accepted-stored}

@@ -1,4 +1,4 @@
--- A record of another length is refused first, then a row of another length; else the row is that of the record that the eight numbers are.
+-- A record of another length is refused first, then a row of another length; else the row is that of the record that the nine numbers are.
 use borrow.Author.Needs.{needs}
 use Rattle.abi_answers.proofs.Answered.{other-code, other-stays, second-other-code, second-other-stays}
 use Rattle.abi_record.proofs.Records.{row-code, row-stored}

@@ -3,7 +3,7 @@
 use crate::files::{Answer, Cases, Program};
 use reference::exported::{BOUNDS, COUNTS, READER, RECORD};
 use reference::{
-    fill, one_mark, one_mark_run, preview, read, record_row, refusal_text, step, sweep, text,
+    fill, one_mark, one_mark_run, preview, read, record_row, refusal_text, step, sweep, text, turn,
     Record, Refusal, MOST_OUTPUT, ROW_WIDTH,
 };
 
@@ -55,14 +55,18 @@ fn sized(length: usize, wanted: usize) -> Result<(), Refusal> {
 /// A sweep or a preview.
 type Sweep = fn(&[u16], &[u16], &[u16], &[u32], &mut [u64]) -> Result<u64, Refusal>;
 
-/// A record of its eight numbers.
+/// What makes another record of one.
+type Moving = fn(Record, &[u16], &[u16], u16, u32) -> Result<Record, Refusal>;
+
+/// A record of its nine numbers.
 fn record_of(numbers: &[u64]) -> Record {
-    let mut sums = [0; RECORD - 2];
-    sums.copy_from_slice(&numbers[2..]);
+    let mut sums = [0; RECORD - 3];
+    sums.copy_from_slice(&numbers[2..RECORD - 1]);
     Record {
         left: numbers[0],
         right: numbers[1],
         sums,
+        passes: numbers[RECORD - 1],
     }
 }
 
@@ -128,6 +132,32 @@ impl Cases {
         self.evaluate(minutes, values, point, bandwidth, ROW_WIDTH)
     }
 
+    /// The step, or the turn, of a record of which `record` has the numbers.
+    fn moved(
+        &mut self,
+        call: (u64, &'static str, Moving),
+        record: &[u64],
+        minutes: &[u16],
+        values: &[u16],
+        point: u16,
+        bandwidth: u32,
+    ) -> Answer {
+        let (number, name, moving) = call;
+        let mut numbers = vec![number];
+        numbers.extend(listed(record, MOST_RECORD));
+        numbers.extend(listed(minutes, MOST_ELEMENTS));
+        numbers.extend(listed(values, MOST_ELEMENTS));
+        numbers.extend([u64::from(point), u64::from(bandwidth)]);
+        self.case(Program::Point, &numbers, b"");
+        let result = sized(record.len(), RECORD)
+            .and_then(|()| moving(record_of(record), minutes, values, point, bandwidth));
+        let list = match result {
+            Ok(after) => [&[after.left, after.right], &after.sums[..], &[after.passes]].concat(),
+            Err(_) => record.to_vec(),
+        };
+        self.answer(Program::Point, name, result.map(|_| 0), b"", vec![list])
+    }
+
     pub fn advance(
         &mut self,
         record: &[u64],
@@ -136,25 +166,25 @@ impl Cases {
         point: u16,
         bandwidth: u32,
     ) -> Answer {
-        let mut numbers = vec![3];
-        numbers.extend(listed(record, MOST_RECORD));
-        numbers.extend(listed(minutes, MOST_ELEMENTS));
-        numbers.extend(listed(values, MOST_ELEMENTS));
-        numbers.extend([u64::from(point), u64::from(bandwidth)]);
-        self.case(Program::Point, &numbers, b"");
-        let result = sized(record.len(), RECORD)
-            .and_then(|()| step(record_of(record), minutes, values, point, bandwidth));
-        let list = match result {
-            Ok(after) => [&[after.left, after.right], &after.sums[..]].concat(),
-            Err(_) => record.to_vec(),
-        };
-        self.answer(
-            Program::Point,
-            "advance",
-            result.map(|_| 0),
-            b"",
-            vec![list],
+        self.moved(
+            (3, "advance", step),
+            record,
+            minutes,
+            values,
+            point,
+            bandwidth,
         )
+    }
+
+    pub fn turn(
+        &mut self,
+        record: &[u64],
+        minutes: &[u16],
+        values: &[u16],
+        point: u16,
+        bandwidth: u32,
+    ) -> Answer {
+        self.moved((5, "turn", turn), record, minutes, values, point, bandwidth)
     }
 
     /// The row of a record, of which `record` has the numbers.

@@ -104,8 +104,8 @@ pub fn length(random: &mut Random, wanted: usize) -> usize {
 pub fn record(random: &mut Random, readings: usize) -> [u64; RECORD] {
     let right = random.below(readings + 1);
     let left = random.below(right + 1);
-    let mut record = [left as u64, right as u64, 0, 0, 0, 0, 0, 0];
-    for sum in &mut record[2..] {
+    let mut record = [left as u64, right as u64, 0, 0, 0, 0, 0, 0, 0];
+    for sum in &mut record[2..RECORD - 1] {
         *sum = match random.below(5) {
             0 => 0,
             1 => random.below(1000) as u64,
@@ -113,6 +113,8 @@ pub fn record(random: &mut Random, readings: usize) -> [u64; RECORD] {
             _ => random.number(),
         };
     }
+    // The passes are any number, too.
+    record[RECORD - 1] = record[2] ^ record[RECORD - 2].rotate_left(7);
     match random.below(30) {
         0 => record[0] = record[1] + 1,
         1 => record[1] = readings as u64 + 1,

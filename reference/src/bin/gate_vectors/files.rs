@@ -33,10 +33,11 @@ const PROGRAMS: [(Program, &str); 4] = [
 ];
 
 /// Each call, and what it can answer.
-const REPORTS: [(&str, &[u64]); 10] = [
+const REPORTS: [(&str, &[u64]); 11] = [
     ("evaluate", &[8, 6, 4, 9, 0]),
     ("window", &[8, 6, 4, 9, 0]),
     ("advance", &[8, 6, 11, 9, 0]),
+    ("turn", &[8, 6, 4, 11, 9, 0]),
     ("row", &[8, 0]),
     ("smooth", &[8, 6, 7, 4, 5, 9, 10, 0]),
     ("preview", &[8, 6, 7, 4, 5, 9, 10, 0]),

@@ -16,6 +16,7 @@
 //! 2 window(minutes, values, point, bandwidth, bounds*)     the same question: its run
 //! 3 advance(record*, minutes, values, point, bandwidth)    the single step
 //! 4 row(record, point, bandwidth, row*)                    the row of a record
+//! 5 turn(record*, minutes, values, point, bandwidth)       the turn
 //!
 //! vectors_sweep
 //! 1 smooth(minutes, values, points, bandwidths, rows*)     the sweep
@@ -52,6 +53,7 @@
 //!                 2 MINUTES VALUES point bandwidth length-of-bounds
 //!                 3 RECORD MINUTES VALUES point bandwidth
 //!                 4 RECORD point bandwidth length-of-row
+//!                 5 RECORD MINUTES VALUES point bandwidth
 //! vectors_sweep   1 MINUTES VALUES POINTS BANDWIDTHS length-of-rows
 //!                 2 first spacing preset length-of-points length-of-bandwidths
 //!                 3 MINUTES VALUES POINTS BANDWIDTHS length-of-rows

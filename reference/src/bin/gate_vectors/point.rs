@@ -1,4 +1,4 @@
-//! The question at one mark and the single step.
+//! The question at one mark, the single step and the turn.
 
 use crate::draws::{length, record, sample_count, LISTS};
 use crate::files::Cases;
@@ -58,6 +58,7 @@ pub fn cases(cases: &mut Cases) {
     one_mark(cases);
     halves(cases);
     steps(cases);
+    turns(cases);
     rows_of_records(cases);
     order(cases);
     lengths(cases);
@@ -81,29 +82,29 @@ fn published(cases: &mut Cases) {
 
     // C9: a reading jumped over; letting go first would leave it in the sums.
     let record = cases.steps(FRESH, &[50], &[9], &[(0, 1), (100, 1)]);
-    assert_eq!(record, [1, 1, 0, 0, 0, 0, 0, 0]);
+    assert_eq!(record, [1, 1, 0, 0, 0, 0, 0, 0, 2]);
 
     // A reading on the right edge: the row is C5's, the sums are not 0.
     cases.point(&[30], &[40], 20, 10).accepted(0, &[0, 1, 0, 0, MISSING]);
     let record = cases.steps(FRESH, &[30], &[40], &[(20, 10)]);
-    assert_eq!(record, [0, 1, 1, 30, 900, 40, 1200, 36000]);
+    assert_eq!(record, [0, 1, 1, 30, 900, 40, 1200, 36000, 1]);
 
     cases.evaluate(&[65535; 1024], &[65535; 1024], 65535, 65536, ROW_WIDTH).accepted(0, &GREATEST);
 
     // A step neither checks order nor trusts the sums.
     let (m, v) = ([15, 3, 30, 10], [2, 7, 1, 1]);
     cases.steps(FRESH, &m, &v, &[(15, 5), (30, 18), (30, 10), (0, 1)]);
-    let full = [0, 0, !0, !0, !0, !0, !0, !0];
+    let full = [0, 0, !0, !0, !0, !0, !0, !0, !0];
     let record = cases.steps(full, &[2], &[3], &[(2, 1)]);
-    assert_eq!(record, [0, 1, 0, 1, 3, 2, 5, 11]);
-    let record = cases.steps([0, 1, 0, 0, 0, 0, 0, 0], &[2], &[3], &[(9, 1)]);
-    assert_eq!(record, [1, 1, !0, !1, !3, !2, !5, !11]);
+    assert_eq!(record, [0, 1, 0, 1, 3, 2, 5, 11, 0]);
+    let record = cases.steps([0, 1, 0, 0, 0, 0, 0, 0, 0], &[2], &[3], &[(9, 1)]);
+    assert_eq!(record, [1, 1, !0, !1, !3, !2, !5, !11, 1]);
 
     // Refused steps leave the record.
     let (m, v) = ([1, 5, 5, 9, 40], [10, 20, 30, 40, 50]);
     let record = cases.steps(FRESH, &m, &v, &[(4, 2), (5, 0), (5, 2), (6, 65537), (30, 9)]);
     cases.advance(&record, &m, &v[1..], 31, 9).refused(8, 0);
-    cases.steps([4, 4, 0, 0, 0, 0, 0, 0], &m, &v, &[(40, 9), (65535, 1)]);
+    cases.steps([4, 4, 0, 0, 0, 0, 0, 0, 8], &m, &v, &[(40, 9), (65535, 1)]);
 }
 
 #[rustfmt::skip]
@@ -153,11 +154,43 @@ fn halves(cases: &mut Cases) {
 
 fn steps(cases: &mut Cases) {
     cases.steps(FRESH, &[50], &[9], &[(100, 1)]);
-    let one = [0, 1, 0, 0, 0, 0, 0, 0];
+    let one = [0, 1, 0, 0, 0, 0, 0, 0, 1];
     cases.steps(one, &[3], &[2], &[(9, 1)]);
     cases.advance(&one, &[], &[], 9, 1).refused(11, 0);
     cases.steps(FRESH, &[1, 9, 1], &[1, 1, 1], &[(1, 1)]);
     cases.advance(&FRESH, &[1], &[1], 1, 0).refused(9, 0);
+}
+
+/// The record turned forth and back, from a step and from elsewhere; its row is then that of the question.
+#[rustfmt::skip]
+fn turns(cases: &mut Cases) {
+    let (m, v) = ([10, 20, 20, 35], [40, 60, 80, 20]);
+    let two = [2, 40, 800, 140, 2800, 56000];
+    let four = [4, 85, 2125, 200, 3900, 84500];
+    let mut record = cases.steps(FRESH, &m, &v, &[(20, 5)]);
+    let expected = [
+        ((20, 15), [0, 4], four, 6), ((20, 5), [1, 3], two, 8), ((60, 20), [4, 4], [0; 6], 12), ((20, 5), [1, 3], two, 16),
+    ];
+    for ((point, bandwidth), edges, sums, passes) in expected {
+        let after = [&edges[..], &sums[..], &[passes]].concat();
+        cases.turn(&record, &m, &v, point, bandwidth).accepted(0, &after);
+        record = after;
+        let five = cases.evaluate(&m, &v, point, bandwidth, ROW_WIDTH).lists[0].clone();
+        cases.record_row(&record, point, bandwidth, ROW_WIDTH).accepted(0, &five);
+    }
+    // A refused turn leaves the record.
+    cases.turn(&record, &m, &v, 20, 0).refused(9, 0);
+    // Sums and passes of a record from elsewhere wrap.
+    let full = [1, 3, 7, 0, 0, 0, 0, !0, !0];
+    cases.turn(&full, &m, &v, 20, 15).accepted(0, &[0, 4, 9, 45, 1325, 60, 1100, 28499, 1]);
+    // A step does not go back, a turn does.
+    let ahead = cases.steps(FRESH, &m, &v, &[(35, 5), (20, 5)]);
+    assert_eq!(ahead, [3, 4, 1, 35, 1225, 20, 700, 24500, 7]);
+    cases.turn(&ahead, &m, &v, 20, 5);
+    cases.turn(&ahead, &m, &v, 15, 1);
+    // As many readings as there may be, all passed at once.
+    let all = cases.turn(&FRESH, &[9; 1024], &[9; 1024], 9, 9).lists[0].clone();
+    cases.turn(&all, &[9; 1024], &[9; 1024], 65535, 1);
 }
 
 /// A record's row: after each of C1 to C3 that of the question at the mark, and of records that no steps lead to.
@@ -171,14 +204,14 @@ fn rows_of_records(cases: &mut Cases) {
         cases.record_row(&record, point, bandwidth, ROW_WIDTH).accepted(0, &five);
     }
     for (point, bandwidth) in [(0, 0), (0, 1), (65535, 0), (65535, 65536), (1, u32::MAX), (65535, u32::MAX)] {
-        for numbers in [FRESH, [!0; RECORD], [3, 1, 2, 0, 0, 5, 0, 0], [0, 0, 1 << 63, 1 << 62, 1, !1, 7, !0]] {
+        for numbers in [FRESH, [!0; RECORD], [3, 1, 2, 0, 0, 5, 0, 0, 4], [0, 0, 1 << 63, 1 << 62, 1, !1, 7, !0, 9]] {
             cases.record_row(&numbers, point, bandwidth, ROW_WIDTH);
         }
     }
     // A half over an even number and over an odd one, and over a sum near 2^64.
-    cases.record_row(&[0, 2, 2, 0, 0, 5, 0, 0], 0, 1, ROW_WIDTH).accepted(0, &[0, 2, 2, 5, 2]);
-    cases.record_row(&[0, 2, 2, 0, 0, 7, 0, 0], 0, 1, ROW_WIDTH).accepted(0, &[0, 2, 2, 7, 4]);
-    cases.record_row(&[0, 2, 2, 0, 0, !0, 0, 0], 0, 1, ROW_WIDTH).accepted(0, &[0, 2, 2, !0, 1 << 63]);
+    cases.record_row(&[0, 2, 2, 0, 0, 5, 0, 0, 2], 0, 1, ROW_WIDTH).accepted(0, &[0, 2, 2, 5, 2]);
+    cases.record_row(&[0, 2, 2, 0, 0, 7, 0, 0, 2], 0, 1, ROW_WIDTH).accepted(0, &[0, 2, 2, 7, 4]);
+    cases.record_row(&[0, 2, 2, 0, 0, !0, 0, 0, 2], 0, 1, ROW_WIDTH).accepted(0, &[0, 2, 2, !0, 1 << 63]);
     // Records and rows of another length.
     let numbers = [1, 2, 3, 4, 5, 6, 7, 8, 9, 10, 11, 12, 13, 14, 15, 16];
     for length in [RECORD - 1, RECORD + 1, 0, 1, 16] {
@@ -207,26 +240,38 @@ fn order(cases: &mut Cases) {
     cases.point(&[3; 3], &ones[..3], 5, 0).refused(9, 0);
 
     // Step 8, 6, 11, 9; 8 first for the length of the record.
-    let foreign = [1, 0, 5, 5, 5, 5, 5, 5];
-    cases.advance(&foreign[..7], three, &ones[..3], 5, 0).refused(8, 0);
+    let foreign = [1, 0, 5, 5, 5, 5, 5, 5, 5];
+    cases.advance(&foreign[..8], three, &ones[..3], 5, 0).refused(8, 0);
     cases.advance(&foreign, &ones, &[], 5, 0).refused(8, 0);
     cases.advance(&foreign, &ones, &ones, 5, 0).refused(6, 0);
     cases.advance(&FRESH, &ones, &ones, 5, 5).refused(6, 0);
     cases.advance(&foreign, three, &ones[..3], 5, 0).refused(11, 0);
     cases.advance(&FRESH, three, &ones[..3], 5, 0).refused(9, 0);
 
+    // Turn 8, 6, 4, 11, 9; 8 first for the length of the record.
+    cases.turn(&foreign[..8], three, &ones[..3], 5, 0).refused(8, 0);
+    cases.turn(&foreign, &falling, &[], 5, 0).refused(8, 0);
+    cases.turn(&foreign, &falling, &ones, 5, 0).refused(6, 0);
+    cases.turn(&FRESH, &ones, &ones, 5, 5).refused(6, 0);
+    cases.turn(&foreign, three, &ones[..3], 5, 0).refused(4, 1);
+    cases.turn(&foreign, &[3; 3], &ones[..3], 5, 0).refused(11, 0);
+    cases.turn(&FRESH, &[3; 3], &ones[..3], 5, 0).refused(9, 0);
+    cases.turn(&FRESH, &[3; 3], &ones[..3], 5, 65537).refused(9, 0);
+    cases.turn(&FRESH, &[5, 6, 4, 3], &ones[..4], 5, 5).refused(4, 2);
+
     // As many readings as there may be.
     let record = cases.steps(FRESH, &ones[..1024], &ones[..1024], &[(1, 1)]);
-    assert_eq!(record, [0, 1024, 1024, 1024, 1024, 1024, 1024, 1024]);
+    assert_eq!(record, [0, 1024, 1024, 1024, 1024, 1024, 1024, 1024, 1024]);
 
     // Foreign records.
     for (left, right) in [
         (1, 0), (0, 2), (2, 2), (0, !0), (!0, 1), (!0, !0), (0, 1 << 32), (1 << 32, (1 << 32) + 1), (1 << 63, 1),
     ] {
-        let record = [left, right, 5, 5, 5, 5, 5, 5];
+        let record = [left, right, 5, 5, 5, 5, 5, 5, 5];
         cases.advance(&record, &[1], &[1], 5, 5).refused(11, 0);
+        cases.turn(&record, &[1], &[1], 5, 5).refused(11, 0);
     }
-    cases.steps([1, 1, 5, 5, 5, 5, 5, 5], &[1], &[1], &[(5, 65536)]);
+    cases.steps([1, 1, 5, 5, 5, 5, 5, 5, 5], &[1], &[1], &[(5, 65536)]);
 }
 
 /// Lent lists one short, one long and empty, alone and with other faults.
@@ -253,6 +298,8 @@ fn lengths(cases: &mut Cases) {
         cases.advance(&record[..length], &m, &v, 20, 0).refused(8, 0);
         cases.advance(&record[..length], &[1], &[1], 20, 10).refused(8, 0);
         cases.advance(&record[..length], &m, &v[1..], 20, 10).refused(8, 0);
+        cases.turn(&record[..length], &m, &v, 20, 10).refused(8, 0);
+        cases.turn(&record[..length], &falling, &v, 20, 0).refused(8, 0);
     }
 }
 
@@ -324,8 +371,39 @@ fn random_steps(random: &mut Random, cases: &mut Cases) {
     }
 }
 
+/// Turns with some steps between, over ordered readings that stay the same; the first record is fresh or of any origin, and some are refused.
+fn random_turns(random: &mut Random, cases: &mut Cases) {
+    let count = sample_count(random).max(2);
+    let mut minutes = LISTS.ordered_minutes(random, count);
+    let values = LISTS.some_values(random, count);
+    let mut running = FRESH.to_vec();
+    if random.chance(30) {
+        running = record(random, count).to_vec();
+    }
+    if random.chance(10) {
+        minutes.reverse();
+    }
+    for _ in 0..7 {
+        let point = some_point(random, &minutes);
+        let bandwidth = if random.chance(15) {
+            LISTS.bad_bandwidth(random)
+        } else {
+            LISTS.some_bandwidth(random, &minutes, point)
+        };
+        let answer = if random.chance(75) {
+            cases.turn(&running, &minutes, &values, point, bandwidth)
+        } else {
+            cases.advance(&running, &minutes, &values, point, bandwidth)
+        };
+        running = answer.lists[0].clone();
+    }
+}
+
 pub fn random_cases(random: &mut Random, cases: &mut Cases) {
     (0..70).for_each(|_| random_one_mark(random, cases));
     (0..40).for_each(|_| random_step(random, cases));
     (0..10).for_each(|_| random_steps(random, cases));
+    // Draws of their own, so that those of the cases behind stay.
+    let random = &mut Random(19);
+    (0..10).for_each(|_| random_turns(random, cases));
 }

@@ -1,0 +1,1 @@
+// What is promised of the turn, in specs/, and its proof. No code.

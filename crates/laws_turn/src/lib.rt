@@ -1,0 +1,1 @@
+// Laws of steps and turns, in proofs/. No code.

@@ -1,0 +1,4 @@
+pub mod Settles
+pub mod Travels
+pub mod Windows
+pub mod WrongTurns

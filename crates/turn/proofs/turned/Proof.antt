@@ -1,0 +1,26 @@
+-- A refusal is the check's and leaves the record; where there is none the record is settled on the window.
+use borrow.Author.Needs.{needs}
+use Rattle.turn.proofs.Windows.{turn-accepted, verdict-is, record-kept, record-turned}
+use Rattle.turn.proofs.turned.Statement.{statement}
+use Rattle.turn.proofs.turned.Tie as tie
+
+returns : tie.Need-returns
+returns c = (search verdict-is, search record-kept)
+
+returns-2 : tie.Need-returns-2
+returns-2 c = (search verdict-is, search record-turned)
+
+settled-requires : tie.Need-settled-requires
+settled-requires c κs = search turn-accepted
+
+pub turned-spec : {M : Type 1} → statement M
+turned-spec =
+    tie.close
+    (tie.spec
+    (λ c κs. search needs)
+    (λ c κs. search needs)
+    (λ c. search needs)
+    (λ c. search needs)
+    settled-requires
+    returns
+    returns-2)
