@@ -18,10 +18,10 @@ use tankcurve::{
 };
 
 /// A number, 0 or a report, and its detail.
-type Answer = (u8, u64);
+pub type Answer = (u8, u64);
 
 /// Report 8 at place 0, of a list for the answer that has another length than stated.
-const WRONG_LENGTH: Answer = (8, 0);
+pub const WRONG_LENGTH: Answer = (8, 0);
 
 /// Every report, for the typed call that takes one.
 const REPORTS: [Report; 13] = [
@@ -103,23 +103,23 @@ macro_rules! with_case {
 }
 
 /// What the export has to return.
-fn code(answer: Answer) -> u64 {
+pub fn code(answer: Answer) -> u64 {
     DETAIL_UNIT * answer.1 + u64::from(answer.0)
 }
 
-fn refused(refusal: reference::Refusal) -> Answer {
+pub fn refused(refusal: reference::Refusal) -> Answer {
     (refusal.number, refusal.place)
 }
 
 /// A typed result, its refusal as number and place; an answer that is unknown as a number that none has.
-fn typed<T>(result: Result<T, Error>) -> Result<T, Answer> {
+pub fn typed<T>(result: Result<T, Error>) -> Result<T, Answer> {
     result.map_err(|error| match error {
         Error::Refused(refusal) => (refusal.report as u8, refusal.place),
         Error::Unknown(answer) => (u8::MAX, answer),
     })
 }
 
-fn same<T: PartialEq + Debug>(what: &str, expected: T, got: T) -> Result<(), String> {
+pub fn same<T: PartialEq + Debug>(what: &str, expected: T, got: T) -> Result<(), String> {
     if expected == got {
         return Ok(());
     }

@@ -8,15 +8,18 @@
 mod calls;
 mod cases;
 mod lent;
+mod limit;
 mod lists;
 mod sheets;
 mod tally;
 
 use calls::Calls;
+use limit::Questions;
 use std::ffi::OsStr;
 use std::fs;
 use std::path::{Path, PathBuf};
 use std::process::ExitCode;
+use tally::Tally;
 
 /// Every sheet of the folder, against its curve.
 fn published(calls: &mut Calls, examples: &Path) -> Result<(), String> {
@@ -39,7 +42,7 @@ fn published(calls: &mut Calls, examples: &Path) -> Result<(), String> {
     Ok(())
 }
 
-fn compare(calls: &mut Calls, examples: &Path) -> Result<(), String> {
+fn compare(calls: &mut Calls, questions: &mut Questions, examples: &Path) -> Result<(), String> {
     published(calls, examples)?;
     cases::evaluate_and_window(calls)?;
     cases::advance(calls)?;
@@ -52,13 +55,10 @@ fn compare(calls: &mut Calls, examples: &Path) -> Result<(), String> {
     cases::read_and_text(calls)?;
     cases::refusal_text(calls)?;
     cases::program(calls)?;
-    for tally in calls.tallies() {
-        println!("{}", tally.line());
-    }
-    calls
-        .tallies()
-        .iter()
-        .try_for_each(|tally| tally.complete())
+    limit::first_at_most(questions)?;
+    let tallies = || calls.tallies().into_iter().chain(questions.tallies());
+    tallies().for_each(|tally| println!("{}", tally.line()));
+    tallies().try_for_each(Tally::complete)
 }
 
 fn main() -> ExitCode {
@@ -68,11 +68,13 @@ fn main() -> ExitCode {
         return ExitCode::from(2);
     };
     let mut calls = Calls::new(program.clone());
-    if let Err(difference) = compare(&mut calls, examples) {
+    let mut questions = Questions::new();
+    if let Err(difference) = compare(&mut calls, &mut questions, examples) {
         println!("compare: {difference}");
         return ExitCode::FAILURE;
     }
-    let total: u64 = calls.tallies().iter().map(|tally| tally.cases()).sum();
+    let tallies = calls.tallies().into_iter().chain(questions.tallies());
+    let total: u64 = tallies.map(Tally::cases).sum();
     println!("compare: {total} cases agree");
     ExitCode::SUCCESS
 }

@@ -1,6 +1,6 @@
 /*
  * Every call once, as a panel would make them: reads a sheet from standard input, draws its curve by the sweep and, mark by mark, by a running
- * record; asks at one mark; draws once more at marks of the filler; writes the text. Says each report by its number, word and place.
+ * record; asks at one mark, and when the tank may move; draws once more at marks of the filler; writes the text. Says each report by its number, word and place.
  */
 #include "tankcurve.h"
 
@@ -79,6 +79,21 @@ static bool steps(size_t samples, size_t marks)
     return true;
 }
 
+/* When the tank may move: the first mark whose value is at or below a limit. None is a number of its own, and no position. */
+static bool may_move(size_t samples, size_t marks, uint16_t limit)
+{
+    uint64_t position[TANKCURVE_POSITION_LEN];
+    uint64_t answer = tankcurve_first_at_most(minutes, samples, values, samples, points, marks, bandwidths, marks, limit, position,
+                                              TANKCURVE_POSITION_LEN);
+    if (!accepted("first_at_most", answer))
+        return false;
+    if (position[0] == TANKCURVE_NO_POSITION)
+        printf("first_at_most: %" PRIu16 " nowhere, passes %" PRIu64 "\n", limit, tankcurve_detail(answer));
+    else
+        printf("first_at_most: %" PRIu16 " at minute %" PRIu16 ", passes %" PRIu64 "\n", limit, points[position[0]], tankcurve_detail(answer));
+    return true;
+}
+
 /* The question at one mark: its row, and the values inside its window. */
 static bool one_mark(size_t samples, uint16_t point, uint32_t bandwidth)
 {
@@ -122,7 +137,8 @@ int main(void)
     if (accepted("read", answer)) {
         size_t samples = counts[TANKCURVE_COUNTS_SAMPLES], marks = counts[TANKCURVE_COUNTS_POINTS];
         printf("read: %zu samples, %zu points\n", samples, marks);
-        well = well && sweep(samples, marks) && steps(samples, marks) && one_mark(samples, points[0], bandwidths[0]);
+        well = well && sweep(samples, marks) && steps(samples, marks) && one_mark(samples, points[0], bandwidths[0]) &&
+               may_move(samples, marks, 58) && may_move(samples, marks, 57);
         /* Four marks from minute 10, one every 15 minutes, with the half width of the knob's position 0. */
         well = well && accepted("fill", tankcurve_fill(10, 15, 0, points, 4, bandwidths, 4)) && preview(samples, 4) && sweep(samples, 4);
     }

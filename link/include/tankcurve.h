@@ -13,7 +13,7 @@
  * place is 0 unless something else is said there.
  *
  * Report 8 is about the lengths of the lists that the caller lends, found before all else, at place 0. A list for the answer (row, bounds,
- * record, counts, out, and the reader's minutes, values, points and bandwidths) has exactly the length that is stated: a longer one is
+ * record, counts, position, out, and the reader's minutes, values, points and bandwidths) has exactly the length that is stated: a longer one is
  * refused too. rows has exactly TANKCURVE_ROW_LEN times as many elements as there are points: pass that product and not what the array
  * could hold. In tankcurve_read and tankcurve_text every other number is about the sheet, and its place a byte of the sheet, counted from 0;
  * in all other calls a place is a position in a list, from 0.
@@ -59,10 +59,10 @@ extern "C" {
 #endif
 
 /*
- * The version that this header belongs to, 2.0.0: major * 65536 + minor * 256 + patch. tankcurve_version gives that of the archive. What is
- * counted by it stands in link/abi-2.0.0.
+ * The version that this header belongs to, 2.1.0: major * 65536 + minor * 256 + patch. tankcurve_version gives that of the archive. What is
+ * counted by it stands in link/abi-2.1.0.
  */
-#define TANKCURVE_VERSION 0x020000
+#define TANKCURVE_VERSION 0x020100
 
 /* The lengths and limits. */
 #define TANKCURVE_MAX_SAMPLES 1024 /* samples ("readings") in a list, and the length of the reader's lists of them */
@@ -75,6 +75,7 @@ extern "C" {
 #define TANKCURVE_BOUNDS_LEN 2     /* left, right, as in a row */
 #define TANKCURVE_RECORD_LEN 9     /* enum tankcurve_record_field: left, right, s00, s10, s20, s01, s11, s21, passes */
 #define TANKCURVE_COUNTS_LEN 2     /* enum tankcurve_counts_field: samples, points */
+#define TANKCURVE_POSITION_LEN 1   /* a position, or TANKCURVE_NO_POSITION */
 
 /* Where a field stands in its list: row[TANKCURVE_ROW_VALUE]; that of row k of a sweep is rows[TANKCURVE_ROW_LEN * k + TANKCURVE_ROW_VALUE]. */
 enum tankcurve_row_field {
@@ -99,6 +100,12 @@ enum tankcurve_counts_field {
     TANKCURVE_COUNTS_SAMPLES = 0,
     TANKCURVE_COUNTS_POINTS = 1
 };
+
+/*
+ * What stands for no position in the answer of a question with a limit. It is no position of any list: ask whether an answer is this number
+ * before it is used as an index.
+ */
+#define TANKCURVE_NO_POSITION UINT64_MAX
 
 /* What one of a detail counts for in what a call returns; every number is below it. */
 #define TANKCURVE_DETAIL_UNIT 256
@@ -319,6 +326,18 @@ uint64_t tankcurve_text(const uint8_t *sheet, size_t sheet_len, uint8_t *out, si
  */
 TANKCURVE_ANSWER
 uint64_t tankcurve_refusal_text(uint64_t number, uint64_t place, uint8_t *out, size_t out_len);
+
+/*
+ * The first point whose value is present and at or below limit ("when may the tank move") [Questions with a limit]. position: 1 number, the
+ * lowest such position in points, from 0, or TANKCURVE_NO_POSITION where there is none. It is what the rows of tankcurve_smooth would say: only
+ * the first such point is asked for, and the curve may rise behind it. Every limit is fit; a missing value is not low at any. Detail: the
+ * passes up to and with that point, left plus right of its row; where there is none, those of all points. Values from right of that row on
+ * have no influence. Reports and places as for tankcurve_smooth, of whole lists and before any answer, with position for rows.
+ */
+TANKCURVE_ANSWER
+uint64_t tankcurve_first_at_most(const uint16_t *minutes, size_t minutes_len, const uint16_t *values, size_t values_len,
+                                 const uint16_t *points, size_t points_len, const uint32_t *bandwidths, size_t bandwidths_len,
+                                 uint16_t limit, uint64_t *position, size_t position_len);
 
 #ifdef __cplusplus
 }

@@ -259,6 +259,44 @@ static void smooth_lists_of_one_length(void)
     same_list("preview, rows of six points", rows, after, sizeof after);
 }
 
+/* Falling values, so that limits tell the points apart: their rows have 21, 15, 8, none, 5 and 5. As many points as samples, so that no
+   exchange of lists shows in their lengths. */
+static void first_at_most(void)
+{
+    const uint16_t points[SAMPLES] = {9, 14, 22, 30, 31, 40};
+    const uint32_t bandwidths[SAMPLES] = {6, 7, 8, 9, 10, 11};
+    const uint32_t narrowing[SAMPLES] = {6, 7, 8, 9, 10, 0};
+    const uint16_t falling_values[SAMPLES] = {31, 29, 13, 11, 7, 5};
+    const struct {
+        uint16_t limit;
+        uint64_t position, passes;
+    } asked[] = {{65535, 0, 4}, {21, 0, 4}, {20, 1, 6}, {15, 1, 6}, {14, 2, 8}, {7, 4, 10}, {5, 4, 10}, {4, TANKCURVE_NO_POSITION, 11}};
+    uint64_t position[] = {90, 91};
+    same("first_at_most, a bandwidth of 0",
+         tankcurve_first_at_most(minutes, SAMPLES, falling_values, SAMPLES, points, SAMPLES, narrowing, SAMPLES, 65535, position, 1),
+         TANKCURVE_DETAIL_UNIT * 5 + TANKCURVE_BANDWIDTH_OUT_OF_RANGE);
+    same("first_at_most, a minute below the one before",
+         tankcurve_first_at_most(falling, SAMPLES, falling_values, SAMPLES, points, SAMPLES, bandwidths, SAMPLES, 65535, position, 1),
+         TANKCURVE_DETAIL_UNIT * 4 + TANKCURVE_SAMPLE_OUT_OF_ORDER);
+    same("first_at_most, one value less",
+         tankcurve_first_at_most(minutes, SAMPLES, falling_values, SAMPLES - 1, points, SAMPLES, bandwidths, SAMPLES, 65535, position, 1),
+         TANKCURVE_LENGTH_MISMATCH);
+    same("first_at_most, one bandwidth less",
+         tankcurve_first_at_most(minutes, SAMPLES, falling_values, SAMPLES, points, SAMPLES, bandwidths, SAMPLES - 1, 65535, position, 1),
+         TANKCURVE_LENGTH_MISMATCH);
+    same("first_at_most, a longer list",
+         tankcurve_first_at_most(minutes, SAMPLES, falling_values, SAMPLES, points, SAMPLES, bandwidths, SAMPLES, 65535, position, 2),
+         TANKCURVE_LENGTH_MISMATCH);
+    same("first_at_most, the list of a refusal", position[0], 90);
+    for (size_t k = 0; k < sizeof asked / sizeof asked[0]; k++) {
+        same("first_at_most",
+             tankcurve_first_at_most(minutes, SAMPLES, falling_values, SAMPLES, points, SAMPLES, bandwidths, SAMPLES, asked[k].limit, position, 1),
+             TANKCURVE_DETAIL_UNIT * asked[k].passes);
+        same("first_at_most, position", position[0], asked[k].position);
+    }
+    same("first_at_most, behind its list", position[1], 91);
+}
+
 static void fill(void)
 {
     const uint16_t points_before[] = {90, 91, 92};
@@ -385,6 +423,7 @@ int main(void)
     row_of_a_record();
     widths();
     smooth_lists_of_one_length();
+    first_at_most();
     fill();
     read();
     text();

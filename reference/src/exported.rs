@@ -18,3 +18,9 @@ pub const COUNTS: usize = 2;
 /// The lengths of the reader's lists: minutes, values, marks, half widths,
 /// counts.
 pub const READER: [usize; 5] = [MOST_READINGS, MOST_READINGS, MOST_MARKS, MOST_MARKS, COUNTS];
+
+/// The numbers of an answer that is a position or none.
+pub const ANSWER: usize = 1;
+
+/// The number that stands for no position.
+pub const NO_POSITION: u64 = u64::MAX;

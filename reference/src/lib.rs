@@ -8,6 +8,9 @@
 
 pub mod exported;
 pub mod generators;
+mod limit;
+
+pub use limit::{decisive, first_at_most};
 
 /// The longest list of kept readings that is no fault [Readings and marks].
 pub const MOST_READINGS: usize = 1024;

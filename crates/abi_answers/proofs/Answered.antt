@@ -79,8 +79,11 @@ module _ {A : Type 0} (n : ℕ) (xs : List ℕ) (a : Answer A) (other : length x
   unfolding sized
   other-size = rw (ne-eqb (length xs) n other)
 
+  pub other-detail : (detail : A → ℕ) → 8 ≡ answered detail (sized n xs a)
+  other-detail detail = ap (answered detail) other-size
+
   pub other-code : 8 ≡ answered no-detail (sized n xs a)
-  other-code = ap (answered no-detail) other-size
+  other-code = other-detail no-detail
 
   pub other-stays : (numbers : A → List ℕ) (ys : List ℕ) → ys ≡ stored numbers (sized n xs a) ys
   other-stays numbers ys = ap (λ (o : Answer A). stored numbers o ys) other-size

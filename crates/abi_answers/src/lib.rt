@@ -3,16 +3,18 @@
 use checks::report_number;
 use meanings::DETAIL_UNIT;
 use meanings::Estimate;
+use meanings::Found;
 use meanings::PowerSums;
 use meanings::ROW_WIDTH;
 use meanings::Refusal;
 use meanings::RunningSums;
 ghost use mathlib.Core.Path.{_≡_};
 ghost use mathlib.Core.List.{[], _∷_};
-ghost use Rattle.meanings.specs.Reports.{fault-of};
+ghost use Rattle.meanings.specs.Reports.{fault-of, found-position};
 ghost use Rattle.meanings.specs.Estimate.{fields};
 ghost use Rattle.meanings.specs.Codes.{code};
 ghost use Rattle.abi_answers.specs.Answers.{short, replaced, record-numbers, record-in};
+ghost use Rattle.abi_answers.specs.Positions.{position-numbers};
 
 // How many numbers a running record has: record-length of specs/Answers.antt.
 pub const RECORD_LENGTH: usize = 9;
@@ -104,5 +106,21 @@ pub fn record_of(numbers: &[u64]) -> RunningSums
             s21: numbers[7],
         },
         passes: numbers[8],
+    }
+}
+
+// What stands for no position where an answer is one: no-position of specs/Positions.antt, 2^64 − 1.
+pub const NO_POSITION: u64 = 18446744073709551615;
+
+// Stores a position, or what stands for none.
+pub fn put_position(out: &mut [u64], found: Found)
+    ensures { λ _. ⌜ now (out .exit) ≡ replaced (position-numbers (found-position found)) (now (out .entry)) ⌝ }
+{
+    if out.len() != 1 {
+        return;
+    }
+    match found {
+        Found::Nothing => out[0] = NO_POSITION,
+        Found::At(i) => out[0] = i as u64,
     }
 }

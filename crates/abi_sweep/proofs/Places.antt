@@ -1,58 +1,30 @@
 -- A sweep is refused at a position of its lists, the filler at 0; passes are at most twice the readings. So no answer overflows.
 use Prim.Native.Nat.{ℕ, _+_, _-_, _*_, _≤_}
 use mathlib.Core.Path.{_≡_, sym, ap, _∙_}
-use mathlib.Core.Bool.{_||_}
 use mathlib.Core.List.{List}
 use native.Mathlib.Nat.{le-trans}
 use native.Mathlib.Omega.{arith}
-use borrow.Author.Tests.{ltb-false}
 use lib.Dec.{ltb, leb, eqb}
-use lib.ListN.{length, getD}
+use lib.ListN.{length}
 use Rattle.meanings.specs.declared.Limits.{Limits}
 use Rattle.meanings.specs.Limits.{full, LimitsWithin, max-u16, max-sheet, row-width}
-use Rattle.meanings.specs.Reports.{given, differ, decreases}
-use Rattle.meanings.specs.Reports.{bad-bandwidth, edge-decreases, uneven-samples}
-use Rattle.meanings.specs.Reports.{smooth-checks, fill-checks}
+use Rattle.meanings.specs.Reports.{given, differ, uneven-rows, fill-checks}
 use Rattle.meanings.specs.Moves.{moves}
 use Rattle.meanings.specs.Running.{fresh, passes}
 use Rattle.meanings.specs.Grid.{presets}
 use Rattle.meanings.specs.declared.Smoothing.{Smoothing}
 use Rattle.meanings.specs.declared.Smoothing.the-variants.{Passes}
 use Rattle.meanings.specs.Calls.{smoothing-answer, smooth, smooth-refusal, fill}
-use Rattle.meanings.proofs.Checks.{at-none, or-false, differ-false, given-accepted}
+use Rattle.meanings.proofs.Checks.{given-accepted}
 use Rattle.meanings.proofs.Passes.{passes-at-most-twice}
 use Rattle.meanings.proofs.SmoothSteps.{smooth-accepts}
-use Rattle.abi_answers.proofs.Places.{refusal-place, answer-small, at-start, at-position}
+use Rattle.abi_answers.proofs.CurvePlaces.{curve-place}
+use Rattle.abi_answers.proofs.Places.{refusal-place, answer-small, at-start}
 
 -- the sweep under limits at most the full ones, so the preview too
 pub smooth-place : (L : Limits) → LimitsWithin L full → (ts vs zs hs rs : List ℕ) → refusal-place (smooth L ts vs zs hs rs) ≤ max-sheet
 unfolding smooth
-smooth-place L w ts vs zs hs rs =
-    answer-small (smooth-checks L ts vs zs hs (length rs)) (passes ts vs fresh (moves zs hs)) (
-      at-start (uneven-samples ts vs || differ (length zs) (length hs) || differ (length rs) (row-width * length zs)),
-      λ even. (
-        at-start (ltb (L .samples) (length ts) || ltb (L .points) (length zs)),
-        λ few. (
-          at-start (eqb (length zs) 0),
-          λ any. (
-              let u = or-false (uneven-samples ts vs || differ (length zs) (length hs)) (differ (length rs) (row-width * length zs)) (at-none 0 _ even) in
-              let e = differ-false (length zs) (length hs) (or-false (uneven-samples ts vs) (differ (length zs) (length hs)) (u .0) .1) in
-              let f = or-false (ltb (L .samples) (length ts)) (ltb (L .points) (length zs)) (at-none 0 _ few) in
-              let t : length ts ≤ 1024 = le-trans (ltb-false (L .samples) (length ts) (f .0)) (w .samples) in
-              let z : length zs ≤ 512 = le-trans (ltb-false (L .points) (length zs) (f .1)) (w .points) in (
-                at-position (decreases ts) (length ts) (omega arith),
-                λ ordered. (
-                  at-position (decreases zs) (length zs) (omega arith),
-                  λ ordered-points. (
-                    at-position (λ k. bad-bandwidth (getD hs k 0)) (length hs) (omega arith),
-                    λ range. (at-position (edge-decreases zs hs) (length zs) (omega arith), λ edges. tt),
-                  ),
-                ),
-              )
-              ),
-        ),
-      ),
-    )
+smooth-place L w ts vs zs hs rs = curve-place L w ts vs zs hs (uneven-rows row-width (length rs) (length zs)) (passes ts vs fresh (moves zs hs))
 
 pub fill-place : (z₀ spacing preset : ℕ) (zs hs : List ℕ) → refusal-place (fill full z₀ spacing preset zs hs) ≤ max-sheet
 unfolding fill

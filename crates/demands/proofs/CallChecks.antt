@@ -134,6 +134,10 @@ module _ {ks : List Check} {cs : Conditions} where
   pub edge-finds : (zs hs : List ℕ) → FindAll ks cs → FindAll (edge-checks zs hs ++ ks) (condition 10 (EdgeFallsAt zs hs) cs)
   edge-finds zs hs f = record { each = (finds-lowest 10 _ (length zs) _ (λ i g. g .within) (edge-falls zs hs), f .each) }
 
+-- where there is no further list, none is uneven
+pub always-fits : Decides false (¬ Unit {0})
+always-fits = record { holds = λ e. absurd (true≢false (sym e)); fails = λ e k. k tt }
+
 -- no check finds no condition
 pub none-left : FindAll [] no-more
 none-left = record { each = tt }

@@ -3,6 +3,7 @@ use Rattle.meanings.specs.Limits.{full}
 use Rattle.meanings.specs.Calls.{smoothing-answer}
 use Rattle.meanings.proofs.Cases.{document-cases-hold}
 use Rattle.demands.specs.Demands.{Demands}
+use Rattle.demands.proofs.Crossing.{crossings}
 use Rattle.demands.proofs.Demand1.{every-input, evaluate-refused, window-refused, advance-refused, smooth-refused, fill-refused, read-refused}
 use Rattle.demands.proofs.Demand1.{text-refused, refusal-text-refused, exported-evaluate-refused, exported-window-refused, exported-advance-refused}
 use Rattle.demands.proofs.Demand1.{exported-record-row-refused, exported-smooth-refused, exported-fill-refused, exported-read-refused}
@@ -41,6 +42,7 @@ demands = record {
   demand-2 = demand-2;
   demand-3 = demand-3-of-calls;
   other-calls = other-calls;
+  crossings = crossings;
   line-endings = line-endings;
   preview-holds = preview-holds;
   every-curve = every-curve;

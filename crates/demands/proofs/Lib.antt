@@ -1,4 +1,5 @@
 pub mod CallChecks
+pub mod Crossing
 pub mod Demand1
 pub mod Demand2
 pub mod Demand3

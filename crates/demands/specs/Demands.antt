@@ -56,6 +56,7 @@ use Rattle.demands.specs.Calls.{ExportedRefusalText, ExportedVersion}
 use Rattle.demands.specs.Conditions.{RefusedExactly, NoFault, FirstFault, FirstOrElse, evaluate-conditions, advance-conditions}
 use Rattle.demands.specs.Conditions.{smooth-conditions, fill-conditions, read-conditions, buffer-conditions, length-first}
 use Rattle.demands.specs.Conditions.{record-row-conditions, code-refusal}
+use Rattle.demands.specs.Crossing.{Crossings}
 use Rattle.demands.specs.LineEndings.{LineEndings}
 
 -- how many readings the event log of these steps, empty at first, inserts and evicts
@@ -450,6 +451,8 @@ pub record Demands : Type 2 where
   pub demand-2 : Demand2
   pub demand-3 : Demand3
   pub other-calls : OtherCalls
+  -- the first mark at or below a limit
+  pub crossings : Crossings
   pub line-endings : LineEndings
   pub preview-holds : Preview
   pub every-curve : EveryCurve

@@ -36,9 +36,9 @@ pub use row::{Estimate, NoEstimate, RecordRow, Rows};
 /// of the linked archive.
 ///
 /// ```
-/// assert_eq!(tankcurve::VERSION, 0x02_00_00);
+/// assert_eq!(tankcurve::VERSION, 0x02_01_00);
 /// ```
-pub const VERSION: u32 = 0x02_00_00;
+pub const VERSION: u32 = 0x02_01_00;
 
 /// How many samples ("readings") there may be, and how many places the reader's lists of them have.
 ///
@@ -277,6 +277,24 @@ pub struct Smoothed<'a> {
     pub rows: Rows<'a>,
 }
 
+/// Where the curve is first at or below a limit: the point's position, or none, and the passes.
+///
+/// ```
+/// # fn main() -> Result<(), tankcurve::Error> {
+/// let first = tankcurve::first_at_most(&[5, 9], &[7, 3], &[5, 9], &[1, 1], 3)?;
+/// assert_eq!(first, tankcurve::Crossing { point: Some(1), passes: 3 });
+/// # Ok(())
+/// # }
+/// ```
+#[derive(Clone, Copy, Debug, PartialEq, Eq)]
+#[must_use]
+pub struct Crossing {
+    /// The position in the list of points, from 0; none where no value is low enough.
+    pub point: Option<usize>,
+    /// The passes up to and with that point; where there is none, those of all points.
+    pub passes: u64,
+}
+
 /// The version of the linked archive.
 ///
 /// ```
@@ -478,6 +496,34 @@ fn smoothed(answer: u64, rows: &[u64]) -> Result<Smoothed<'_>, Error> {
     Ok(Smoothed { passes, rows })
 }
 
+/// The first point whose value is present and at or below `limit` ("when may the tank move"), as the rows
+/// of [`smooth`] would say it: the curve may rise behind that point. Values from its right edge on have no
+/// influence. Every limit is fit. Reports 8, 6, 7, 4, 5, 9, 10, of whole lists and before any answer.
+///
+/// ```
+/// # fn main() -> Result<(), tankcurve::Error> {
+/// let (minutes, values) = ([10, 20, 20, 35], [40, 60, 80, 20]);
+/// let low = |limit| tankcurve::first_at_most(&minutes, &values, &[20, 25, 60], &[10, 15, 20], limit);
+/// assert_eq!(low(58)?.point, Some(1));
+/// // The third point has no value: what is missing is not low.
+/// assert_eq!(low(57)?.point, None);
+/// # Ok(())
+/// # }
+/// ```
+pub fn first_at_most(
+    minutes: &[u16],
+    values: &[u16],
+    points: &[u16],
+    bandwidths: &[u32],
+    limit: u16,
+) -> Result<Crossing, Error> {
+    let mut position = [0];
+    let answer = slices::first_at_most(minutes, values, points, bandwidths, limit, &mut position);
+    let passes = report::outcome(answer)?;
+    let point = found(position, points).ok_or(Error::Unknown(answer))?;
+    Ok(Crossing { point, passes })
+}
+
 /// Fills an evaluation grid ("the mark filler"): point k, from 0, is `first` + k × `spacing`, and every
 /// bandwidth is that of `preset`, the "knob"'s position from 0 to 11. Reports 8, 7, 6, 12, 13.
 ///
@@ -574,6 +620,15 @@ pub fn refusal_text(refusal: Refusal, out: &mut [u8; MAX_OUTPUT]) -> Result<&[u8
     let answer = slices::refusal_text(refusal.report.number(), refusal.place, out);
     let length = report::outcome(answer)?;
     part(out, [0, length]).ok_or(Error::Unknown(answer))
+}
+
+/// What a call has found in a list: a position of it, or none; nothing where it is neither.
+fn found<T>([position]: [u64; 1], list: &[T]) -> Option<Option<usize>> {
+    if position == slices::NO_POSITION {
+        return Some(None);
+    }
+    let position = usize::try_from(position).ok()?;
+    (position < list.len()).then_some(Some(position))
 }
 
 /// A part of a list, if the bounds are within it.

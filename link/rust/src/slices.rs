@@ -35,6 +35,16 @@
 /// ```
 pub const DETAIL_UNIT: u64 = 256;
 
+/// What stands for no position in the answer of a question with a limit; no position of any list.
+///
+/// ```
+/// use tankcurve::slices::{first_at_most, NO_POSITION};
+/// let mut position = [0];
+/// assert_eq!(first_at_most(&[], &[], &[5], &[1], 65_535, &mut position), 0);
+/// assert_eq!(position, [NO_POSITION]);
+/// ```
+pub const NO_POSITION: u64 = u64::MAX;
+
 /// The exports of libtankcurve_abi.a: a slice is a pointer and its number of elements.
 mod exports {
     extern "C" {
@@ -151,6 +161,20 @@ mod exports {
 
         pub fn tankcurve_refusal_text(number: u64, place: u64, out: *mut u8, out_len: usize)
             -> u64;
+
+        pub fn tankcurve_first_at_most(
+            minutes: *const u16,
+            minutes_len: usize,
+            values: *const u16,
+            values_len: usize,
+            points: *const u16,
+            points_len: usize,
+            bandwidths: *const u32,
+            bandwidths_len: usize,
+            limit: u16,
+            position: *mut u64,
+            position_len: usize,
+        ) -> u64;
 
         pub fn tankcurve_version() -> u32;
     }
@@ -483,6 +507,40 @@ pub fn text(sheet: &[u8], out: &mut [u8]) -> u64 {
 #[must_use]
 pub fn refusal_text(number: u64, place: u64, out: &mut [u8]) -> u64 {
     unsafe { exports::tankcurve_refusal_text(number, place, out.as_mut_ptr(), out.len()) }
+}
+
+/// The first point whose value is present and at or below `limit`. `position`: 1 number: the position in
+/// `points`, or [`NO_POSITION`]. Detail: the passes up to and with that point, else those of all points.
+///
+/// ```
+/// let mut position = [0];
+/// let answer = tankcurve::slices::first_at_most(&[5, 9], &[7, 3], &[5, 9], &[1, 1], 3, &mut position);
+/// assert_eq!((answer, position), (256 * 3, [1]));
+/// ```
+#[must_use]
+pub fn first_at_most(
+    minutes: &[u16],
+    values: &[u16],
+    points: &[u16],
+    bandwidths: &[u32],
+    limit: u16,
+    position: &mut [u64],
+) -> u64 {
+    unsafe {
+        exports::tankcurve_first_at_most(
+            minutes.as_ptr(),
+            minutes.len(),
+            values.as_ptr(),
+            values.len(),
+            points.as_ptr(),
+            points.len(),
+            bandwidths.as_ptr(),
+            bandwidths.len(),
+            limit,
+            position.as_mut_ptr(),
+            position.len(),
+        )
+    }
 }
 
 /// The version of the linked archive, which is no answer: it has neither number nor detail.

@@ -99,6 +99,11 @@ fn lengths() {
         assert_eq!(slices::row(record, 0, 1, &mut [0; ROW_WIDTH]), answer);
         let rows = &mut vec![0; length(2 * ROW_WIDTH)];
         assert_eq!(slices::smooth(&[], &[], &[0, 0], &[1, 1], rows), answer);
+        let position = &mut vec![0; length(1)];
+        assert_eq!(
+            slices::first_at_most(&[], &[], &[0], &[1], 0, position),
+            answer
+        );
         let out = &mut vec![0; length(MAX_OUTPUT)];
         assert_eq!(slices::number(slices::refusal_text(1, 2, out)), answer);
         assert_eq!(slices::number(slices::text(HEAD.as_bytes(), out)), answer);

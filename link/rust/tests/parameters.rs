@@ -535,3 +535,69 @@ fn refusal_text() {
         Ok(&b"refused,place\n13,18446744073709551615\n"[..])
     );
 }
+
+/// Falling values, so that limits tell the points apart: their rows have 21, 15, 8, none, 5 and 5. As
+/// many points as samples, so that no exchange of lists shows in their lengths.
+#[test]
+fn first_at_most() {
+    let (points, bandwidths) = ([9, 14, 22, 30, 31, 40], [6, 7, 8, 9, 10, 11]);
+    let values = [31, 29, 13, 11, 7, 5];
+    let mut position = [90];
+    let narrowing = [6, 7, 8, 9, 10, 0];
+    assert_eq!(
+        slices::first_at_most(
+            &MINUTES,
+            &values,
+            &points,
+            &narrowing,
+            65_535,
+            &mut position
+        ),
+        DETAIL_UNIT * 5 + 9
+    );
+    assert_eq!(position, [90]);
+    assert_eq!(
+        tankcurve::first_at_most(&MINUTES, &values, &points, &narrowing, 65_535),
+        refused(Report::BandwidthOutOfRange, 5)
+    );
+    assert_eq!(
+        tankcurve::first_at_most(&FALLING, &values, &points, &bandwidths, 65_535),
+        refused(Report::SampleOutOfOrder, 4)
+    );
+    let mut long = [90; 2];
+    assert_eq!(
+        slices::first_at_most(&MINUTES, &values, &points, &bandwidths, 21, &mut long),
+        8
+    );
+    assert_eq!(long, [90; 2]);
+    for (limit, point, passes) in [
+        (65_535, Some(0), 4),
+        (21, Some(0), 4),
+        (20, Some(1), 6),
+        (15, Some(1), 6),
+        (14, Some(2), 8),
+        (7, Some(4), 10),
+        (5, Some(4), 10),
+        (4, None, 11),
+    ] {
+        assert_eq!(
+            slices::first_at_most(
+                &MINUTES,
+                &values,
+                &points,
+                &bandwidths,
+                limit,
+                &mut position
+            ),
+            DETAIL_UNIT * passes
+        );
+        assert_eq!(
+            position,
+            [point.map_or(slices::NO_POSITION, |k: usize| k as u64)]
+        );
+        assert_eq!(
+            tankcurve::first_at_most(&MINUTES, &values, &points, &bandwidths, limit),
+            Ok(tankcurve::Crossing { point, passes })
+        );
+    }
+}

@@ -8,13 +8,13 @@ use reference::{
 };
 
 /// The most minutes, values, points or bandwidths: vectors_io's MOST_ELEMENTS.
-const MOST_ELEMENTS: usize = 1100;
+pub const MOST_ELEMENTS: usize = 1100;
 
 /// The most rows.
 const MOST_ROWS: usize = 2600;
 
 /// The most numbers of a row, bounds or counts.
-const MOST_NUMBERS: usize = 8;
+pub const MOST_NUMBERS: usize = 8;
 
 /// The most numbers of a record.
 const MOST_RECORD: usize = 16;
@@ -27,7 +27,7 @@ fn wide<T: Copy + Into<u64>>(list: &[T]) -> Vec<u64> {
 }
 
 /// A list as it stands in a case: its length, then its numbers.
-fn listed<T: Copy + Into<u64>>(list: &[T], most: usize) -> Vec<u64> {
+pub fn listed<T: Copy + Into<u64>>(list: &[T], most: usize) -> Vec<u64> {
     assert!(list.len() <= most);
     let mut numbers = vec![list.len() as u64];
     numbers.extend(wide(list));
@@ -35,13 +35,13 @@ fn listed<T: Copy + Into<u64>>(list: &[T], most: usize) -> Vec<u64> {
 }
 
 /// A lent list's length as it stands in a case.
-fn length(length: usize, most: usize) -> u64 {
+pub fn length(length: usize, most: usize) -> u64 {
     assert!(length <= most);
     length as u64
 }
 
 /// Report 8 of a list that has one length only.
-fn sized(length: usize, wanted: usize) -> Result<(), Refusal> {
+pub fn sized(length: usize, wanted: usize) -> Result<(), Refusal> {
     if length == wanted {
         Ok(())
     } else {

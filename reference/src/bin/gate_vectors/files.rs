@@ -23,17 +23,19 @@ pub enum Program {
     Sweep,
     Sheet,
     Text,
+    Limit,
 }
 
-const PROGRAMS: [(Program, &str); 4] = [
+const PROGRAMS: [(Program, &str); 5] = [
     (Program::Point, "vectors_point"),
     (Program::Sweep, "vectors_sweep"),
     (Program::Sheet, "vectors_sheet"),
     (Program::Text, "vectors_text"),
+    (Program::Limit, "vectors_limit"),
 ];
 
 /// Each call, and what it can answer.
-const REPORTS: [(&str, &[u64]); 11] = [
+const REPORTS: [(&str, &[u64]); 12] = [
     ("evaluate", &[8, 6, 4, 9, 0]),
     ("window", &[8, 6, 4, 9, 0]),
     ("advance", &[8, 6, 11, 9, 0]),
@@ -45,6 +47,7 @@ const REPORTS: [(&str, &[u64]); 11] = [
     ("read", &[8, 1, 2, 3, 4, 5, 9, 10, 6, 7, 0]),
     ("text", &[8, 1, 2, 3, 4, 5, 9, 10, 6, 7, 0]),
     ("refusal_text", &[8, 0]),
+    ("first_at_most", &[8, 6, 7, 4, 5, 9, 10, 0]),
 ];
 
 /// What a call gave: its answer and its lent lists.

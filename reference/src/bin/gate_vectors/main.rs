@@ -1,5 +1,5 @@
 //! The cases of the gate's programs `vectors_point`, `vectors_sweep`,
-//! `vectors_sheet` and `vectors_text`, and what each has to write for them.
+//! `vectors_sheet`, `vectors_text` and `vectors_limit`, and what each has to write for them.
 //!
 //! `gate_vectors crates` writes stdin and stdout of each program into its
 //! folder below `crates`, always the same. The answers are the second
@@ -31,12 +31,15 @@
 //! 2 the same, with a buffer of another length
 //! 3 refusal_text(number, place, out*)                      the refusal that the program writes
 //! 4 the same, with a buffer of another length
+//!
+//! vectors_limit
+//! 1 first_at_most(minutes, values, points, bandwidths, limit, position*)   the first mark at or below a limit
 //! ```
 //!
 //! An answer is a number and a detail. Number 0 is accepted, with the passes
-//! of a sweep or a preview, the bytes of a text, else 0 as detail; 1 to 13 is a report, with
+//! of a sweep or a preview or up to the mark that answers, the bytes of a text, else 0 as detail; 1 to 13 is a report, with
 //! its place. The lists for a row, bounds, a record and counts have one length
-//! only (`ROW_WIDTH`, `BOUNDS`, `RECORD`, `COUNTS`), and out has `MOST_OUTPUT` bytes.
+//! only (`ROW_WIDTH`, `BOUNDS`, `RECORD`, `COUNTS`, `ANSWER`), and out has `MOST_OUTPUT` bytes.
 //! Another length of these is report 8 at place 0, before any other. A refused
 //! sheet has no curve: text then answers with the sheet's report, and
 //! refusal_text writes the text of any number and place.
@@ -62,11 +65,12 @@
 //!                 2 length-of-out SHEET
 //!                 3 number place
 //!                 4 number place length-of-out
+//! vectors_limit   1 MINUTES VALUES POINTS BANDWIDTHS limit length-of-position
 //! ```
 //!
 //! The bytes of a sheet stand as they are, up to the end of the case. There are
 //! at most 1,100 minutes, values, points or bandwidths, 2,600 rows, 16 numbers
-//! of a record, 8 of a row, bounds or counts, 31,300 bytes of out, 40,000 bytes
+//! of a record, 8 of a row, bounds, counts or a position, 31,300 bytes of out, 40,000 bytes
 //! of a case and 100,000 cases.
 //!
 //! # Standard output
@@ -81,6 +85,7 @@
 mod calls;
 mod draws;
 mod files;
+mod limit;
 mod point;
 mod sheet;
 mod sweep;
@@ -97,11 +102,13 @@ fn all() -> Cases {
     sweep::cases(&mut cases);
     sheet::cases(&mut cases);
     text::cases(&mut cases);
+    limit::cases(&mut cases);
     let random = &mut Random(1);
     point::random_cases(random, &mut cases);
     sweep::random_cases(random, &mut cases);
     sheet::random_cases(random, &mut cases);
     text::random_cases(random, &mut cases);
+    limit::random_cases(random, &mut cases);
     cases
 }
 

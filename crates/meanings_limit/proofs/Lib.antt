@@ -1,0 +1,5 @@
+pub mod ByRows
+pub mod Cases
+pub mod Passes
+pub mod Values
+pub mod WrongAnswers
