@@ -8,13 +8,14 @@ use Rattle.meanings.specs.declared.Advance.{Advance}
 use Rattle.meanings.specs.declared.RunningSums.{RunningSums}
 use Rattle.meanings.specs.declared.Turning.{Turning}
 use Rattle.meanings.specs.Calls.{evaluate}
-use Rattle.meanings.specs.Claim.{refusal}
+use Rattle.meanings.specs.Claim.{NoEdgeBackAfter, accepted-after, window-direct, log-after-steps, refusal}
 use Rattle.meanings.specs.Codes.{answered, no-detail}
+use Rattle.meanings.specs.EventLog.{insertion-count, eviction-count}
 use Rattle.meanings.specs.Limits.{full, max-u16}
 use Rattle.meanings.specs.Lists.{AtMost}
 use Rattle.meanings.specs.Moves.{Move}
-use Rattle.meanings.specs.Reports.{Fault, Answer, given, unless, accepted-or, verdict-fault, turn-checks}
-use Rattle.meanings.specs.Running.{fresh, moved, after, passes, next-record, record-row}
+use Rattle.meanings.specs.Reports.{Fault, Answer, given, refused, unless, accepted-or, verdict-fault, first-of, advance-checks, turn-checks}
+use Rattle.meanings.specs.Running.{fresh, moved, advance, after, passes, next-record, record-row}
 use Rattle.meanings.specs.Turn.{Motion, step, turn, turned, turn-refusal, turn-record, turn-answer, after-motion, after-motions}
 use Rattle.meanings.proofs.Claim.{refusal-unless}
 use Rattle.laws_turn.specs.Claims.{Direct, AlikeButPasses, OnWindow, CountedOnce}
@@ -26,12 +27,13 @@ use Rattle.turn.proofs.turn_own.Met as turn-own-met
 use Rattle.abi_turn.proofs.tankcurve_turn.Met as exported-turn-met
 use Rattle.demands.specs.Calls.{AdvanceCall}
 use Rattle.demands.specs.Conditions.{RefusedExactly, FirstFault, length-first, code-refusal}
-use Rattle.demands.specs.Demands.{RefusedAndStays, held, zeros}
+use Rattle.demands.specs.Demands.{RefusedAndStays, held, OrderedSteps, zeros}
 use Rattle.demands.proofs.CallChecks.{none-left, series-finds, record-finds, bandwidth-finds}
 use Rattle.demands.proofs.Demand3.{demand-3-of-calls, held-is-next-record, stored-record, opened, numbers-step}
 use Rattle.demands.proofs.RecordRows.{answered-row, exported-record-row-gives, exported-evaluate-gives}
 use Rattle.demands.proofs.FirstFaults.{FindAll, refused-exactly}
 use Rattle.demands.proofs.Refusals.{decided-exactly, length-first-finds, sized-is-checked, exported-refusal, exported-stays, stored-stays, first-numbered}
+use Rattle.demands.proofs.Refusals.{accepted-given}
 use Rattle.demands_turn.specs.Turns as turns
 use Rattle.demands_turn.specs.Turns.{TurnCall, ExportedTurn, turn-conditions, Motions, ExportedMotions, Turns}
 
@@ -122,6 +124,40 @@ module _ (ts vs : List ℕ) (minutes : AtMost max-u16 ts) (values : AtMost max-u
     gives-row : evaluate full ts vs z h ≡ given (record-row r′ z h)
     gives-row = rw e (turn-gives-row ts vs minutes values r z h d accepted)
 
+  behind : (r r′ r″ : RunningSums) (m : Move) (ns : List Move) → Direct ts vs r → r′ ≡ turn-record ts vs r (m .point) (m .bandwidth)
+      → turn-refusal ts vs r (m .bandwidth) ≡ none → r″ ≡ after ts vs r′ ns → NoEdgeBackAfter ts vs (some m) ns
+      → r″ .sums ≡ window-direct ts vs (accepted-after ts vs (some m) ns)
+  behind r r′ r″ m ns d e accepted q n = rw (q, e) (sums-behind-turn ts vs minutes values r m ns d accepted n)
+
+-- ---- no check looks at the passes, so records that differ in them alone get the same report
+module _ (ts vs : List ℕ) (r s : RunningSums) where
+  same-turn-refusal : (h : ℕ) → AlikeButPasses r s → turn-refusal ts vs r h ≡ turn-refusal ts vs s h
+  same-turn-refusal h w = rw (w .left-alike, w .right-alike)
+
+  same-turn-report : (z h : ℕ) → AlikeButPasses r s → refusal (turn-answer ts vs r z h) ≡ refusal (turn-answer ts vs s z h)
+  same-turn-report z h w = turn-refusal-is ts vs r z h ∙ same-turn-refusal h w ∙ sym (turn-refusal-is ts vs s z h)
+
+  same-step-report : (z h : ℕ) → AlikeButPasses r s → refusal (advance ts vs r z h) ≡ refusal (advance ts vs s z h)
+  unfolding advance
+  same-step-report z h w =
+      refusal-unless (first-of (advance-checks full ts vs (r .left) (r .right) h)) (moved ts vs r z h)
+      ∙ same
+      ∙ sym (refusal-unless (first-of (advance-checks full ts vs (s .left) (s .right) h)) (moved ts vs s z h))
+    where
+      same : first-of (advance-checks full ts vs (r .left) (r .right) h) ≡ first-of (advance-checks full ts vs (s .left) (s .right) h)
+      same = rw (w .left-alike, w .right-alike)
+
+-- a code without a detail is its report's
+abbrev code-of : Option Fault → ℕ
+code-of f = answered no-detail (unless f fresh)
+
+code-by-report : (t : Answer RunningSums) → answered no-detail t ≡ code-of (refusal t)
+code-by-report (given r) = refl
+code-by-report (refused e) = refl
+
+same-code : (t u : Answer RunningSums) (c d : ℕ) → refusal t ≡ refusal u → c ≡ answered no-detail t → d ≡ answered no-detail u → c ≡ d
+same-code t u c d q a b = a ∙ code-by-report t ∙ ap code-of q ∙ sym (code-by-report u) ∙ sym b
+
 pub turns-hold : Turns
 turns-hold = record {
   every-turn = record {
@@ -158,25 +194,56 @@ turns-hold = record {
       let a = exported-evaluate-gives ts vs z h row₁ c₁ row₁′ (record-row (record-of xs′) z h) l₁ g k₁ in
       let b = exported-record-row-gives xs′ z h row c row′ (n .nine) l₂ k₂ in
       (a .0, b .0, b .1 ∙ sym (a .1));
+  exported-turn-accepted = λ xs ts vs z h c xs′ k q.
+      let t = sized record-length xs (turn-answer ts vs (record-of xs) z h) in
+      k .ensured .0 ∙ ap (answered no-detail) (accepted-given t (sym (turn-coded xs ts vs z h c (k .ensured .0)) ∙ q) .1);
   step-ignores-passes = λ r s ts vs z h a b w c d.
-      let m : Move = record { point = z; bandwidth = h } in
-      rw (step-left ts vs r m a c, step-left ts vs s m b d) (motion-alike ts vs r s (step m) w);
+      let m : Move = record { point = z; bandwidth = h } in (
+        ap refusal (c .ensured) ∙ same-step-report ts vs r s z h w ∙ sym (ap refusal (d .ensured)),
+        rw (step-left ts vs r m a c, step-left ts vs s m b d) (motion-alike ts vs r s (step m) w),
+      );
   turn-ignores-passes = λ r s ts vs z h t u w c d.
+      let m : Move = record { point = z; bandwidth = h } in (
+        c .ensured .0 ∙ same-turn-refusal ts vs r s h w ∙ sym (d .ensured .0),
+        rw (turn-left ts vs r m t c, turn-left ts vs s m u d) (motion-alike ts vs r s (turn m) w),
+      );
+  exported-step-ignores-passes = λ xs ys ts vs z h c d xs′ ys′ e f w k l.
       let m : Move = record { point = z; bandwidth = h } in
-      rw (turn-left ts vs r m t c, turn-left ts vs s m u d) (motion-alike ts vs r s (turn m) w);
+      let a = numbers-step xs ts vs z h c xs′ e k in
+      let b = numbers-step ys ts vs z h d ys′ f l in (
+        same-code (advance ts vs (record-of xs) z h) (advance ts vs (record-of ys) z h) c d (same-step-report ts vs (record-of xs) (record-of ys) z h w)
+            (k .ensured .0 ∙ ap (answered no-detail) (opened xs _ e)) (l .ensured .0 ∙ ap (answered no-detail) (opened ys _ f)),
+        rw (a .moves-record, b .moves-record) (motion-alike ts vs (record-of xs) (record-of ys) (step m) w),
+      );
+  exported-turn-ignores-passes = λ xs ys ts vs z h c d xs′ ys′ e f w k l.
+      let m : Move = record { point = z; bandwidth = h } in
+      let a = numbers-turn xs ts vs z h c xs′ e k in
+      let b = numbers-turn ys ts vs z h d ys′ f l in (
+        same-code (turn-answer ts vs (record-of xs) z h) (turn-answer ts vs (record-of ys) z h) c d (same-turn-report ts vs (record-of xs) (record-of ys) z h w)
+            (k .ensured .0 ∙ ap (answered no-detail) (opened xs _ e)) (l .ensured .0 ∙ ap (answered no-detail) (opened ys _ f)),
+        rw (a .turns-record, b .turns-record) (motion-alike ts vs (record-of xs) (record-of ys) (turn m) w),
+      );
   steps-behind-turn = λ ts vs r r′ ms m t ns a v s c q w e.
-      ap (λ (x : RunningSums). x .sums) (demand-3-of-calls .steps-leave ts vs (t .running) r′ ns w ∙ ap (λ (x : RunningSums). after ts vs x ns) (c .ensured .1))
-      ∙ sums-behind-turn ts vs a v r m ns (direct ts vs a v r ms (motions-leave ts vs s)) (sym (c .ensured .0) ∙ q) e;
+      behind ts vs a v r (t .running) r′ m ns (direct ts vs a v r ms (motions-leave ts vs s)) (c .ensured .1) (sym (c .ensured .0) ∙ q)
+      (demand-3-of-calls .steps-leave ts vs (t .running) r′ ns w) e;
+  exported-steps-behind-turn = λ ts vs xs xs′ xs″ ms m c ns a v s k q w e.
+      let l = exported-leave s refl in
+      let n = numbers-turn xs ts vs (m .point) (m .bandwidth) c xs′ (l .0) k in
+      behind ts vs a v (record-of xs) (record-of xs′) (record-of xs″) m ns (direct ts vs a v (record-of xs) ms (l .1)) (n .turns-record)
+      (sym (n .tells) ∙ q) (demand-3-of-calls .exported-steps-leave ts vs xs′ xs″ ns (n .nine) w .1) e;
   steps-count-once = λ ts vs r ms s. counted ts vs r ms (demand-3-of-calls .steps-leave ts vs fresh r ms s);
   exported-steps-count-once = λ ts vs xs ms s. counted ts vs (record-of xs) ms (demand-3-of-calls .exported-steps-leave ts vs zeros xs ms refl s .1);
-  steps-count-log = λ ts vs r ms o s.
-      ap (λ (x : RunningSums). x .passes) (demand-3-of-calls .steps-leave ts vs fresh r ms s)
-      ∙ steps-count-log ts vs (o .minutes) (o .values) (o .ordered) ms (o .no-edge-back);
+  steps-count-log = λ ts vs r ms o s. logged ts vs r ms o (demand-3-of-calls .steps-leave ts vs fresh r ms s);
+  exported-steps-count-log = λ ts vs xs ms o s. logged ts vs (record-of xs) ms o (demand-3-of-calls .exported-steps-leave ts vs zeros xs ms refl s .1);
 }
   where
     counted : (ts vs : List ℕ) (r : RunningSums) (ms : List Move) → r ≡ after ts vs fresh ms
         → CountedOnce ts r × (r .passes ≡ passes ts vs fresh ms)
     counted ts vs r ms e = rw e (steps-count-once ts vs ms, steps-count-passes ts vs ms)
+
+    logged : (ts vs : List ℕ) (r : RunningSums) (ms : List Move) → OrderedSteps ts vs ms → r ≡ after ts vs fresh ms
+        → r .passes ≡ insertion-count (log-after-steps ts vs ms) + eviction-count (log-after-steps ts vs ms)
+    logged ts vs r ms o e = rw e (steps-count-log ts vs (o .minutes) (o .values) (o .ordered) ms (o .no-edge-back))
 
     refused-or-stays : (r : RunningSums) (ts vs : List ℕ) (z h : ℕ) (t : Turning) → TurnCall r ts vs z h t
         → RefusedAndStays (verdict-fault (t .verdict)) (FirstFault (turn-conditions ts vs (r .left) (r .right) h)) (t .running ≡ r)

@@ -13,7 +13,8 @@ use Rattle.meanings.specs.declared.Evaluation.{Evaluation}
 use Rattle.meanings.specs.declared.Evaluation.the-variants.{Row}
 use Rattle.meanings.specs.declared.RunningSums.{RunningSums}
 use Rattle.meanings.specs.declared.Turning.{Turning}
-use Rattle.meanings.specs.Claim.{NoEdgeBackAfter, accepted-after, window-direct, log-after-steps}
+use Rattle.meanings.specs.Calls.{advance-answer}
+use Rattle.meanings.specs.Claim.{NoEdgeBackAfter, accepted-after, window-direct, log-after-steps, refusal}
 use Rattle.meanings.specs.EventLog.{insertion-count, eviction-count}
 use Rattle.meanings.specs.Limits.{full, max-u16}
 use Rattle.meanings.specs.Lists.{AtMost}
@@ -114,15 +115,27 @@ pub record Turns : Type 2 where
       → AtMost max-u16 ts → AtMost max-u16 vs → ExportedMotions ts vs zeros ms xs → ExportedTurn xs ts vs z h c₀ xs′ → code-refusal c₀ ≡ none
       → length row₁ ≡ 5 → length row ≡ 5 → ExportedEvaluate ts vs z h row₁ c₁ row₁′ → ExportedRecordRow xs′ z h row c row′
       → (c₁ ≡ 0) × (c ≡ 0) × (row′ ≡ row₁′)
-  -- passes influence nothing else: records that differ in them alone are left so by the same call
+  -- an accepted turn of the nine numbers answers 0
+  pub exported-turn-accepted : (xs ts vs : List ℕ) (z h c : ℕ) (xs′ : List ℕ) → ExportedTurn xs ts vs z h c xs′ → code-refusal c ≡ none → c ≡ 0
+  -- passes influence nothing else: on records that differ in them alone the same call answers the same report, and leaves records that differ so
   pub step-ignores-passes : (r s : RunningSums) (ts vs : List ℕ) (z h : ℕ) (a b : Advance) → AlikeButPasses r s → AdvanceCall r ts vs z h a
-      → AdvanceCall s ts vs z h b → AlikeButPasses (held r a) (held s b)
+      → AdvanceCall s ts vs z h b → (refusal (advance-answer a) ≡ refusal (advance-answer b)) × AlikeButPasses (held r a) (held s b)
   pub turn-ignores-passes : (r s : RunningSums) (ts vs : List ℕ) (z h : ℕ) (t u : Turning) → AlikeButPasses r s → TurnCall r ts vs z h t
-      → TurnCall s ts vs z h u → AlikeButPasses (t .running) (u .running)
+      → TurnCall s ts vs z h u → (verdict-fault (t .verdict) ≡ verdict-fault (u .verdict)) × AlikeButPasses (t .running) (u .running)
+  pub exported-step-ignores-passes : (xs ys ts vs : List ℕ) (z h c d : ℕ) (xs′ ys′ : List ℕ) → length xs ≡ record-length → length ys ≡ record-length
+      → AlikeButPasses (record-of xs) (record-of ys) → ExportedAdvance xs ts vs z h c xs′ → ExportedAdvance ys ts vs z h d ys′
+      → (c ≡ d) × AlikeButPasses (record-of xs′) (record-of ys′)
+  pub exported-turn-ignores-passes : (xs ys ts vs : List ℕ) (z h c d : ℕ) (xs′ ys′ : List ℕ) → length xs ≡ record-length → length ys ≡ record-length
+      → AlikeButPasses (record-of xs) (record-of ys) → ExportedTurn xs ts vs z h c xs′ → ExportedTurn ys ts vs z h d ys′
+      → (c ≡ d) × AlikeButPasses (record-of xs′) (record-of ys′)
   -- so steps behind an accepted turn, with no edge back from it on, keep demand 3's sums
   pub steps-behind-turn : (ts vs : List ℕ) (r r′ : RunningSums) (ms : List Motion) (m : Move) (t : Turning) (ns : List Move) → AtMost max-u16 ts
       → AtMost max-u16 vs → Motions ts vs fresh ms r → TurnCall r ts vs (m .point) (m .bandwidth) t → verdict-fault (t .verdict) ≡ none
       → Steps ts vs (t .running) ns r′ → NoEdgeBackAfter ts vs (some m) ns → r′ .sums ≡ window-direct ts vs (accepted-after ts vs (some m) ns)
+  pub exported-steps-behind-turn : (ts vs xs xs′ xs″ : List ℕ) (ms : List Motion) (m : Move) (c : ℕ) (ns : List Move) → AtMost max-u16 ts
+      → AtMost max-u16 vs → ExportedMotions ts vs zeros ms xs → ExportedTurn xs ts vs (m .point) (m .bandwidth) c xs′ → code-refusal c ≡ none
+      → ExportedSteps ts vs xs′ ns xs″ → NoEdgeBackAfter ts vs (some m) ns
+      → record-of xs″ .sums ≡ window-direct ts vs (accepted-after ts vs (some m) ns)
   -- steps alone from fresh count each edge's way once: right plus left, the positions passed, at most two for each reading
   pub steps-count-once : (ts vs : List ℕ) (r : RunningSums) (ms : List Move) → Steps ts vs fresh ms r
       → CountedOnce ts r × (r .passes ≡ passes ts vs fresh ms)
@@ -131,3 +144,5 @@ pub record Turns : Type 2 where
   -- and under demand 3's hypotheses the insertions plus evictions of the event log
   pub steps-count-log : (ts vs : List ℕ) (r : RunningSums) (ms : List Move) → OrderedSteps ts vs ms → Steps ts vs fresh ms r
       → r .passes ≡ insertion-count (log-after-steps ts vs ms) + eviction-count (log-after-steps ts vs ms)
+  pub exported-steps-count-log : (ts vs xs : List ℕ) (ms : List Move) → OrderedSteps ts vs ms → ExportedSteps ts vs zeros ms xs
+      → record-of xs .passes ≡ insertion-count (log-after-steps ts vs ms) + eviction-count (log-after-steps ts vs ms)
