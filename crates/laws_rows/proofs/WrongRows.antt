@@ -91,7 +91,7 @@ edge-at-most-60 zero g = absurd (let p = g .above-zero in omega arith)
 edge-at-most-60 (suc zero) g = omega arith
 edge-at-most-60 (suc (suc i)) g = absurd (let l = g .within in omega arith)
 
--- the value is 60, though 900 lies in the run: lowest and highest are both 60
+-- the value is 60, though 900 lies in the run: the highest value of a reading with a weight is 60
 pub edge-row : estimate edge-minutes edge-values 20 10 ≡ record { left = 0; right = 2; weight = 100; sum = 6000; value = 60 }
 unfolding estimate left-of right-of kernel distance weight-of sum-of value-of rounded
 edge-row = refl
