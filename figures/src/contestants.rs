@@ -3,7 +3,7 @@
 use figures::inputs::{Buffers, Input};
 use figures::plain::{DETAIL_UNIT, ROW_WIDTH};
 use figures::{direct, plain};
-use tankcurve::slices;
+use tankcurve::{slices, MAX_SAMPLES};
 
 pub struct Contestant {
     pub name: &'static str,
@@ -36,7 +36,7 @@ fn plain_read(read: Reader, input: &Input, lent: &mut Buffers) -> u64 {
 }
 
 /// Every contestant answers what the proved call returns: detail and number as one number.
-pub static CALLS: [Contestant; 11] = [
+pub static CALLS: [Contestant; 15] = [
     Contestant {
         name: "tankcurve_smooth",
         call: |input, lent| {
@@ -115,7 +115,62 @@ pub static CALLS: [Contestant; 11] = [
         name: "tankcurve_turn, refused with 9",
         call: |input, _| turned(input, 0),
     },
+    Contestant {
+        name: "tankcurve_smooth, falling values",
+        call: |input, lent| {
+            let rows = &mut lent.rows[..ROW_WIDTH * input.points.len()];
+            slices::smooth(
+                &input.minutes,
+                &FALLING,
+                &input.points,
+                &input.bandwidths,
+                rows,
+            )
+        },
+    },
+    Contestant {
+        name: "tankcurve_first_at_most, mark 0",
+        call: |input, _| first_at_most(input, u16::MAX, 0),
+    },
+    Contestant {
+        name: "tankcurve_first_at_most, mark 255",
+        call: |input, _| first_at_most(input, LIMIT_OF_MARK_255, 255),
+    },
+    Contestant {
+        name: "tankcurve_first_at_most, none",
+        call: |input, _| first_at_most(input, 0, slices::NO_POSITION),
+    },
 ];
+
+/// Values that fall from reading to reading of the full input, so that each of its rows has a lower value than the one before.
+static FALLING: [u16; MAX_SAMPLES] = {
+    let mut values = [0; MAX_SAMPLES];
+    let mut i = 0;
+    while i < MAX_SAMPLES {
+        values[i] = 60_000 - 50 * i as u16;
+        i += 1;
+    }
+    values
+};
+
+/// The value of mark 255 with these and the half width of the figures.
+const LIMIT_OF_MARK_255: u16 = 34_500;
+
+/// The first mark of the full input at or below the limit, which is the one named.
+fn first_at_most(input: &Input, limit: u16, named: u64) -> u64 {
+    let mut position = [0];
+    let (points, bandwidths) = (&input.points, &input.bandwidths);
+    let answer = slices::first_at_most(
+        &input.minutes,
+        &FALLING,
+        points,
+        bandwidths,
+        limit,
+        &mut position,
+    );
+    assert_eq!(position[0], named, "the mark that answers");
+    answer
+}
 
 /// A record of positions 12 up to 1,012 of the full input, turned to the mark in the middle: with half width 27,189
 /// both edges go out by four positions, and 1,008 readings are in the window.

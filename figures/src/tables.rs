@@ -107,6 +107,41 @@ fn beside_rust(program: &str, plain: &str, full: &Input) -> Result<(), String> {
     Ok(())
 }
 
+/// The first mark at or below a limit, beside the sweep over the same lists.
+fn first_at_most(full: &Input) -> Result<(), String> {
+    let names = [
+        "tankcurve_smooth, falling values",
+        "tankcurve_first_at_most, mark 0",
+        "tankcurve_first_at_most, mark 255",
+        "tankcurve_first_at_most, none",
+    ];
+    let timed = times(&names.map(|name| (called(name), full)));
+    println!("\n### The first mark at or below a limit\n");
+    println!(
+        "The readings and marks above with values that fall from reading to reading, and limits at which mark 0, mark 255 or none
+answers. Ratios are to the sweep over the same lists.
+"
+    );
+    println!("| what | least time | instructions | ratio, instructions | goal |");
+    println!("|---|---|---|---|---|");
+    let sweep = instructions(names[0], 1, BANDWIDTH)?;
+    let goals = [None, None, None, Some(1.0)];
+    for ((name, times), goal) in names.iter().zip(&timed).zip(goals) {
+        let count = instructions(name, 1, BANDWIDTH)?;
+        let ratio = count as f64 / sweep as f64;
+        let goal = goal.map_or(String::new(), |most| {
+            let met = if ratio <= most { "met" } else { "not met" };
+            format!("at most {most}: {met}")
+        });
+        println!(
+            "| {name} | {} | {} | {ratio:.3} | {goal} |",
+            micros(least(times)),
+            grouped(count)
+        );
+    }
+    Ok(())
+}
+
 /// A turn beside one that is refused after the order check and has moved nothing.
 fn turn(full: &Input) -> Result<(), String> {
     let names = ["tankcurve_turn", "tankcurve_turn, refused with 9"];
@@ -310,6 +345,7 @@ all, the loader's too.
     searches()?;
     beside_direct_sums()?;
     turn(full)?;
+    first_at_most(full)?;
     growth(&parts)
 }
 

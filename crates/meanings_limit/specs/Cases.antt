@@ -66,8 +66,8 @@ crossing-cases =
     ∷ asked (2 ∷ 1 ∷ []) (1 ∷ 1 ∷ []) (replicate 513 0) (replicate 513 0) 65535 (report 6 0)
     ∷ asked (2 ∷ 1 ∷ []) (1 ∷ 1 ∷ []) [] [] 65535 (report 7 0)
     ∷ asked (1 ∷ 2 ∷ 1 ∷ []) (1 ∷ 1 ∷ 1 ∷ []) (1 ∷ 0 ∷ []) (0 ∷ 1 ∷ []) 65535 (report 4 2)
-    -- though mark 0 would answer
     ∷ low (7 ∷ 8 ∷ 7 ∷ []) (0 ∷ 9 ∷ 9 ∷ []) (report 5 2)
+    -- though mark 0 would answer
     ∷ low (7 ∷ 7 ∷ 7 ∷ []) (9 ∷ 8 ∷ 0 ∷ []) (report 9 2)
     ∷ low (7 ∷ 7 ∷ 7 ∷ []) (9 ∷ 9 ∷ 65537 ∷ []) (report 9 2)
     ∷ low (7 ∷ 7 ∷ 7 ∷ []) (9 ∷ 9 ∷ 8 ∷ []) (report 10 2)

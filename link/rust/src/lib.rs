@@ -497,8 +497,8 @@ fn smoothed(answer: u64, rows: &[u64]) -> Result<Smoothed<'_>, Error> {
 }
 
 /// The first point whose value is present and at or below `limit` ("when may the tank move"), as the rows
-/// of [`smooth`] would say it: the curve may rise behind that point. Values from its right edge on have no
-/// influence. Every limit is fit. Reports 8, 6, 7, 4, 5, 9, 10, of whole lists and before any answer.
+/// of [`smooth`] would say it: the curve may rise behind that point. Values from position `right` of its row
+/// on have no influence. Every limit is fit. Reports 8, 6, 7, 4, 5, 9, 10, of whole lists and before any answer.
 ///
 /// ```
 /// # fn main() -> Result<(), tankcurve::Error> {
