@@ -47,6 +47,9 @@ pub fn report_number(report: Report) -> u64
         Report::InvalidRecord => 11,
         Report::UnknownPreset => 12,
         Report::GridOverflow => 13,
+        Report::TooFewSamples => 14,
+        Report::CrossedRange => 15,
+        Report::SecondSeries => 16,
     }
 }
 
