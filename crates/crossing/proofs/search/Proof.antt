@@ -24,11 +24,11 @@ loop-again c = search goes-on
 returns-2 : tie.Need-returns-2 Inv-loop μ-loop
 returns-2 c = search nowhere
 
-add-t19 : tie.Need-add-t19 Inv-loop μ-loop
-add-t19 c = search next-passes-fit
+add-t20 : tie.Need-add-t20 Inv-loop μ-loop
+add-t20 c = search next-passes-fit
 
-add-t22 : tie.Need-add-t22 Inv-loop μ-loop
-add-t22 c = search passes-fit
+add-t23 : tie.Need-add-t23 Inv-loop μ-loop
+add-t23 c = search passes-fit
 
 pub search-spec : {M : Type 1} → statement M
 search-spec =
@@ -44,10 +44,10 @@ search-spec =
     (λ c. search needs)
     (λ c κs. search needs)
     (λ c κs. search needs)
-    add-t19
+    add-t20
     returns
     (λ c. search needs)
     (λ c. search needs)
     loop-again
-    add-t22
+    add-t23
     returns-2)

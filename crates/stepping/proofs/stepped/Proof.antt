@@ -1,8 +1,8 @@
 -- A step that is accepted gives the new record; one that is refused leaves the old one.
 use borrow.Author.Needs.{needs}
-use Rattle.crossing.proofs.Searching.{refused-stays, moved-goes}
-use Rattle.crossing.proofs.stepped.Statement.{statement}
-use Rattle.crossing.proofs.stepped.Tie as tie
+use Rattle.stepping.proofs.Sweeping.{refused-stays, moved-goes}
+use Rattle.stepping.proofs.stepped.Statement.{statement}
+use Rattle.stepping.proofs.stepped.Tie as tie
 
 returns : tie.Need-returns
 returns c = search refused-stays
