@@ -18,6 +18,7 @@ use Rattle.meanings.specs.PublishedRow.{PublishedRow}
 use Rattle.meanings.specs.Reports.{Fault, Answer, given, refused, curve-checks}
 use Rattle.meanings.specs.Estimate.{estimate}
 use Rattle.meanings.specs.Running.{fresh, passes}
+use Rattle.meanings.specs.EventLog.{empty-log, log-after, insertion-count, eviction-count}
 use Rattle.meanings.specs.Claim.{refusal}
 use Rattle.meanings.specs.Calls.{smoothing-answer, smooth, smooth-rows}
 use Rattle.meanings.specs.Codes.{detail-unit, answered}
@@ -25,6 +26,7 @@ use Rattle.meanings.proofs.Checks.{same-limits, given-accepted}
 use Rattle.meanings.proofs.PublishedRows.{published-row, one-published-row}
 use Rattle.meanings.proofs.Search.{lowest-none, lowest-some}
 use Rattle.meanings.proofs.Steps.{Small}
+use Rattle.meanings.proofs.SmoothLog.{curve-passes}
 use Rattle.meanings.proofs.SmoothSteps.{CurveAccepted, curve-accepts}
 use Rattle.meanings_limit.specs.declared.Crossing.{Crossing}
 use Rattle.meanings_limit.specs.declared.Crossing.the-variants.{Reached, NotReached}
@@ -107,6 +109,19 @@ module _ (ts vs zs hs : List ℕ) (limit : ℕ) where
       let g = given-accepted (crossing-refusal full ts vs zs hs) (located ts vs zs hs limit) l q in
       (curve-accepts full (same-limits full) ts vs zs hs false (g .0), g .1)
 
+  -- with none the passes are those of all marks, and an event log counts them
+  none-counted : AtMost max-u16 ts → AtMost max-u16 vs → (n : ℕ)
+      → first-at-most full ts vs zs hs limit ≡ given (record { position = none; passes = n })
+      → (n ≡ insertion-count (log-after ts vs empty-log (moves zs hs)) + eviction-count (log-after ts vs empty-log (moves zs hs)))
+      × (n ≤ 2 * length ts)
+  unfolding first-at-most
+  none-counted minutes values n q =
+      let g = given-accepted (crossing-refusal full ts vs zs hs) (located ts vs zs hs limit) (record { position = none; passes = n }) q in
+      let all : passes ts vs fresh (moves zs hs) ≡ n =
+      sym (ap (λ (o : Option ℕ). passes ts vs fresh (steps-to zs hs o)) (ap (λ (x : Located). x .position) (g .1)))
+      ∙ ap (λ (x : Located). x .passes) (g .1) in
+      rw all at (curve-passes full (same-limits full) ts vs zs hs minutes values false (g .0))
+
   exactly : (t : Answer Located) → t ≡ first-at-most full ts vs zs hs limit → RefusedExactly (refusal t) (FirstFault (crossing-conditions ts vs zs hs))
   unfolding first-at-most
   exactly t q = decided-exactly (located ts vs zs hs limit) (finds ts vs zs hs) q
@@ -146,10 +161,14 @@ crossings = record {
   reached = λ ts vs zs hs limit k n minutes values c.
       let o = opened ts vs zs hs limit (record { position = some k; passes = n }) (sym (c .ensured)) in
       first-is ts vs zs hs limit minutes values (o .0) k n (ap (λ (x : Located). x .position) (o .1)) (o .1);
-  not-reached = λ ts vs zs hs limit n minutes values c j l.
+  not-reached = λ ts vs zs hs limit n minutes values c.
       let o = opened ts vs zs hs limit (record { position = none; passes = n }) (sym (c .ensured)) in
-      high-at ts vs zs hs limit minutes values (o .0) j l
-      (lowest-none (low-at ts vs zs hs limit) (length zs) (ap (λ (x : Located). x .position) (o .1)) j l);
+      let e = ap (λ (x : Located). x .position) (o .1) in
+      let p = none-counted ts vs zs hs limit minutes values n (sym (c .ensured)) in (
+        λ j l. high-at ts vs zs hs limit minutes values (o .0) j l (lowest-none (low-at ts vs zs hs limit) (length zs) e j l),
+        p .0,
+        p .1,
+      );
   by-the-full-curve = λ ts vs zs hs rs limit a b rs′ minutes values fits c d.
       c .ensured
       ∙ by-the-full-curve full (same-limits full) ts vs zs hs rs limit minutes values fits

@@ -10,8 +10,10 @@ use Rattle.meanings.specs.declared.Estimate.{Estimate}
 use Rattle.meanings.specs.declared.Smoothing.{Smoothing}
 use Rattle.meanings.specs.Limits.{full, max-u16, row-width}
 use Rattle.meanings.specs.Lists.{AtMost}
+use Rattle.meanings.specs.Moves.{moves}
 use Rattle.meanings.specs.PublishedRow.{PublishedRow}
 use Rattle.meanings.specs.Reports.{Fault, given}
+use Rattle.meanings.specs.EventLog.{empty-log, log-after, insertion-count, eviction-count}
 use Rattle.meanings.specs.Claim.{refusal}
 use Rattle.meanings.specs.Calls.{smoothing-answer}
 use Rattle.meanings.specs.Codes.{detail-unit}
@@ -79,11 +81,14 @@ pub record Crossings : Type 2 where
   -- unfit lists are refused before any answer, under the listed conditions only
   pub refused : (ts vs zs hs : List ℕ) (limit : ℕ) (a : Crossing) → FirstAtMostCall ts vs zs hs limit a
       → RefusedExactly (refusal (crossing-answer a)) (FirstFault (crossing-conditions ts vs zs hs))
-  -- the answer is the first mark that is low enough, or none
+  -- the answer is the first mark that is low enough, or none; the passes are then the insertions plus evictions of an event log of all marks, at most
+  -- two for each reading
   pub reached : (ts vs zs hs : List ℕ) (limit k n : ℕ) → AtMost max-u16 ts → AtMost max-u16 vs → FirstAtMostCall ts vs zs hs limit (Reached k n)
       → FirstLow ts vs zs hs limit k n
   pub not-reached : (ts vs zs hs : List ℕ) (limit n : ℕ) → AtMost max-u16 ts → AtMost max-u16 vs → FirstAtMostCall ts vs zs hs limit (NotReached n)
       → NoneLow ts vs zs hs limit
+      × (n ≡ insertion-count (log-after ts vs empty-log (moves zs hs)) + eviction-count (log-after ts vs empty-log (moves zs hs)))
+      × (n ≤ 2 * length ts)
   -- it is what a sweep with room for its rows would say: refused alike, at the same place; else position and passes are those of its rows,
   -- with none its passes
   pub by-the-full-curve : (ts vs zs hs rs : List ℕ) (limit : ℕ) (a : Crossing) (b : Smoothing) (rs′ : List ℕ) → AtMost max-u16 ts
