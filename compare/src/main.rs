@@ -56,6 +56,7 @@ fn compare(calls: &mut Calls, questions: &mut Questions, examples: &Path) -> Res
     cases::refusal_text(calls)?;
     cases::program(calls)?;
     limit::first_at_most(questions)?;
+    limit::decisive(questions)?;
     let tallies = || calls.tallies().into_iter().chain(questions.tallies());
     tallies().for_each(|tally| println!("{}", tally.line()));
     tallies().try_for_each(Tally::complete)

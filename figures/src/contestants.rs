@@ -36,7 +36,7 @@ fn plain_read(read: Reader, input: &Input, lent: &mut Buffers) -> u64 {
 }
 
 /// Every contestant answers what the proved call returns: detail and number as one number.
-pub static CALLS: [Contestant; 15] = [
+pub static CALLS: [Contestant; 18] = [
     Contestant {
         name: "tankcurve_smooth",
         call: |input, lent| {
@@ -140,6 +140,27 @@ pub static CALLS: [Contestant; 15] = [
         name: "tankcurve_first_at_most, none",
         call: |input, _| first_at_most(input, 0, slices::NO_POSITION),
     },
+    Contestant {
+        name: "tankcurve_evaluate",
+        call: |input, lent| {
+            let row = &mut lent.rows[..ROW_WIDTH];
+            slices::evaluate(
+                &input.minutes,
+                &input.values,
+                MIDDLE,
+                input.bandwidths[0],
+                row,
+            )
+        },
+    },
+    Contestant {
+        name: "tankcurve_decisive, none",
+        call: |input, _| decisive(input, 0, slices::NO_POSITION),
+    },
+    Contestant {
+        name: "tankcurve_decisive, reading 0",
+        call: |input, _| decisive(input, LIMIT_OF_READING_0, 0),
+    },
 ];
 
 /// Values that fall from reading to reading of the full input, so that each of its rows has a lower value than the one before.
@@ -172,6 +193,22 @@ fn first_at_most(input: &Input, limit: u16, named: u64) -> u64 {
     answer
 }
 
+/// The mark in the middle of the readings.
+const MIDDLE: u16 = 37_621;
+
+/// The value there at half width 65,536; without reading 0 it is higher.
+const LIMIT_OF_READING_0: u16 = 37_739;
+
+/// The reading that decides in the middle, which is the one named.
+fn decisive(input: &Input, limit: u16, named: u64) -> u64 {
+    let mut position = [0];
+    let (minutes, values) = (&input.minutes, &input.values);
+    let bandwidth = input.bandwidths[0];
+    let answer = slices::decisive(minutes, values, MIDDLE, bandwidth, limit, &mut position);
+    assert_eq!(position[0], named, "the reading that decides");
+    answer
+}
+
 /// A record of positions 12 up to 1,012 of the full input, turned to the mark in the middle: with half width 27,189
 /// both edges go out by four positions, and 1,008 readings are in the window.
 fn turned(input: &Input, bandwidth: u32) -> u64 {
@@ -180,7 +217,7 @@ fn turned(input: &Input, bandwidth: u32) -> u64 {
         &mut record,
         &input.minutes,
         &input.values,
-        37_621,
+        MIDDLE,
         bandwidth,
     );
     answer + DETAIL_UNIT * record[8]

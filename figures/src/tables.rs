@@ -11,6 +11,9 @@ use figures::plain::{MAX_OUTPUT, MAX_POINTS, ROW_WIDTH};
 /// The bandwidth of every figure but those that name another.
 const BANDWIDTH: u32 = 20_000;
 
+/// The widest bandwidth: every reading lies in the window of the mark in the middle.
+const WIDE: u32 = 65_536;
+
 const SMOOTHS: [&str; 4] = [
     "tankcurve_smooth",
     "plain::smooth",
@@ -138,6 +141,49 @@ answers. Ratios are to the sweep over the same lists.
             micros(least(times)),
             grouped(count)
         );
+    }
+    Ok(())
+}
+
+/// The reading that decides, beside the question at the same mark.
+fn decisive(wide: &Input) -> Result<(), String> {
+    let names = [
+        "tankcurve_evaluate",
+        "tankcurve_decisive, reading 0",
+        "tankcurve_decisive, none",
+    ];
+    let timed = times(&names.map(|name| (called(name), wide)));
+    println!("\n### The reading that decides\n");
+    println!(
+        "1,024 readings, all of them in the window of the mark in the middle, and limits at which reading 0 or none decides. Ratios
+are to the question at that mark.
+"
+    );
+    println!("| what | least time | instructions | ratio, instructions | goal |");
+    println!("|---|---|---|---|---|");
+    let question = instructions(names[0], 1, WIDE)?;
+    let goals = [None, None, Some(4.0)];
+    for ((name, times), goal) in names.iter().zip(&timed).zip(goals) {
+        let count = instructions(name, 1, WIDE)?;
+        let ratio = count as f64 / question as f64;
+        let goal = goal.map_or(String::new(), |most| {
+            let met = if ratio <= most { "met" } else { "not met" };
+            format!("at most {most}: {met}")
+        });
+        println!(
+            "| {name} | {} | {} | {ratio:.3} | {goal} |",
+            micros(least(times)),
+            grouped(count)
+        );
+    }
+    println!("\nWhere none decides, by the number of readings; linear is 0.25 and 0.50.\n");
+    println!("| readings | instructions | ratio, instructions |");
+    println!("|---|---|---|");
+    let full = instructions(names[2], 1, WIDE)?;
+    for part in [4, 2, 1] {
+        let count = instructions(names[2], part, WIDE)?;
+        let ratio = count as f64 / full as f64;
+        println!("| {} | {} | {ratio:.3} |", 1024 / part, grouped(count));
     }
     Ok(())
 }
@@ -346,6 +392,7 @@ all, the loader's too.
     beside_direct_sums()?;
     turn(full)?;
     first_at_most(full)?;
+    decisive(&input(1, WIDE))?;
     growth(&parts)
 }
 

@@ -94,6 +94,21 @@ static bool may_move(size_t samples, size_t marks, uint16_t limit)
     return true;
 }
 
+/* Which reading decides: the injection to repeat before the tank is moved, as without it alone the value at the mark would be on the other side
+   of the limit. */
+static bool repeat_which(size_t samples, uint16_t point, uint32_t bandwidth, uint16_t limit)
+{
+    uint64_t position[TANKCURVE_POSITION_LEN];
+    if (!accepted("decisive", tankcurve_decisive(minutes, samples, values, samples, point, bandwidth, limit, position, TANKCURVE_POSITION_LEN)))
+        return false;
+    if (position[0] == TANKCURVE_NO_POSITION)
+        printf("decisive: at %" PRIu16 " no reading\n", limit);
+    else
+        printf("decisive: at %" PRIu16 " reading %" PRIu64 ", minute %" PRIu16 ", value %" PRIu16 "\n", limit, position[0], minutes[position[0]],
+               values[position[0]]);
+    return true;
+}
+
 /* The question at one mark: its row, and the values inside its window. */
 static bool one_mark(size_t samples, uint16_t point, uint32_t bandwidth)
 {
@@ -138,7 +153,8 @@ int main(void)
         size_t samples = counts[TANKCURVE_COUNTS_SAMPLES], marks = counts[TANKCURVE_COUNTS_POINTS];
         printf("read: %zu samples, %zu points\n", samples, marks);
         well = well && sweep(samples, marks) && steps(samples, marks) && one_mark(samples, points[0], bandwidths[0]) &&
-               may_move(samples, marks, 58) && may_move(samples, marks, 57);
+               may_move(samples, marks, 58) && may_move(samples, marks, 57) && repeat_which(samples, points[0], bandwidths[0], 60) &&
+               repeat_which(samples, points[0], bandwidths[0], 59);
         /* Four marks from minute 10, one every 15 minutes, with the half width of the knob's position 0. */
         well = well && accepted("fill", tankcurve_fill(10, 15, 0, points, 4, bandwidths, 4)) && preview(samples, 4) && sweep(samples, 4);
     }

@@ -59,10 +59,10 @@ extern "C" {
 #endif
 
 /*
- * The version that this header belongs to, 2.1.0: major * 65536 + minor * 256 + patch. tankcurve_version gives that of the archive. What is
- * counted by it stands in link/abi-2.1.0.
+ * The version that this header belongs to, 2.2.0: major * 65536 + minor * 256 + patch. tankcurve_version gives that of the archive. What is
+ * counted by it stands in link/abi-2.2.0.
  */
-#define TANKCURVE_VERSION 0x020100
+#define TANKCURVE_VERSION 0x020200
 
 /* The lengths and limits. */
 #define TANKCURVE_MAX_SAMPLES 1024 /* samples ("readings") in a list, and the length of the reader's lists of them */
@@ -338,6 +338,17 @@ TANKCURVE_ANSWER
 uint64_t tankcurve_first_at_most(const uint16_t *minutes, size_t minutes_len, const uint16_t *values, size_t values_len,
                                  const uint16_t *points, size_t points_len, const uint32_t *bandwidths, size_t bandwidths_len,
                                  uint16_t limit, uint64_t *position, size_t position_len);
+
+/*
+ * The sample on which the answer at one point hangs ("which reading decides") [Questions with a limit]. position: 1 number, the lowest
+ * position in minutes and values, from 0, such that without that sample alone tankcurve_evaluate has a value that is present and at or below
+ * limit where it had none such, or none such where it had one; TANKCURVE_NO_POSITION where there is no such sample. Only a sample of weight
+ * above 0 decides, and where the value is missing there is none. Every limit is fit. Detail 0. Reports and places as for tankcurve_evaluate,
+ * with position for row.
+ */
+TANKCURVE_ANSWER
+uint64_t tankcurve_decisive(const uint16_t *minutes, size_t minutes_len, const uint16_t *values, size_t values_len, uint16_t point,
+                            uint32_t bandwidth, uint16_t limit, uint64_t *position, size_t position_len);
 
 #ifdef __cplusplus
 }

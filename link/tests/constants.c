@@ -132,6 +132,7 @@ static void lengths(void)
         gives("rows", tankcurve_smooth(minutes, 1, values, 1, points, 2, bandwidths, 2, numbers, 2 * TANKCURVE_ROW_LEN + d), report, 0);
         gives("bounds", tankcurve_window(minutes, 1, values, 1, 0, 1, numbers, TANKCURVE_BOUNDS_LEN + d), report, 0);
         gives("position", tankcurve_first_at_most(minutes, 1, values, 1, points, 2, bandwidths, 2, 0, numbers, TANKCURVE_POSITION_LEN + d), report, 0);
+        gives("position of a sample", tankcurve_decisive(minutes, 1, values, 1, 0, 1, 0, numbers, TANKCURVE_POSITION_LEN + d), report, 0);
         memset(numbers, 0, sizeof numbers);
         gives("record", tankcurve_advance(numbers, TANKCURVE_RECORD_LEN + d, minutes, 1, values, 1, 0, 1), report, 0);
         gives("record of a row", tankcurve_row(numbers, TANKCURVE_RECORD_LEN + d, 0, 1, numbers + 10, TANKCURVE_ROW_LEN), report, 0);
@@ -282,13 +283,16 @@ static void rows_of_another_window(void)
     }
 }
 
-/* Of no readings no value is low enough. */
+/* Of no readings no value is low enough, and none decides. */
 static void no_position(void)
 {
     uint64_t position[TANKCURVE_POSITION_LEN] = {0};
     gives("no position", tankcurve_first_at_most(minutes, 0, values, 0, points, 1, bandwidths, 1, 65535, position, TANKCURVE_POSITION_LEN),
           TANKCURVE_ACCEPTED, 0);
     same("no position", position[0], TANKCURVE_NO_POSITION);
+    position[0] = 0;
+    gives("no sample", tankcurve_decisive(minutes, 0, values, 0, 0, 1, 65535, position, TANKCURVE_POSITION_LEN), TANKCURVE_ACCEPTED, 0);
+    same("no sample", position[0], TANKCURVE_NO_POSITION);
 }
 
 int main(void)

@@ -297,6 +297,32 @@ static void first_at_most(void)
     same("first_at_most, behind its list", position[1], 91);
 }
 
+/* At 14 with bandwidth 8 the value is 13, and 13, 15, 14, 13, 11 and 13 without each sample in turn; with bandwidth 7 it is 12, and 12, 13,
+   12, 9, 12 and 12. */
+static void decisive(void)
+{
+    const struct {
+        uint32_t bandwidth;
+        uint16_t limit;
+        uint64_t position;
+    } asked[] = {{7, 8, TANKCURVE_NO_POSITION}, {7, 9, 3}, {7, 11, 3}, {7, 12, 1}, {7, 13, TANKCURVE_NO_POSITION}, {8, 10, TANKCURVE_NO_POSITION},
+                 {8, 11, 4}, {8, 12, 4}, {8, 13, 1}, {8, 14, 1}, {8, 15, TANKCURVE_NO_POSITION}, {8, 65535, TANKCURVE_NO_POSITION}};
+    uint64_t position[] = {90, 91};
+    same("decisive, falling minutes", tankcurve_decisive(falling, SAMPLES, values, SAMPLES, 14, 7, 12, position, 1),
+         TANKCURVE_DETAIL_UNIT * 4 + TANKCURVE_SAMPLE_OUT_OF_ORDER);
+    same("decisive, one value less", tankcurve_decisive(minutes, SAMPLES, values, SAMPLES - 1, 14, 7, 12, position, 1),
+         TANKCURVE_LENGTH_MISMATCH);
+    same("decisive, a bandwidth of 0", tankcurve_decisive(minutes, SAMPLES, values, SAMPLES, 14, 0, 12, position, 1),
+         TANKCURVE_BANDWIDTH_OUT_OF_RANGE);
+    same("decisive, a longer list", tankcurve_decisive(minutes, SAMPLES, values, SAMPLES, 14, 7, 12, position, 2), TANKCURVE_LENGTH_MISMATCH);
+    same("decisive, the list of a refusal", position[0], 90);
+    for (size_t k = 0; k < sizeof asked / sizeof asked[0]; k++) {
+        same("decisive", tankcurve_decisive(minutes, SAMPLES, values, SAMPLES, 14, asked[k].bandwidth, asked[k].limit, position, 1), 0);
+        same("decisive, position", position[0], asked[k].position);
+    }
+    same("decisive, behind its list", position[1], 91);
+}
+
 static void fill(void)
 {
     const uint16_t points_before[] = {90, 91, 92};
@@ -424,6 +450,7 @@ int main(void)
     widths();
     smooth_lists_of_one_length();
     first_at_most();
+    decisive();
     fill();
     read();
     text();

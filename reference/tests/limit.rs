@@ -86,10 +86,11 @@ fn first_reports() {
 }
 
 /// Values at the sample sheets' marks: both are first low enough at the same
-/// mark under one limit, and at another only one is.
+/// mark under one limit, and at another only one is. At the last mark one hangs
+/// on its last reading, and the other on none.
 #[test]
 fn first_of_two_lagers() {
-    for (name, at_945) in [("even-fall", Some(10)), ("afternoon", None)] {
+    for (name, at_945, decides) in [("even-fall", Some(10), None), ("afternoon", None, Some(10))] {
         let path = format!("{}/../examples/{name}.sheet", env!("CARGO_MANIFEST_DIR"));
         let sheet = std::fs::read(path).unwrap();
         let (mut minutes, mut values) = ([0; 1024], [0; 1024]);
@@ -103,6 +104,9 @@ fn first_of_two_lagers() {
         let passes = at_945.map_or(17, |_| 16);
         assert_eq!(first(945), Ok((at_945, passes)));
         assert_eq!(first(1000), Ok((Some(10), 16)));
+        let (m, v) = (&minutes[..kept], &values[..kept]);
+        let last = (marks[used - 1], halves[used - 1]);
+        assert_eq!(decisive(m, v, last.0, last.1, 1000), Ok(decides));
     }
 }
 

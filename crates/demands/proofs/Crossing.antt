@@ -56,12 +56,12 @@ both-true : (a b : Bool) → (a && b) ≡ true → (a ≡ true) × (b ≡ true)
 both-true true b e = (refl, e)
 both-true false b e = absurd (true≢false (sym e))
 
-test-says : (limit : ℕ) (e : Estimate) → low-enough limit e ≡ true → LowEnough limit e
+pub test-says : (limit : ℕ) (e : Estimate) → low-enough limit e ≡ true → LowEnough limit e
 test-says limit e q =
     let b = both-true (ltb 0 (e .weight)) (leb (e .value) limit) q in
     (ltb-true 0 (e .weight) (b .0), leb-true (e .value) limit (b .1))
 
-test-denies : (limit : ℕ) (e : Estimate) → low-enough limit e ≡ false → ¬ LowEnough limit e
+pub test-denies : (limit : ℕ) (e : Estimate) → low-enough limit e ≡ false → ¬ LowEnough limit e
 test-denies limit e q l = true≢false (sym (rw (lt-ltb 0 (e .weight) (l .0), le-leb (e .value) limit (l .1))) ∙ q)
 
 module _ (ts vs zs hs : List ℕ) (limit : ℕ) (minutes : AtMost max-u16 ts) (values : AtMost max-u16 vs) (a : CurveAccepted ts vs zs hs) where

@@ -1,6 +1,7 @@
 // The questions with a limit on the vectors of stdin: each answer, with every lent list whole. What is written is held to the file stdout.
 // Both files are made by the second implementation: bin gate_vectors of reference/, which says their form.
 use abi_crossing::tankcurve_first_at_most;
+use abi_decisive::tankcurve_decisive;
 use vectors_io::MOST_BYTES;
 use vectors_io::MOST_CASES;
 use vectors_io::MOST_ELEMENTS;
@@ -10,6 +11,7 @@ use vectors_io::lent_u64;
 use vectors_io::list_u16;
 use vectors_io::list_u32;
 use vectors_io::narrow_u16;
+use vectors_io::narrow_u32;
 use vectors_io::next_case;
 use vectors_io::number;
 use vectors_io::show_answer;
@@ -75,6 +77,41 @@ fn first_at_most_case(input: &[u8], from: usize) {
     );
 }
 
+fn decisive_with(
+    minutes: &[u16],
+    values: &[u16],
+    point: u16,
+    bandwidth: u32,
+    limit: u16,
+    position: &mut [u64],
+) {
+    show_answer(tankcurve_decisive(minutes, values, point, bandwidth, limit, position));
+    show_u64(position);
+}
+
+fn decisive_case(input: &[u8], from: usize) {
+    let mut minutes = [0u16; MOST_ELEMENTS];
+    let mut values = [0u16; MOST_ELEMENTS];
+    let mut position = [7u64; 8];
+    let m = list_u16(input, from, &mut minutes);
+    let v = list_u16(input, m.next, &mut values);
+    let point = number(input, v.next);
+    let bandwidth = number(input, point.next);
+    let limit = number(input, bandwidth.next);
+    let lent = lent_u64(input, limit.next, &position);
+    let mc = m.count;
+    let vc = v.count;
+    let n = lent.count;
+    decisive_with(
+        &minutes[..mc],
+        &values[..vc],
+        narrow_u16(point.value),
+        narrow_u32(bandwidth.value),
+        narrow_u16(limit.value),
+        &mut position[..n],
+    );
+}
+
 // A case begins with its call's number.
 fn case(input: &[u8]) {
     let call = number(input, 0);
@@ -82,6 +119,7 @@ fn case(input: &[u8]) {
     let which = call.value;
     match which {
         1 => first_at_most_case(input, from),
+        2 => decisive_case(input, from),
         _ => (),
     }
 }

@@ -36,9 +36,9 @@ pub use row::{Estimate, NoEstimate, RecordRow, Rows};
 /// of the linked archive.
 ///
 /// ```
-/// assert_eq!(tankcurve::VERSION, 0x02_01_00);
+/// assert_eq!(tankcurve::VERSION, 0x02_02_00);
 /// ```
-pub const VERSION: u32 = 0x02_01_00;
+pub const VERSION: u32 = 0x02_02_00;
 
 /// How many samples ("readings") there may be, and how many places the reader's lists of them have.
 ///
@@ -522,6 +522,36 @@ pub fn first_at_most(
     let passes = report::outcome(answer)?;
     let point = found(position, points).ok_or(Error::Unknown(answer))?;
     Ok(Crossing { point, passes })
+}
+
+/// The sample on which the answer at one point hangs ("which reading decides"): the lowest position such that
+/// without that sample alone the value of [`evaluate`] is present and at or below `limit` where it was not, or is not
+/// where it was; none where no sample alone changes that. Whoever repeats that sample's injection repeats the one that
+/// counts. Every limit is fit. Reports 8, 6, 4, 9.
+///
+/// ```
+/// # fn main() -> Result<(), tankcurve::Error> {
+/// let (minutes, values) = ([10, 20, 20, 35], [40, 60, 80, 20]);
+/// // The value is 70, which is over the limit; without the 80 it is 60.
+/// assert_eq!(tankcurve::decisive(&minutes, &values, 20, 10, 60)?, Some(2));
+/// let again = tankcurve::evaluate(&[10, 20, 35], &[40, 60, 20], 20, 10)?;
+/// assert_eq!(again.value(), Some(60));
+/// // Over 59 it stays without any one of them.
+/// assert_eq!(tankcurve::decisive(&minutes, &values, 20, 10, 59)?, None);
+/// # Ok(())
+/// # }
+/// ```
+pub fn decisive(
+    minutes: &[u16],
+    values: &[u16],
+    point: u16,
+    bandwidth: u32,
+    limit: u16,
+) -> Result<Option<usize>, Error> {
+    let mut position = [0];
+    let answer = slices::decisive(minutes, values, point, bandwidth, limit, &mut position);
+    report::outcome(answer)?;
+    found(position, minutes).ok_or(Error::Unknown(answer))
 }
 
 /// Fills an evaluation grid ("the mark filler"): point k, from 0, is `first` + k × `spacing`, and every

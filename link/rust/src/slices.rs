@@ -176,6 +176,18 @@ mod exports {
             position_len: usize,
         ) -> u64;
 
+        pub fn tankcurve_decisive(
+            minutes: *const u16,
+            minutes_len: usize,
+            values: *const u16,
+            values_len: usize,
+            point: u16,
+            bandwidth: u32,
+            limit: u16,
+            position: *mut u64,
+            position_len: usize,
+        ) -> u64;
+
         pub fn tankcurve_version() -> u32;
     }
 }
@@ -536,6 +548,40 @@ pub fn first_at_most(
             points.len(),
             bandwidths.as_ptr(),
             bandwidths.len(),
+            limit,
+            position.as_mut_ptr(),
+            position.len(),
+        )
+    }
+}
+
+/// The lowest sample without which alone the value at a point is at or below `limit` where it was not, or is not where
+/// it was; a missing value is at or below no limit. `position`: 1 number: the position in `minutes` and `values`, or
+/// [`NO_POSITION`]. Detail 0.
+///
+/// ```
+/// let mut position = [0];
+/// let answer = tankcurve::slices::decisive(&[5, 5], &[9, 3], 5, 1, 3, &mut position);
+/// // Without the first, the value is 3.
+/// assert_eq!((answer, position), (0, [0]));
+/// ```
+#[must_use]
+pub fn decisive(
+    minutes: &[u16],
+    values: &[u16],
+    point: u16,
+    bandwidth: u32,
+    limit: u16,
+    position: &mut [u64],
+) -> u64 {
+    unsafe {
+        exports::tankcurve_decisive(
+            minutes.as_ptr(),
+            minutes.len(),
+            values.as_ptr(),
+            values.len(),
+            point,
+            bandwidth,
             limit,
             position.as_mut_ptr(),
             position.len(),

@@ -104,6 +104,7 @@ fn lengths() {
             slices::first_at_most(&[], &[], &[0], &[1], 0, position),
             answer
         );
+        assert_eq!(slices::decisive(&[], &[], 0, 1, 0, position), answer);
         let out = &mut vec![0; length(MAX_OUTPUT)];
         assert_eq!(slices::number(slices::refusal_text(1, 2, out)), answer);
         assert_eq!(slices::number(slices::text(HEAD.as_bytes(), out)), answer);

@@ -601,3 +601,58 @@ fn first_at_most() {
         );
     }
 }
+
+/// At 14 with half width 8 the value is 13, and 13, 15, 14, 13, 11 and 13 without each sample in turn; with half width 7
+/// it is 12, and 12, 13, 12, 9, 12 and 12.
+#[test]
+fn decisive() {
+    let mut position = [90];
+    assert_eq!(
+        slices::decisive(&FALLING, &VALUES, 14, 7, 12, &mut position),
+        DETAIL_UNIT * 4 + 4
+    );
+    assert_eq!(
+        slices::decisive(&MINUTES, &VALUES, 14, 0, 12, &mut position),
+        9
+    );
+    assert_eq!(position, [90]);
+    assert_eq!(
+        tankcurve::decisive(&FALLING, &VALUES, 14, 7, 12),
+        refused(Report::SampleOutOfOrder, 4)
+    );
+    assert_eq!(
+        tankcurve::decisive(&MINUTES, &VALUES[..5], 14, 7, 12),
+        refused(Report::LengthMismatch, 0)
+    );
+    let mut long = [90; 2];
+    assert_eq!(slices::decisive(&MINUTES, &VALUES, 14, 7, 12, &mut long), 8);
+    assert_eq!(long, [90; 2]);
+    for (bandwidth, limit, expected) in [
+        (7, 8, None),
+        (7, 9, Some(3)),
+        (7, 11, Some(3)),
+        (7, 12, Some(1)),
+        (7, 13, None),
+        (8, 10, None),
+        (8, 11, Some(4)),
+        (8, 12, Some(4)),
+        (8, 13, Some(1)),
+        (8, 14, Some(1)),
+        (8, 15, None),
+        (8, 65_535, None),
+    ] {
+        assert_eq!(
+            slices::decisive(&MINUTES, &VALUES, 14, bandwidth, limit, &mut position),
+            0
+        );
+        assert_eq!(
+            position,
+            [expected.map_or(slices::NO_POSITION, |i: usize| i as u64)]
+        );
+        assert_eq!(
+            tankcurve::decisive(&MINUTES, &VALUES, 14, bandwidth, limit),
+            Ok(expected)
+        );
+    }
+    assert_eq!(tankcurve::decisive(&[], &[], 14, 7, 65_535), Ok(None));
+}

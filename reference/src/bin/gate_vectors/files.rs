@@ -35,7 +35,7 @@ const PROGRAMS: [(Program, &str); 5] = [
 ];
 
 /// Each call, and what it can answer.
-const REPORTS: [(&str, &[u64]); 12] = [
+const REPORTS: [(&str, &[u64]); 13] = [
     ("evaluate", &[8, 6, 4, 9, 0]),
     ("window", &[8, 6, 4, 9, 0]),
     ("advance", &[8, 6, 11, 9, 0]),
@@ -48,6 +48,7 @@ const REPORTS: [(&str, &[u64]); 12] = [
     ("text", &[8, 1, 2, 3, 4, 5, 9, 10, 6, 7, 0]),
     ("refusal_text", &[8, 0]),
     ("first_at_most", &[8, 6, 7, 4, 5, 9, 10, 0]),
+    ("decisive", &[8, 6, 4, 9, 0]),
 ];
 
 /// What a call gave: its answer and its lent lists.

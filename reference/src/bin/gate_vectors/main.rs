@@ -34,6 +34,7 @@
 //!
 //! vectors_limit
 //! 1 first_at_most(minutes, values, points, bandwidths, limit, position*)   the first mark at or below a limit
+//! 2 decisive(minutes, values, point, bandwidth, limit, position*)          the reading that decides
 //! ```
 //!
 //! An answer is a number and a detail. Number 0 is accepted, with the passes
@@ -66,6 +67,7 @@
 //!                 3 number place
 //!                 4 number place length-of-out
 //! vectors_limit   1 MINUTES VALUES POINTS BANDWIDTHS limit length-of-position
+//!                 2 MINUTES VALUES point bandwidth limit length-of-position
 //! ```
 //!
 //! The bytes of a sheet stand as they are, up to the end of the case. There are

@@ -1,0 +1,1 @@
+// What is promised of the reading that decides, in specs/, and its proof. No code.
