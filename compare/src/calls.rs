@@ -24,7 +24,7 @@ pub type Answer = (u8, u64);
 pub const WRONG_LENGTH: Answer = (8, 0);
 
 /// Every report, for the typed call that takes one.
-const REPORTS: [Report; 13] = [
+const REPORTS: [Report; 14] = [
     Report::TooLong,
     Report::BadHeader,
     Report::MalformedLine,
@@ -38,6 +38,7 @@ const REPORTS: [Report; 13] = [
     Report::InvalidRecord,
     Report::UnknownPreset,
     Report::GridOverflow,
+    Report::SecondSeries,
 ];
 
 /// The calls, with their tallies.

@@ -15,7 +15,7 @@ use reference::{
 type Found = Result<(), String>;
 
 /// Bandwidths at the limits, beside them, and such that cut to fewer bits would be in range.
-const BANDWIDTHS: [u32; 12] = [
+pub const BANDWIDTHS: [u32; 12] = [
     0,
     1,
     2,
@@ -31,10 +31,10 @@ const BANDWIDTHS: [u32; 12] = [
 ];
 
 /// How many samples: none, few, at the limit, beside it, and such that cut to 16 bits would be fit.
-const SAMPLES: [usize; 10] = [0, 1, 2, 1023, 1024, 1025, 1026, 2048, 65_536, 66_560];
+pub const SAMPLES: [usize; 10] = [0, 1, 2, 1023, 1024, 1025, 1026, 2048, 65_536, 66_560];
 
 /// All lists of at most `most` numbers below `end`.
-fn small_lists(most: usize, end: u16) -> Vec<Vec<u16>> {
+pub fn small_lists(most: usize, end: u16) -> Vec<Vec<u16>> {
     let mut lists = vec![Vec::new()];
     let mut last = lists.clone();
     for _ in 0..most {
@@ -50,7 +50,7 @@ fn small_lists(most: usize, end: u16) -> Vec<Vec<u16>> {
 }
 
 /// Lengths of a list that should have `length` elements, 2 or more: others than that.
-fn wrong_lengths(length: usize) -> [usize; 5] {
+pub fn wrong_lengths(length: usize) -> [usize; 5] {
     [0, length - 1, length + 1, 2 * length, length + 65_536]
 }
 

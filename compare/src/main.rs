@@ -10,11 +10,13 @@ mod cases;
 mod lent;
 mod limit;
 mod lists;
+mod pair;
 mod sheets;
 mod tally;
 
 use calls::Calls;
 use limit::Questions;
+use pair::Pairs;
 use std::ffi::OsStr;
 use std::fs;
 use std::path::{Path, PathBuf};
@@ -42,7 +44,12 @@ fn published(calls: &mut Calls, examples: &Path) -> Result<(), String> {
     Ok(())
 }
 
-fn compare(calls: &mut Calls, questions: &mut Questions, examples: &Path) -> Result<(), String> {
+fn compare(
+    calls: &mut Calls,
+    questions: &mut Questions,
+    pairs: &mut Pairs,
+    examples: &Path,
+) -> Result<(), String> {
     published(calls, examples)?;
     cases::evaluate_and_window(calls)?;
     cases::advance(calls)?;
@@ -57,7 +64,11 @@ fn compare(calls: &mut Calls, questions: &mut Questions, examples: &Path) -> Res
     cases::program(calls)?;
     limit::first_at_most(questions)?;
     limit::decisive(questions)?;
-    let tallies = || calls.tallies().into_iter().chain(questions.tallies());
+    pair::compare(pairs)?;
+    let tallies = || {
+        let calls = calls.tallies().into_iter();
+        calls.chain(questions.tallies()).chain(pairs.tallies())
+    };
     tallies().for_each(|tally| println!("{}", tally.line()));
     tallies().try_for_each(Tally::complete)
 }
@@ -70,12 +81,13 @@ fn main() -> ExitCode {
     };
     let mut calls = Calls::new(program.clone());
     let mut questions = Questions::new();
-    if let Err(difference) = compare(&mut calls, &mut questions, examples) {
+    let mut pairs = Pairs::new();
+    if let Err(difference) = compare(&mut calls, &mut questions, &mut pairs, examples) {
         println!("compare: {difference}");
         return ExitCode::FAILURE;
     }
     let tallies = calls.tallies().into_iter().chain(questions.tallies());
-    let total: u64 = tallies.map(Tally::cases).sum();
+    let total: u64 = tallies.chain(pairs.tallies()).map(Tally::cases).sum();
     println!("compare: {total} cases agree");
     ExitCode::SUCCESS
 }

@@ -3,7 +3,7 @@
 use figures::inputs::{Buffers, Input};
 use figures::plain::{DETAIL_UNIT, ROW_WIDTH};
 use figures::{direct, plain};
-use tankcurve::{slices, MAX_SAMPLES};
+use tankcurve::{slices, MAX_SAMPLES, PARTING_WIDTH};
 
 pub struct Contestant {
     pub name: &'static str,
@@ -36,7 +36,7 @@ fn plain_read(read: Reader, input: &Input, lent: &mut Buffers) -> u64 {
 }
 
 /// Every contestant answers what the proved call returns: detail and number as one number.
-pub static CALLS: [Contestant; 18] = [
+pub static CALLS: [Contestant; 22] = [
     Contestant {
         name: "tankcurve_smooth",
         call: |input, lent| {
@@ -161,6 +161,27 @@ pub static CALLS: [Contestant; 18] = [
         name: "tankcurve_decisive, reading 0",
         call: |input, _| decisive(input, LIMIT_OF_READING_0, 0),
     },
+    Contestant {
+        name: "two sweeps, falling values",
+        call: |input, lent| {
+            let rows = &mut lent.rows[..ROW_WIDTH * input.points.len()];
+            let (points, bandwidths) = (&input.points, &input.bandwidths);
+            let first = slices::smooth(&input.minutes, &FALLING, points, bandwidths, rows);
+            first + slices::smooth(&input.minutes, &FALLING, points, bandwidths, rows)
+        },
+    },
+    Contestant {
+        name: "tankcurve_compare, apart at mark 0",
+        call: |input, _| compared(input, &HIGH_FROM_THE_START, Some(0)),
+    },
+    Contestant {
+        name: "tankcurve_compare, apart at mark 255",
+        call: |input, _| compared(input, &HIGH_FROM_MARK_255, Some(255)),
+    },
+    Contestant {
+        name: "tankcurve_compare, alike",
+        call: |input, _| compared(input, &FALLING, None),
+    },
 ];
 
 /// Values that fall from reading to reading of the full input, so that each of its rows has a lower value than the one before.
@@ -206,6 +227,34 @@ fn decisive(input: &Input, limit: u16, named: u64) -> u64 {
     let bandwidth = input.bandwidths[0];
     let answer = slices::decisive(minutes, values, MIDDLE, bandwidth, limit, &mut position);
     assert_eq!(position[0], named, "the reading that decides");
+    answer
+}
+
+/// The same values, the greatest there is from a reading on.
+const fn high_from(reading: usize) -> [u16; MAX_SAMPLES] {
+    let mut values = FALLING;
+    let mut i = reading;
+    while i < MAX_SAMPLES {
+        values[i] = u16::MAX;
+        i += 1;
+    }
+    values
+}
+
+static HIGH_FROM_THE_START: [u16; MAX_SAMPLES] = high_from(0);
+
+/// Reading 879 is the first that stands in the window of mark 255 and in none before.
+static HIGH_FROM_MARK_255: [u16; MAX_SAMPLES] = high_from(879);
+
+/// The full input with falling values set against the same minutes with others; they part at the mark named, or are alike.
+fn compared(input: &Input, other: &[u16], named: Option<u64>) -> u64 {
+    let mut out = [u64::MAX; PARTING_WIDTH];
+    let minutes = &input.minutes;
+    let (points, bandwidths) = (&input.points, &input.bandwidths);
+    let answer = slices::compare(
+        minutes, &FALLING, minutes, other, points, bandwidths, &mut out,
+    );
+    assert_eq!(out[0], named.unwrap_or(u64::MAX), "the mark that decides");
     answer
 }
 

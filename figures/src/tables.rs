@@ -219,6 +219,41 @@ half width 0, which is refused with 9 once the order of the minutes has been loo
     Ok(())
 }
 
+/// Two tanks, beside a sweep of each.
+fn two_tanks(full: &Input) -> Result<(), String> {
+    let names = [
+        "two sweeps, falling values",
+        "tankcurve_compare, apart at mark 0",
+        "tankcurve_compare, apart at mark 255",
+        "tankcurve_compare, alike",
+    ];
+    let timed = times(&names.map(|name| (called(name), full)));
+    println!("\n### Two tanks\n");
+    println!(
+        "The readings and marks above with values that fall from reading to reading, set against the same minutes with values
+that are other from the first reading on, from reading 879 on, or nowhere. Ratios are to two sweeps over the first tank's lists.
+"
+    );
+    println!("| what | least time | instructions | ratio, instructions | goal |");
+    println!("|---|---|---|---|---|");
+    let sweeps = instructions(names[0], 1, BANDWIDTH)?;
+    let goals = [None, None, None, Some(1.1)];
+    for ((name, times), goal) in names.into_iter().zip(&timed).zip(goals) {
+        let count = instructions(name, 1, BANDWIDTH)?;
+        let ratio = count as f64 / sweeps as f64;
+        let goal = goal.map_or(String::new(), |most| {
+            let met = if ratio <= most { "met" } else { "not met" };
+            format!("at most {most}: {met}")
+        });
+        println!(
+            "| {name} | {} | {} | {ratio:.3} | {goal} |",
+            micros(least(times)),
+            grouped(count)
+        );
+    }
+    Ok(())
+}
+
 fn beside_direct_sums() -> Result<(), String> {
     println!("\n### The sweep beside direct evaluation\n");
     println!(
@@ -393,6 +428,7 @@ all, the loader's too.
     turn(full)?;
     first_at_most(full)?;
     decisive(&input(1, WIDE))?;
+    two_tanks(full)?;
     growth(&parts)
 }
 

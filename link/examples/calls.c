@@ -1,6 +1,7 @@
 /*
  * Every call once, as a panel would make them: reads a sheet from standard input, draws its curve by the sweep and, mark by mark, by a running
- * record; asks at one mark, and when the tank may move; draws once more at marks of the filler; writes the text. Says each report by its number, word and place.
+ * record; asks at one mark, and when the tank may move; sets the tank against a twin; draws once more at marks of the filler; writes the text. Says
+ * each report by its number, word and place.
  */
 #include "tankcurve.h"
 
@@ -124,6 +125,27 @@ static bool one_mark(size_t samples, uint16_t point, uint32_t bandwidth)
     return true;
 }
 
+/* The tank beside a twin that lacks its last reading: where they part, which is higher there, and that one's values. */
+static bool twins(size_t samples, size_t marks)
+{
+    uint64_t parting[TANKCURVE_PARTING_LEN];
+    size_t fewer = samples > 0 ? samples - 1 : 0;
+    uint64_t answer = tankcurve_compare(minutes, samples, values, samples, minutes, fewer, values, fewer, points, marks, bandwidths, marks,
+                                        parting, TANKCURVE_PARTING_LEN);
+    if (!accepted("compare", answer))
+        return false;
+    if (tankcurve_detail(answer) == TANKCURVE_ALIKE) {
+        printf("compare: alike\n");
+        return true;
+    }
+    printf("compare: %s at %" PRIu64 ":", tankcurve_detail(answer) == TANKCURVE_FIRST ? "first" : "second", parting[TANKCURVE_PARTING_POINT]);
+    /* Both tanks have the same list of values here; of two lists it is the higher tank's. */
+    for (uint64_t k = parting[TANKCURVE_PARTING_LEFT]; k < parting[TANKCURVE_PARTING_RIGHT]; k++)
+        printf(" %" PRIu16, values[k]);
+    printf("\n");
+    return true;
+}
+
 /* What the program writes of the sheet: its curve, or its refusal. */
 static bool text(size_t sheet_len)
 {
@@ -154,7 +176,7 @@ int main(void)
         printf("read: %zu samples, %zu points\n", samples, marks);
         well = well && sweep(samples, marks) && steps(samples, marks) && one_mark(samples, points[0], bandwidths[0]) &&
                may_move(samples, marks, 58) && may_move(samples, marks, 57) && repeat_which(samples, points[0], bandwidths[0], 60) &&
-               repeat_which(samples, points[0], bandwidths[0], 59);
+               repeat_which(samples, points[0], bandwidths[0], 59) && twins(samples, marks);
         /* Four marks from minute 10, one every 15 minutes, with the half width of the knob's position 0. */
         well = well && accepted("fill", tankcurve_fill(10, 15, 0, points, 4, bandwidths, 4)) && preview(samples, 4) && sweep(samples, 4);
     }

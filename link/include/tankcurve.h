@@ -8,7 +8,7 @@
  * names its section. Words in quotes are the trade's. A minute counts from pitching; a value is in tenths of a microgram per litre.
  *
  * Every call but tankcurve_version returns TANKCURVE_DETAIL_UNIT * detail + number. Number 0 means accepted; what the detail then is stands at
- * each call. Number 1 to 13 is a report and the detail its place; every list that was lent then holds what it held before: a row that is
+ * each call. Number 1 to 13, or 16, is a report and the detail its place; every list that was lent then holds what it held before: a row that is
  * still there is that of an earlier call. Each call gives the first of its reports whose condition holds, in the order that stands at it. A
  * place is 0 unless something else is said there.
  *
@@ -59,10 +59,10 @@ extern "C" {
 #endif
 
 /*
- * The version that this header belongs to, 2.2.0: major * 65536 + minor * 256 + patch. tankcurve_version gives that of the archive. What is
- * counted by it stands in link/abi-2.2.0.
+ * The version that this header belongs to, 2.3.0: major * 65536 + minor * 256 + patch. tankcurve_version gives that of the archive. What is
+ * counted by it stands in link/abi-2.3.0.
  */
-#define TANKCURVE_VERSION 0x020200
+#define TANKCURVE_VERSION 0x020300
 
 /* The lengths and limits. */
 #define TANKCURVE_MAX_SAMPLES 1024 /* samples ("readings") in a list, and the length of the reader's lists of them */
@@ -70,12 +70,13 @@ extern "C" {
 #define TANKCURVE_PREVIEW_MAX_SAMPLES 256 /* samples of a preview */
 #define TANKCURVE_PREVIEW_MAX_POINTS 64   /* points of a preview */
 #define TANKCURVE_MAX_SHEET 32768  /* bytes of a sheet, and the greatest place of a report */
-#define TANKCURVE_MAX_OUTPUT 31291 /* bytes of a text; the length of every out */
+#define TANKCURVE_MAX_OUTPUT 31291 /* bytes of a text; the length of a text's out */
 #define TANKCURVE_ROW_LEN 5        /* enum tankcurve_row_field: left, right, weight, sum, value */
 #define TANKCURVE_BOUNDS_LEN 2     /* left, right, as in a row */
 #define TANKCURVE_RECORD_LEN 9     /* enum tankcurve_record_field: left, right, s00, s10, s20, s01, s11, s21, passes */
 #define TANKCURVE_COUNTS_LEN 2     /* enum tankcurve_counts_field: samples, points */
 #define TANKCURVE_POSITION_LEN 1   /* a position, or TANKCURVE_NO_POSITION */
+#define TANKCURVE_PARTING_LEN 3    /* enum tankcurve_parting_field: point, left, right */
 
 /* Where a field stands in its list: row[TANKCURVE_ROW_VALUE]; that of row k of a sweep is rows[TANKCURVE_ROW_LEN * k + TANKCURVE_ROW_VALUE]. */
 enum tankcurve_row_field {
@@ -99,6 +100,18 @@ enum tankcurve_record_field {
 enum tankcurve_counts_field {
     TANKCURVE_COUNTS_SAMPLES = 0,
     TANKCURVE_COUNTS_POINTS = 1
+};
+enum tankcurve_parting_field {
+    TANKCURVE_PARTING_POINT = 0,
+    TANKCURVE_PARTING_LEFT = 1,
+    TANKCURVE_PARTING_RIGHT = 2
+};
+
+/* The detail of tankcurve_compare: which tank is higher. */
+enum tankcurve_tank {
+    TANKCURVE_ALIKE = 0,
+    TANKCURVE_FIRST = 1,
+    TANKCURVE_SECOND = 2
 };
 
 /*
@@ -125,7 +138,7 @@ enum tankcurve_counts_field {
 #define TANKCURVE_MIN_BANDWIDTH 1
 #define TANKCURVE_MAX_BANDWIDTH 65536
 
-/* So that in C++ too every number that an answer can have is a value of the reports' type; without it one over 15 is undefined there. */
+/* So that in C++ too every number that an answer can have is a value of the reports' type; without it one over 31 is undefined there. */
 #if defined(__cplusplus) && __cplusplus >= 201103L
 #define TANKCURVE_REPORT_TYPE : int
 #else
@@ -151,7 +164,8 @@ enum tankcurve_report TANKCURVE_REPORT_TYPE {
     TANKCURVE_EDGE_DECREASES = 10,        /* "edge back": point - bandwidth or point + bandwidth is below that of the point before */
     TANKCURVE_INVALID_RECORD = 11,        /* "foreign record": left is over right, or right over the number of samples */
     TANKCURVE_UNKNOWN_PRESET = 12,        /* "knob": the preset is over 11 */
-    TANKCURVE_GRID_OVERFLOW = 13          /* "past the clock": the last point would be over 65,535 */
+    TANKCURVE_GRID_OVERFLOW = 13,         /* "past the clock": the last point would be over 65,535 */
+    TANKCURVE_SECOND_SERIES = 16          /* "second tank": the second tank's lists have the condition of 8, 6 or 4 */
 };
 
 /* The number of what a call returned: 0 or a report. */
@@ -184,6 +198,7 @@ static inline const char *tankcurve_word(enum tankcurve_report report)
     case TANKCURVE_INVALID_RECORD: return "foreign record";
     case TANKCURVE_UNKNOWN_PRESET: return "knob";
     case TANKCURVE_GRID_OVERFLOW: return "past the clock";
+    case TANKCURVE_SECOND_SERIES: return "second tank";
     }
     return "unknown";
 }
@@ -349,6 +364,20 @@ uint64_t tankcurve_first_at_most(const uint16_t *minutes, size_t minutes_len, co
 TANKCURVE_ANSWER
 uint64_t tankcurve_decisive(const uint16_t *minutes, size_t minutes_len, const uint16_t *values, size_t values_len, uint16_t point,
                             uint32_t bandwidth, uint16_t limit, uint64_t *position, size_t position_len);
+
+/*
+ * Two tanks set against each other over the same points [Two tanks]. The first point at which their values differ decides, and there a missing
+ * value is higher than every other. Detail: TANKCURVE_ALIKE where the values of all points agree; else the higher tank, TANKCURVE_FIRST or
+ * TANKCURVE_SECOND, and only then out, 3 numbers, is written: the point's position, and left and right of the higher tank's row there, whose run
+ * is that part of that tank's own values. Reports: 8 (the first tank's minutes with its values, points with bandwidths, or out has another
+ * length), 6, 7, 4, 5, 9, 10 as for tankcurve_smooth with the first tank; then 16, at the place that the second tank's lists alone would get
+ * with 8, 6 or 4.
+ */
+TANKCURVE_ANSWER
+uint64_t tankcurve_compare(const uint16_t *minutes1, size_t minutes1_len, const uint16_t *values1, size_t values1_len,
+                           const uint16_t *minutes2, size_t minutes2_len, const uint16_t *values2, size_t values2_len,
+                           const uint16_t *points, size_t points_len, const uint32_t *bandwidths, size_t bandwidths_len, uint64_t *out,
+                           size_t out_len);
 
 #ifdef __cplusplus
 }

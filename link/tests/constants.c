@@ -133,6 +133,7 @@ static void lengths(void)
         gives("bounds", tankcurve_window(minutes, 1, values, 1, 0, 1, numbers, TANKCURVE_BOUNDS_LEN + d), report, 0);
         gives("position", tankcurve_first_at_most(minutes, 1, values, 1, points, 2, bandwidths, 2, 0, numbers, TANKCURVE_POSITION_LEN + d), report, 0);
         gives("position of a sample", tankcurve_decisive(minutes, 1, values, 1, 0, 1, 0, numbers, TANKCURVE_POSITION_LEN + d), report, 0);
+        gives("parting", tankcurve_compare(minutes, 1, values, 1, minutes, 1, values, 1, points, 2, bandwidths, 2, numbers, TANKCURVE_PARTING_LEN + d), report, 0);
         memset(numbers, 0, sizeof numbers);
         gives("record", tankcurve_advance(numbers, TANKCURVE_RECORD_LEN + d, minutes, 1, values, 1, 0, 1), report, 0);
         gives("record of a row", tankcurve_row(numbers, TANKCURVE_RECORD_LEN + d, 0, 1, numbers + 10, TANKCURVE_ROW_LEN), report, 0);
@@ -172,6 +173,10 @@ static void reports(void)
     gives("invalid record", tankcurve_advance(record, TANKCURVE_RECORD_LEN, minutes, 1, values, 1, 0, 1), TANKCURVE_INVALID_RECORD, 0);
     gives("unknown preset", tankcurve_fill(0, 0, 12, points, 1, bandwidths, 1), TANKCURVE_UNKNOWN_PRESET, 0);
     gives("grid overflow", tankcurve_fill(65535, 1, 11, points, 2, bandwidths, 2), TANKCURVE_GRID_OVERFLOW, 0);
+    const uint16_t falling[] = {7, 6};
+    const uint32_t one[] = {1};
+    gives("second series", tankcurve_compare(falling, 1, falling, 1, falling, 2, falling, 2, falling, 1, one, 1, numbers, TANKCURVE_PARTING_LEN),
+          TANKCURVE_SECOND_SERIES, 1);
 }
 
 /* The trade's words, in the order of the numbers. */
@@ -182,7 +187,7 @@ static void words(void)
                                         "knob",       "past the clock"};
     for (unsigned number = 0; number < TANKCURVE_DETAIL_UNIT; number++) {
         const char *word = tankcurve_word(tankcurve_number(number));
-        const char *expected = number < sizeof trade / sizeof *trade ? trade[number] : "unknown";
+        const char *expected = number < sizeof trade / sizeof *trade ? trade[number] : number == 16 ? "second tank" : "unknown";
         same(expected, (uint64_t)strcmp(word, expected), 0);
     }
 }
@@ -295,6 +300,23 @@ static void no_position(void)
     same("no sample", position[0], TANKCURVE_NO_POSITION);
 }
 
+/* Each tank by its name, and the fields of a parting: the last of three readings, at the second of two points. */
+static void tanks(void)
+{
+    static const uint16_t at[] = {1, 2, 5}, of[] = {9, 9, 9}, other[] = {9, 9, 8}, marks[] = {1, 5};
+    static const uint32_t wide[] = {1, 1};
+    uint64_t parting[TANKCURVE_PARTING_LEN] = {0};
+    gives("alike", tankcurve_compare(at, 3, of, 3, at, 3, of, 3, marks, 2, wide, 2, parting, TANKCURVE_PARTING_LEN), TANKCURVE_ACCEPTED,
+          TANKCURVE_ALIKE);
+    gives("the second", tankcurve_compare(at, 3, other, 3, at, 3, of, 3, marks, 2, wide, 2, parting, TANKCURVE_PARTING_LEN), TANKCURVE_ACCEPTED,
+          TANKCURVE_SECOND);
+    gives("the first", tankcurve_compare(at, 3, of, 3, at, 3, other, 3, marks, 2, wide, 2, parting, TANKCURVE_PARTING_LEN), TANKCURVE_ACCEPTED,
+          TANKCURVE_FIRST);
+    same("a parting's point", parting[TANKCURVE_PARTING_POINT], 1);
+    same("a parting's left", parting[TANKCURVE_PARTING_LEFT], 2);
+    same("a parting's right", parting[TANKCURVE_PARTING_RIGHT], 3);
+}
+
 int main(void)
 {
     same("the version", tankcurve_version(), TANKCURVE_VERSION);
@@ -306,6 +328,7 @@ int main(void)
     words();
     missing();
     no_position();
+    tanks();
     fields();
     bounds();
     rows_of_another_window();

@@ -16,6 +16,7 @@ void ignored(uint16_t *shorts, uint32_t *words, uint64_t *numbers, uint8_t *byte
     tankcurve_row(numbers, TANKCURVE_RECORD_LEN, 0, 1, numbers, TANKCURVE_ROW_LEN);
     tankcurve_smooth(shorts, 1, shorts, 1, shorts, 1, words, 1, numbers, TANKCURVE_ROW_LEN);
     tankcurve_preview(shorts, 1, shorts, 1, shorts, 1, words, 1, numbers, TANKCURVE_ROW_LEN);
+    tankcurve_compare(shorts, 1, shorts, 1, shorts, 1, shorts, 1, shorts, 1, words, 1, numbers, TANKCURVE_PARTING_LEN);
     tankcurve_fill(0, 0, 0, shorts, 1, words, 1);
     tankcurve_read(bytes, 1, shorts, 1, shorts, 1, shorts, 1, words, 1, numbers, TANKCURVE_COUNTS_LEN);
     tankcurve_text(bytes, 1, bytes, TANKCURVE_MAX_OUTPUT);

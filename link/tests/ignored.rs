@@ -12,6 +12,7 @@ pub fn ignored(shorts: &mut [u16], words: &mut [u32], numbers: &mut [u64], bytes
     tankcurve::slices::row(&[0; 9], 0, 1, numbers);
     tankcurve::slices::smooth(&[], &[], &[0], &[1], numbers);
     tankcurve::slices::preview(&[], &[], &[0], &[1], numbers);
+    tankcurve::slices::compare(&[], &[], &[], &[], &[0], &[1], numbers);
     tankcurve::slices::fill(0, 0, 0, shorts, words);
     tankcurve::slices::read(&[], &mut [], &mut [], shorts, words, numbers);
     tankcurve::slices::text(&[], bytes);

@@ -436,6 +436,41 @@ static void refusal_text(void)
     same_list("refusal text, buffer of any number", out, all, sizeof all);
 }
 
+static void compare(void)
+{
+    const uint16_t twin[] = {3, 8, 8, 15, 21}, twin_values[] = {5, 7, 11, 13, 35};
+    const uint16_t points[] = {9, 14, 22}, falling_points[] = {9, 14, 13};
+    const uint32_t bandwidths[] = {6, 7, 8}, widening[] = {6, 7, 16};
+    const uint64_t before[] = {90, 91, 92, 93}, after[] = {2, 3, 5, 93};
+    uint64_t out[TANKCURVE_PARTING_LEN + 1] = {90, 91, 92, 93};
+    const size_t n = SAMPLES, m = 5, len = TANKCURVE_PARTING_LEN;
+    same("compare, one value less", tankcurve_compare(minutes, n, values, n - 1, twin, m, twin_values, m, points, 3, bandwidths, 3, out, len),
+         TANKCURVE_LENGTH_MISMATCH);
+    same("compare, one bandwidth less", tankcurve_compare(minutes, n, values, n, twin, m, twin_values, m, points, 3, bandwidths, 2, out, len),
+         TANKCURVE_LENGTH_MISMATCH);
+    same("compare, a longer out", tankcurve_compare(minutes, n, values, n, twin, m, twin_values, m, points, 3, bandwidths, 3, out, len + 1),
+         TANKCURVE_LENGTH_MISMATCH);
+    same("compare, falling minutes", tankcurve_compare(falling, n, values, n, twin, m, twin_values, m, points, 3, bandwidths, 3, out, len),
+         TANKCURVE_DETAIL_UNIT * 4 + TANKCURVE_SAMPLE_OUT_OF_ORDER);
+    same("compare, falling points", tankcurve_compare(minutes, n, values, n, twin, m, twin_values, m, falling_points, 3, bandwidths, 3, out, len),
+         TANKCURVE_DETAIL_UNIT * 2 + TANKCURVE_POINT_OUT_OF_ORDER);
+    same("compare, an edge decreases", tankcurve_compare(minutes, n, values, n, falling, n, values, n, points, 3, widening, 3, out, len),
+         TANKCURVE_DETAIL_UNIT * 2 + TANKCURVE_EDGE_DECREASES);
+    same("compare, the second's minutes fall", tankcurve_compare(twin, m, twin_values, m, falling, n, values, n, points, 3, bandwidths, 3, out, len),
+         TANKCURVE_DETAIL_UNIT * 4 + TANKCURVE_SECOND_SERIES);
+    same("compare, the second has one value less",
+         tankcurve_compare(minutes, n, values, n, twin, m, twin_values, m - 1, points, 3, bandwidths, 3, out, len), TANKCURVE_SECOND_SERIES);
+    same("compare, alike", tankcurve_compare(minutes, n, values, n, minutes, n, values, n, points, 3, bandwidths, 3, out, len), TANKCURVE_ALIKE);
+    same_list("compare, out where nothing parts", out, before, sizeof before);
+    same("compare, the second", tankcurve_compare(minutes, n, values, n, twin, m, twin_values, m, points, 3, bandwidths, 3, out, len),
+         TANKCURVE_DETAIL_UNIT * TANKCURVE_SECOND);
+    same_list("compare, out", out, after, sizeof after);
+    out[TANKCURVE_PARTING_POINT] = out[TANKCURVE_PARTING_LEFT] = out[TANKCURVE_PARTING_RIGHT] = 0;
+    same("compare, the first", tankcurve_compare(twin, m, twin_values, m, minutes, n, values, n, points, 3, bandwidths, 3, out, len),
+         TANKCURVE_DETAIL_UNIT * TANKCURVE_FIRST);
+    same_list("compare, out of the first", out, after, sizeof after);
+}
+
 int main(void)
 {
     answers();
@@ -455,6 +490,7 @@ int main(void)
     read();
     text();
     refusal_text();
+    compare();
     printf("parameters: %d comparisons passed\n", compared);
     return 0;
 }

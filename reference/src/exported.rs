@@ -24,3 +24,6 @@ pub const ANSWER: usize = 1;
 
 /// The number that stands for no position.
 pub const NO_POSITION: u64 = u64::MAX;
+
+/// The numbers of a parting: the mark's position, left and right.
+pub const PARTING: usize = 3;

@@ -9,6 +9,7 @@
 pub mod exported;
 pub mod generators;
 mod limit;
+pub mod pair;
 
 pub use limit::{decisive, first_at_most};
 
@@ -45,7 +46,7 @@ pub const KNOB: [u32; 12] = [30, 45, 60, 90, 120, 180, 240, 360, 480, 720, 1080,
 /// [Reports].
 #[derive(Clone, Copy, Debug, PartialEq, Eq)]
 pub struct Refusal {
-    /// The report's number, 1 to 13.
+    /// The report's number, 1 to 13 or 16.
     pub number: u8,
     /// A byte of the sheet, a position in a list, or 0.
     pub place: u64,

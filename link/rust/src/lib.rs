@@ -25,10 +25,12 @@
 #![no_std]
 #![deny(missing_docs, unsafe_code)]
 
+mod pair;
 mod report;
 mod row;
 pub mod slices;
 
+pub use pair::{compare, Parting, Tank};
 pub use report::{Error, Refusal, Report};
 pub use row::{Estimate, NoEstimate, RecordRow, Rows};
 
@@ -36,9 +38,9 @@ pub use row::{Estimate, NoEstimate, RecordRow, Rows};
 /// of the linked archive.
 ///
 /// ```
-/// assert_eq!(tankcurve::VERSION, 0x02_02_00);
+/// assert_eq!(tankcurve::VERSION, 0x02_03_00);
 /// ```
-pub const VERSION: u32 = 0x02_02_00;
+pub const VERSION: u32 = 0x02_03_00;
 
 /// How many samples ("readings") there may be, and how many places the reader's lists of them have.
 ///
@@ -110,6 +112,15 @@ pub const ROW_WIDTH: usize = 5;
 /// assert_eq!(tankcurve::RunningSums::from(fresh), tankcurve::RunningSums::default());
 /// ```
 pub const RECORD_WIDTH: usize = 9;
+
+/// How many numbers a parting of two tanks has: point, left, right.
+///
+/// ```
+/// let mut out = [0; tankcurve::PARTING_WIDTH];
+/// let answer = tankcurve::slices::compare(&[], &[], &[], &[], &[50], &[1], &mut out);
+/// assert_eq!(answer, 0);
+/// ```
+pub const PARTING_WIDTH: usize = 3;
 
 /// The number that a row of weight 0 has for its value: missing.
 ///

@@ -40,6 +40,8 @@ pub enum Report {
     UnknownPreset = 12,
     /// "past the clock": the last point would be over 65,535.
     GridOverflow = 13,
+    /// "second tank": the second tank's lists have the condition of 8, 6 or 4.
+    SecondSeries = 16,
 }
 
 impl Report {
@@ -66,6 +68,7 @@ impl Report {
             11 => Report::InvalidRecord,
             12 => Report::UnknownPreset,
             13 => Report::GridOverflow,
+            16 => Report::SecondSeries,
             _ => return None,
         })
     }
@@ -101,6 +104,7 @@ impl Report {
             Report::InvalidRecord => "foreign record",
             Report::UnknownPreset => "knob",
             Report::GridOverflow => "past the clock",
+            Report::SecondSeries => "second tank",
         }
     }
 }
@@ -205,11 +209,11 @@ mod tests {
                 let answer = DETAIL_UNIT * place + number;
                 match outcome(answer) {
                     Err(Error::Refused(refusal)) => {
-                        assert!(number <= 13);
+                        assert!(number <= 13 || number == 16);
                         assert_eq!((refusal.report.number(), refusal.place), (number, place));
                     }
                     Err(Error::Unknown(whole)) => {
-                        assert!(number > 13);
+                        assert!(number > 13 && number != 16);
                         assert_eq!(whole, answer);
                     }
                     Ok(_) => panic!("number {number} was accepted"),
@@ -220,7 +224,7 @@ mod tests {
 
     #[test]
     fn numbers_of_no_report() {
-        for number in [0, 14, 15, 255, DETAIL_UNIT, DETAIL_UNIT + 1, u64::MAX] {
+        for number in [0, 14, 15, 17, 255, DETAIL_UNIT, DETAIL_UNIT + 1, u64::MAX] {
             assert_eq!(Report::from_number(number), None);
         }
     }

@@ -1,7 +1,7 @@
 //! The proved calls over slices of any length, with the number that they return.
 //!
-//! Every call returns [`DETAIL_UNIT`] × detail + number. Number 0 means accepted; 1 to 13 is a report and
-//! the detail its place. A slice for the answer of another length than stated gets report 8 at place 0,
+//! Every call returns [`DETAIL_UNIT`] × detail + number. Number 0 means accepted; 1 to 13, or 16, is a report
+//! and the detail its place. A slice for the answer of another length than stated gets report 8 at place 0,
 //! found before all else.
 //!
 //! ```
@@ -186,6 +186,23 @@ mod exports {
             limit: u16,
             position: *mut u64,
             position_len: usize,
+        ) -> u64;
+
+        pub fn tankcurve_compare(
+            minutes1: *const u16,
+            minutes1_len: usize,
+            values1: *const u16,
+            values1_len: usize,
+            minutes2: *const u16,
+            minutes2_len: usize,
+            values2: *const u16,
+            values2_len: usize,
+            points: *const u16,
+            points_len: usize,
+            bandwidths: *const u32,
+            bandwidths_len: usize,
+            out: *mut u64,
+            out_len: usize,
         ) -> u64;
 
         pub fn tankcurve_version() -> u32;
@@ -585,6 +602,46 @@ pub fn decisive(
             limit,
             position.as_mut_ptr(),
             position.len(),
+        )
+    }
+}
+
+/// Two tanks set against each other. Detail: 0 where their values agree at all points, else the higher
+/// tank, 1 or 2; only then `out`, [`crate::PARTING_WIDTH`] numbers, is written: the point's position, left
+/// and right.
+///
+/// ```
+/// let mut out = [7; 3];
+/// let answer = tankcurve::slices::compare(&[50], &[9], &[], &[], &[50], &[1], &mut out);
+/// // A missing value is the higher one.
+/// assert_eq!((answer, out), (256 * 2, [0, 0, 0]));
+/// ```
+#[must_use]
+pub fn compare(
+    minutes1: &[u16],
+    values1: &[u16],
+    minutes2: &[u16],
+    values2: &[u16],
+    points: &[u16],
+    bandwidths: &[u32],
+    out: &mut [u64],
+) -> u64 {
+    unsafe {
+        exports::tankcurve_compare(
+            minutes1.as_ptr(),
+            minutes1.len(),
+            values1.as_ptr(),
+            values1.len(),
+            minutes2.as_ptr(),
+            minutes2.len(),
+            values2.as_ptr(),
+            values2.len(),
+            points.as_ptr(),
+            points.len(),
+            bandwidths.as_ptr(),
+            bandwidths.len(),
+            out.as_mut_ptr(),
+            out.len(),
         )
     }
 }

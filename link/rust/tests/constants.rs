@@ -4,8 +4,8 @@
 use tankcurve::slices::{self, DETAIL_UNIT};
 use tankcurve::{
     Error, Estimate, Refusal, Report, Rows, RunningSums, MAX_BANDWIDTH, MAX_OUTPUT, MAX_POINTS,
-    MAX_SAMPLES, MAX_SHEET, MAX_SUM, MAX_WEIGHT, MIN_BANDWIDTH, MISSING, PREVIEW_MAX_POINTS,
-    PREVIEW_MAX_SAMPLES, RECORD_WIDTH, ROW_WIDTH,
+    MAX_SAMPLES, MAX_SHEET, MAX_SUM, MAX_WEIGHT, MIN_BANDWIDTH, MISSING, PARTING_WIDTH,
+    PREVIEW_MAX_POINTS, PREVIEW_MAX_SAMPLES, RECORD_WIDTH, ROW_WIDTH,
 };
 
 const HEAD: &str = "mark,half\n5,2\n\nminute,inj,vdk\n";
@@ -105,6 +105,11 @@ fn lengths() {
             answer
         );
         assert_eq!(slices::decisive(&[], &[], 0, 1, 0, position), answer);
+        let parting = &mut vec![0; length(PARTING_WIDTH)];
+        assert_eq!(
+            slices::compare(&[], &[], &[], &[], &[0], &[1], parting),
+            answer
+        );
         let out = &mut vec![0; length(MAX_OUTPUT)];
         assert_eq!(slices::number(slices::refusal_text(1, 2, out)), answer);
         assert_eq!(slices::number(slices::text(HEAD.as_bytes(), out)), answer);
@@ -180,6 +185,10 @@ fn reports() {
     let fill = |first, preset| tankcurve::fill(first, 1, preset, &mut [0; 2], &mut [0; 2]);
     assert_eq!(fill(0, 12), refused(Report::UnknownPreset, 0));
     assert_eq!(fill(65_535, 11), refused(Report::GridOverflow, 0));
+    assert_eq!(
+        tankcurve::compare(&[7], &[7], &[7, 6], &[7, 6], &[7], &[1]),
+        refused(Report::SecondSeries, 1)
+    );
 }
 
 /// The trade's words, in the order of the numbers.
@@ -200,7 +209,8 @@ fn words() {
         "knob",
         "past the clock",
     ];
-    for (number, word) in (1..).zip(trade) {
+    let numbered = (1..).zip(trade).chain([(16, "second tank")]);
+    for (number, word) in numbered {
         let report = Report::from_number(number).unwrap();
         assert_eq!((report.number(), report.word()), (number, word));
         assert_eq!(report.to_string(), word);

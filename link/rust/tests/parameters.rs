@@ -5,8 +5,8 @@
 
 use tankcurve::slices::{self, DETAIL_UNIT};
 use tankcurve::{
-    Counts, Error, RecordRow, Refusal, Report, RunningSums, MAX_OUTPUT, PREVIEW_MAX_SAMPLES,
-    ROW_WIDTH,
+    Counts, Error, Parting, RecordRow, Refusal, Report, RunningSums, Tank, MAX_OUTPUT,
+    PREVIEW_MAX_SAMPLES, ROW_WIDTH,
 };
 
 const MINUTES: [u16; 6] = [3, 8, 8, 15, 21, 40];
@@ -655,4 +655,50 @@ fn decisive() {
         );
     }
     assert_eq!(tankcurve::decisive(&[], &[], 14, 7, 65_535), Ok(None));
+}
+
+/// A twin of [`MINUTES`] and [`VALUES`], which parts from them at the third of three points.
+const TWIN_MINUTES: [u16; 5] = [3, 8, 8, 15, 21];
+const TWIN_VALUES: [u16; 5] = [5, 7, 11, 13, 35];
+
+#[test]
+#[rustfmt::skip]
+fn compare() {
+    let (points, bandwidths) = (&[9, 14, 22][..], &[6, 7, 8][..]);
+    let (m, v, n, w) = (&MINUTES[..], &VALUES[..], &TWIN_MINUTES[..], &TWIN_VALUES[..]);
+    let mut out = [90, 91, 92];
+    let untouched = out;
+    for length in [2, 4] {
+        let mut other = vec![90; length];
+        assert_eq!(slices::compare(m, v, n, w, points, bandwidths, &mut other), 8);
+        assert_eq!(other, vec![90; length]);
+    }
+    // Each list in its place: another one at fault gets another answer.
+    assert_eq!(slices::compare(m, &v[..5], n, w, points, bandwidths, &mut out), 8);
+    assert_eq!(slices::compare(m, v, n, w, points, &bandwidths[..2], &mut out), 8);
+    assert_eq!(slices::compare(&FALLING, v, n, w, points, bandwidths, &mut out), DETAIL_UNIT * 4 + 4);
+    assert_eq!(slices::compare(n, w, &FALLING, v, points, bandwidths, &mut out), DETAIL_UNIT * 4 + 16);
+    assert_eq!(slices::compare(m, v, n, &w[..4], points, bandwidths, &mut out), 16);
+    assert_eq!(slices::compare(m, v, n, w, &[9, 14, 13], bandwidths, &mut out), DETAIL_UNIT * 2 + 5);
+    assert_eq!(slices::compare(m, v, &FALLING, v, points, &[6, 7, 16], &mut out), DETAIL_UNIT * 2 + 10);
+    assert_eq!(slices::compare(m, v, m, v, points, bandwidths, &mut out), 0);
+    assert_eq!(out, untouched);
+    assert_eq!(slices::compare(m, v, n, w, points, bandwidths, &mut out), DETAIL_UNIT * 2);
+    assert_eq!(out, [2, 3, 5]);
+    out = untouched;
+    assert_eq!(slices::compare(n, w, m, v, points, bandwidths, &mut out), DETAIL_UNIT);
+    assert_eq!(out, [2, 3, 5]);
+
+    let twin = Parting { point: 2, higher: Tank::Second, run: &w[3..5] };
+    let parting = tankcurve::compare(m, v, n, w, points, bandwidths);
+    assert_eq!(parting, Ok(Some(twin)));
+    assert_eq!(parting.unwrap().unwrap().run.as_ptr(), w[3..].as_ptr());
+    let first = tankcurve::compare(n, w, m, v, points, bandwidths);
+    assert_eq!(first, Ok(Some(Parting { higher: Tank::First, ..twin })));
+    assert_eq!(tankcurve::compare(m, v, m, v, points, bandwidths), Ok(None));
+    assert_eq!(tankcurve::compare(n, w, &FALLING, v, points, bandwidths), refused(Report::SecondSeries, 4));
+    // A missing value, and the empty run at its place in its own list.
+    let far = [7, 8];
+    let missing = tankcurve::compare(&[50], &[9], &[3, 4], &far, &[50], &[1]).unwrap().unwrap();
+    assert_eq!((missing.point, missing.higher, missing.run.as_ptr_range()), (0, Tank::Second, far[2..].as_ptr_range()));
 }

@@ -1,7 +1,8 @@
 //! A case of each call, and its answer by the second implementation.
 
 use crate::files::{Answer, Cases, Program};
-use reference::exported::{BOUNDS, COUNTS, READER, RECORD};
+use reference::exported::{BOUNDS, COUNTS, PARTING, READER, RECORD};
+use reference::pair::{compare, compared_run, Readings, Tank};
 use reference::{
     fill, one_mark, one_mark_run, preview, read, record_row, refusal_text, step, sweep, text, turn,
     Record, Refusal, MOST_OUTPUT, ROW_WIDTH,
@@ -156,6 +157,56 @@ impl Cases {
             Err(_) => record.to_vec(),
         };
         self.answer(Program::Point, name, result.map(|_| 0), b"", vec![list])
+    }
+
+    /// The run of one mark's window, as the part that is handed back.
+    pub fn window_part(&mut self, minutes: &[u16], values: &[u16], point: u16, bandwidth: u32) {
+        let mut numbers = vec![2];
+        numbers.extend(listed(minutes, MOST_ELEMENTS));
+        numbers.extend(listed(values, MOST_ELEMENTS));
+        numbers.extend([u64::from(point), u64::from(bandwidth)]);
+        self.case(Program::Pair, &numbers, b"");
+        let (left, right) = one_mark_run(minutes, values, point, bandwidth);
+        self.part(Program::Pair, &values[left..right]);
+    }
+
+    /// Two tanks, and the run that is handed back.
+    pub fn compare(
+        &mut self,
+        first: Readings,
+        second: Readings,
+        points: &[u16],
+        bandwidths: &[u32],
+        out: usize,
+    ) -> Answer {
+        let mut numbers = vec![1];
+        for list in [first.0, first.1, second.0, second.1, points] {
+            numbers.extend(listed(list, MOST_ELEMENTS));
+        }
+        numbers.extend(listed(bandwidths, MOST_ELEMENTS));
+        numbers.push(length(out, MOST_NUMBERS));
+        self.case(Program::Pair, &numbers, b"");
+        let result = sized(out, PARTING).and_then(|()| compare(first, second, points, bandwidths));
+        let (detail, list) = match result {
+            Ok(Some(parting)) => {
+                let detail = match parting.higher {
+                    Tank::First => 1,
+                    Tank::Second => 2,
+                };
+                let list = [parting.position, parting.left, parting.right];
+                (detail, list.map(|n| n as u64).to_vec())
+            }
+            Ok(None) | Err(_) => (0, vec![7; out]),
+        };
+        let result = result.map(|_| detail);
+        let answer = self.answer(Program::Pair, "compare", result, b"", vec![list]);
+        let (tank, left, right) = compared_run(first, second, points, bandwidths);
+        let values = match tank {
+            Tank::First => first.1,
+            Tank::Second => second.1,
+        };
+        self.part(Program::Pair, &values[left..right]);
+        answer
     }
 
     pub fn advance(

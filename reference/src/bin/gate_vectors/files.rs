@@ -1,5 +1,6 @@
 //! The programs' files, and what is counted of the cases.
 
+use reference::exported::DETAIL_UNIT;
 use reference::Refusal;
 use std::collections::BTreeMap;
 use std::fs;
@@ -24,18 +25,20 @@ pub enum Program {
     Sheet,
     Text,
     Limit,
+    Pair,
 }
 
-const PROGRAMS: [(Program, &str); 5] = [
+const PROGRAMS: [(Program, &str); 6] = [
     (Program::Point, "vectors_point"),
     (Program::Sweep, "vectors_sweep"),
     (Program::Sheet, "vectors_sheet"),
     (Program::Text, "vectors_text"),
     (Program::Limit, "vectors_limit"),
+    (Program::Pair, "vectors_pair"),
 ];
 
 /// Each call, and what it can answer.
-const REPORTS: [(&str, &[u64]); 13] = [
+const REPORTS: [(&str, &[u64]); 14] = [
     ("evaluate", &[8, 6, 4, 9, 0]),
     ("window", &[8, 6, 4, 9, 0]),
     ("advance", &[8, 6, 11, 9, 0]),
@@ -49,6 +52,7 @@ const REPORTS: [(&str, &[u64]); 13] = [
     ("refusal_text", &[8, 0]),
     ("first_at_most", &[8, 6, 7, 4, 5, 9, 10, 0]),
     ("decisive", &[8, 6, 4, 9, 0]),
+    ("compare", &[8, 6, 7, 4, 5, 9, 10, 16, 0]),
 ];
 
 /// What a call gave: its answer and its lent lists.
@@ -147,6 +151,15 @@ impl Cases {
             detail,
             lists,
         }
+    }
+
+    /// What the case before gives besides: a part of a list that is handed back.
+    pub fn part(&mut self, program: Program, part: &[u16]) {
+        let length = part.len() as u64;
+        let stdout = &mut self.files[program as usize].stdout;
+        stdout.extend(format!("{} {}\n", length % DETAIL_UNIT, length / DETAIL_UNIT).into_bytes());
+        let list: Vec<u64> = part.iter().map(|&value| value.into()).collect();
+        stdout.extend(runs(&list).into_bytes());
     }
 
     /// Each report of each call occurs at least twice and no other one, and

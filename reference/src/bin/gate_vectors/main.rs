@@ -1,5 +1,5 @@
 //! The cases of the gate's programs `vectors_point`, `vectors_sweep`,
-//! `vectors_sheet`, `vectors_text` and `vectors_limit`, and what each has to write for them.
+//! `vectors_sheet`, `vectors_text`, `vectors_limit` and `vectors_pair`, and what each has to write for them.
 //!
 //! `gate_vectors crates` writes stdin and stdout of each program into its
 //! folder below `crates`, always the same. The answers are the second
@@ -35,12 +35,18 @@
 //! vectors_limit
 //! 1 first_at_most(minutes, values, points, bandwidths, limit, position*)   the first mark at or below a limit
 //! 2 decisive(minutes, values, point, bandwidth, limit, position*)          the reading that decides
+//!
+//! vectors_pair
+//! 1 compare(minutes, values, minutes, values, points, bandwidths, out*)   two tanks, and the run handed back
+//! 2 window(minutes, values, point, bandwidth)              the run handed back
 //! ```
 //!
 //! An answer is a number and a detail. Number 0 is accepted, with the passes
-//! of a sweep or a preview or up to the mark that answers, the bytes of a text, else 0 as detail; 1 to 13 is a report, with
-//! its place. The lists for a row, bounds, a record and counts have one length
-//! only (`ROW_WIDTH`, `BOUNDS`, `RECORD`, `COUNTS`, `ANSWER`), and out has `MOST_OUTPUT` bytes.
+//! of a sweep or a preview or up to the mark that answers, the bytes of a text, the
+//! higher of two tanks, else 0 as detail; 1 to 13, or 16, is a report, with its
+//! place. The lists for a row, bounds, a record, counts, a position and a parting
+//! have one length only (`ROW_WIDTH`, `BOUNDS`, `RECORD`, `COUNTS`, `ANSWER`, `PARTING`), and
+//! out has `MOST_OUTPUT` bytes.
 //! Another length of these is report 8 at place 0, before any other. A refused
 //! sheet has no curve: text then answers with the sheet's report, and
 //! refusal_text writes the text of any number and place.
@@ -68,12 +74,14 @@
 //!                 4 number place length-of-out
 //! vectors_limit   1 MINUTES VALUES POINTS BANDWIDTHS limit length-of-position
 //!                 2 MINUTES VALUES point bandwidth limit length-of-position
+//! vectors_pair    1 MINUTES VALUES MINUTES VALUES POINTS BANDWIDTHS length-of-out
+//!                 2 MINUTES VALUES point bandwidth
 //! ```
 //!
 //! The bytes of a sheet stand as they are, up to the end of the case. There are
 //! at most 1,100 minutes, values, points or bandwidths, 2,600 rows, 16 numbers
-//! of a record, 8 of a row, bounds, counts or a position, 31,300 bytes of out, 40,000 bytes
-//! of a case and 100,000 cases.
+//! of a record, 8 of a row, bounds, counts, a position or a parting, 31,300 bytes of out,
+//! 40,000 bytes of a case and 100,000 cases.
 //!
 //! # Standard output
 //!
@@ -82,12 +90,14 @@
 //! `VALUE` or, for more than one, `VALUE*COUNT`, and a space behind each run.
 //! Before the call a lent list holds 7 everywhere, except the record of a step,
 //! which the case gives. For an accepted text the bytes written stand as they are before
-//! the line of out's other bytes.
+//! the line of out's other bytes. A run that is handed back has a line with its
+//! length, as an answer's number and detail, and one with its values.
 
 mod calls;
 mod draws;
 mod files;
 mod limit;
+mod pair;
 mod point;
 mod sheet;
 mod sweep;
@@ -105,12 +115,14 @@ fn all() -> Cases {
     sheet::cases(&mut cases);
     text::cases(&mut cases);
     limit::cases(&mut cases);
+    pair::cases(&mut cases);
     let random = &mut Random(1);
     point::random_cases(random, &mut cases);
     sweep::random_cases(random, &mut cases);
     sheet::random_cases(random, &mut cases);
     text::random_cases(random, &mut cases);
     limit::random_cases(random, &mut cases);
+    pair::random_cases(&mut Random(12), &mut cases);
     cases
 }
 

@@ -1,0 +1,1 @@
+// What is promised of the comparison of two tanks, in specs/, and its proof. No code.

@@ -1,0 +1,4 @@
+pub mod Order
+pub mod Ranks
+pub mod Sequences
+pub mod WrongAnswers

@@ -1,0 +1,2 @@
+pub mod Comparison
+pub mod Order
