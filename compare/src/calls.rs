@@ -24,7 +24,7 @@ pub type Answer = (u8, u64);
 pub const WRONG_LENGTH: Answer = (8, 0);
 
 /// Every report, for the typed call that takes one.
-const REPORTS: [Report; 14] = [
+const REPORTS: [Report; 15] = [
     Report::TooLong,
     Report::BadHeader,
     Report::MalformedLine,
@@ -38,6 +38,7 @@ const REPORTS: [Report; 14] = [
     Report::InvalidRecord,
     Report::UnknownPreset,
     Report::GridOverflow,
+    Report::TooFewSamples,
     Report::SecondSeries,
 ];
 

@@ -10,12 +10,14 @@ mod cases;
 mod lent;
 mod limit;
 mod lists;
+mod neighbours;
 mod pair;
 mod sheets;
 mod tally;
 
 use calls::Calls;
 use limit::Questions;
+use neighbours::Neighbours;
 use pair::Pairs;
 use std::ffi::OsStr;
 use std::fs;
@@ -47,6 +49,7 @@ fn published(calls: &mut Calls, examples: &Path) -> Result<(), String> {
 fn compare(
     calls: &mut Calls,
     questions: &mut Questions,
+    by_neighbours: &mut Neighbours,
     pairs: &mut Pairs,
     examples: &Path,
 ) -> Result<(), String> {
@@ -64,10 +67,14 @@ fn compare(
     cases::program(calls)?;
     limit::first_at_most(questions)?;
     limit::decisive(questions)?;
+    neighbours::neighbours(by_neighbours)?;
     pair::compare(pairs)?;
     let tallies = || {
         let calls = calls.tallies().into_iter();
-        calls.chain(questions.tallies()).chain(pairs.tallies())
+        calls
+            .chain(questions.tallies())
+            .chain(by_neighbours.tallies())
+            .chain(pairs.tallies())
     };
     tallies().for_each(|tally| println!("{}", tally.line()));
     tallies().try_for_each(Tally::complete)
@@ -81,13 +88,25 @@ fn main() -> ExitCode {
     };
     let mut calls = Calls::new(program.clone());
     let mut questions = Questions::new();
+    let mut by_neighbours = Neighbours::new();
     let mut pairs = Pairs::new();
-    if let Err(difference) = compare(&mut calls, &mut questions, &mut pairs, examples) {
+    let compared = compare(
+        &mut calls,
+        &mut questions,
+        &mut by_neighbours,
+        &mut pairs,
+        examples,
+    );
+    if let Err(difference) = compared {
         println!("compare: {difference}");
         return ExitCode::FAILURE;
     }
-    let tallies = calls.tallies().into_iter().chain(questions.tallies());
-    let total: u64 = tallies.chain(pairs.tallies()).map(Tally::cases).sum();
+    let tallies = calls.tallies().into_iter();
+    let tallies = tallies
+        .chain(questions.tallies())
+        .chain(by_neighbours.tallies())
+        .chain(pairs.tallies());
+    let total: u64 = tallies.map(Tally::cases).sum();
     println!("compare: {total} cases agree");
     ExitCode::SUCCESS
 }

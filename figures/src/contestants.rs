@@ -3,6 +3,7 @@
 use figures::inputs::{Buffers, Input};
 use figures::plain::{DETAIL_UNIT, ROW_WIDTH};
 use figures::{direct, plain};
+use std::sync::OnceLock;
 use tankcurve::{slices, MAX_SAMPLES, PARTING_WIDTH};
 
 pub struct Contestant {
@@ -36,7 +37,7 @@ fn plain_read(read: Reader, input: &Input, lent: &mut Buffers) -> u64 {
 }
 
 /// Every contestant answers what the proved call returns: detail and number as one number.
-pub static CALLS: [Contestant; 22] = [
+pub static CALLS: [Contestant; 26] = [
     Contestant {
         name: "tankcurve_smooth",
         call: |input, lent| {
@@ -182,7 +183,55 @@ pub static CALLS: [Contestant; 22] = [
         name: "tankcurve_compare, alike",
         call: |input, _| compared(input, &FALLING, None),
     },
+    Contestant {
+        name: "tankcurve_smooth, half widths of 16 neighbours",
+        call: |input, lent| smooth_with(&WIDTHS_OF_16, 16, input, lent),
+    },
+    Contestant {
+        name: "tankcurve_neighbours, 16",
+        call: |input, lent| by_neighbours(input, 16, lent),
+    },
+    Contestant {
+        name: "tankcurve_smooth, half widths of 608 neighbours",
+        call: |input, lent| smooth_with(&WIDTHS_OF_608, 608, input, lent),
+    },
+    Contestant {
+        name: "tankcurve_neighbours, 608",
+        call: |input, lent| by_neighbours(input, 608, lent),
+    },
 ];
+
+/// The half widths of the first input that is met, which is the only one in a process that counts.
+static WIDTHS_OF_16: OnceLock<Vec<u32>> = OnceLock::new();
+static WIDTHS_OF_608: OnceLock<Vec<u32>> = OnceLock::new();
+
+/// Of a half or a quarter of the readings the same share.
+fn share(of: usize, input: &Input) -> usize {
+    of * input.minutes.len() / MAX_SAMPLES
+}
+
+fn by_neighbours(input: &Input, of: usize, lent: &mut Buffers) -> u64 {
+    let marks = input.points.len();
+    slices::neighbours(
+        &input.minutes,
+        &input.values,
+        &input.points,
+        share(of, input),
+        &mut lent.bandwidths[..marks],
+        &mut lent.rows[..ROW_WIDTH * marks],
+    )
+}
+
+/// The sweep with the half widths that neighbours give, which are not found anew at each call.
+fn smooth_with(widths: &OnceLock<Vec<u32>>, of: usize, input: &Input, lent: &mut Buffers) -> u64 {
+    let marks = input.points.len();
+    let widths = widths.get_or_init(|| {
+        assert_eq!(by_neighbours(input, of, lent), 0, "half widths");
+        lent.bandwidths[..marks].to_vec()
+    });
+    let rows = &mut lent.rows[..ROW_WIDTH * marks];
+    slices::smooth(&input.minutes, &input.values, &input.points, widths, rows)
+}
 
 /// Values that fall from reading to reading of the full input, so that each of its rows has a lower value than the one before.
 static FALLING: [u16; MAX_SAMPLES] = {

@@ -6,7 +6,7 @@ use crate::measure::{
     times, written, Times, BATCH, COUNTED_CALLS, PROCESS_ROUNDS, ROUNDS,
 };
 use figures::inputs::{input, sheets, Input, NamedSheet};
-use figures::plain::{MAX_OUTPUT, MAX_POINTS, ROW_WIDTH};
+use figures::plain::{MAX_OUTPUT, MAX_POINTS, MAX_SAMPLES, ROW_WIDTH};
 
 /// The bandwidth of every figure but those that name another.
 const BANDWIDTH: u32 = 20_000;
@@ -184,6 +184,44 @@ are to the question at that mark.
         let count = instructions(names[2], part, WIDE)?;
         let ratio = count as f64 / full as f64;
         println!("| {} | {} | {ratio:.3} |", 1024 / part, grouped(count));
+    }
+    Ok(())
+}
+
+/// Half widths by neighbours, beside the sweep with the same half widths, and at a half and a quarter of the size.
+fn neighbours() -> Result<(), String> {
+    println!("\n### Half widths by neighbours\n");
+    println!(
+        "The readings and marks above; of a half and of a quarter of them the same share is K. Ratios are to the sweep with the half
+widths that come of it, and of instructions to those at full size; linear is 0.25 and 0.50.
+"
+    );
+    println!("| K | size | the sweep, instructions | `tankcurve_neighbours`, instructions | ratio | goal | ratio to full size |");
+    println!("|---|---|---|---|---|---|---|");
+    for of in ["16", "608"] {
+        let sweep = format!("tankcurve_smooth, half widths of {of} neighbours");
+        let call = format!("tankcurve_neighbours, {of}");
+        let full = instructions(&call, 1, BANDWIDTH)?;
+        for part in [4, 2, 1] {
+            let counts = [
+                instructions(&sweep, part, BANDWIDTH)?,
+                instructions(&call, part, BANDWIDTH)?,
+            ];
+            let ratio = counts[1] as f64 / counts[0] as f64;
+            let goal = match (part, ratio <= 1.4) {
+                (1, true) => "at most 1.4: met",
+                (1, false) => "at most 1.4: not met",
+                _ => "",
+            };
+            println!(
+                "| {of} ÷ {part} | {} × {} | {} | {} | {ratio:.3} | {goal} | {:.3} |",
+                MAX_SAMPLES / part,
+                MAX_POINTS / part,
+                grouped(counts[0]),
+                grouped(counts[1]),
+                counts[1] as f64 / full as f64,
+            );
+        }
     }
     Ok(())
 }
@@ -429,6 +467,7 @@ all, the loader's too.
     first_at_most(full)?;
     decisive(&input(1, WIDE))?;
     two_tanks(full)?;
+    neighbours()?;
     growth(&parts)
 }
 

@@ -1,7 +1,7 @@
 /*
  * Every call once, as a panel would make them: reads a sheet from standard input, draws its curve by the sweep and, mark by mark, by a running
- * record; asks at one mark, and when the tank may move; sets the tank against a twin; draws once more at marks of the filler; writes the text. Says
- * each report by its number, word and place.
+ * record; asks at one mark, and when the tank may move; sets the tank against a twin; draws once more with half widths by neighbours and at marks
+ * of the filler; writes the text. Says each report by its number, word and place.
  */
 #include "tankcurve.h"
 
@@ -110,6 +110,24 @@ static bool repeat_which(size_t samples, uint16_t point, uint32_t bandwidth, uin
     return true;
 }
 
+/* Each mark's half width by its k nearest readings: wide where readings are rare, so that every mark has a value. A sheet with fewer readings
+   than k has no such curve. The lists of half widths and of rows are written. */
+static bool by_neighbours(size_t samples, size_t marks, size_t k)
+{
+    uint64_t answer = tankcurve_neighbours(minutes, samples, values, samples, points, marks, k, bandwidths, marks, rows, marks * TANKCURVE_ROW_LEN);
+    if (tankcurve_number(answer) == TANKCURVE_TOO_FEW_SAMPLES) {
+        printf("neighbours: %zu are too many for %zu samples\n", k, samples);
+        return true;
+    }
+    if (!accepted("neighbours", answer))
+        return false;
+    for (size_t j = 0; j < marks; j++) {
+        printf("neighbours: half width %" PRIu32 "\n", bandwidths[j]);
+        show("neighbours", rows + j * TANKCURVE_ROW_LEN);
+    }
+    return true;
+}
+
 /* The question at one mark: its row, and the values inside its window. */
 static bool one_mark(size_t samples, uint16_t point, uint32_t bandwidth)
 {
@@ -176,7 +194,8 @@ int main(void)
         printf("read: %zu samples, %zu points\n", samples, marks);
         well = well && sweep(samples, marks) && steps(samples, marks) && one_mark(samples, points[0], bandwidths[0]) &&
                may_move(samples, marks, 58) && may_move(samples, marks, 57) && repeat_which(samples, points[0], bandwidths[0], 60) &&
-               repeat_which(samples, points[0], bandwidths[0], 59) && twins(samples, marks);
+               repeat_which(samples, points[0], bandwidths[0], 59) && twins(samples, marks) && by_neighbours(samples, marks, 2) &&
+               by_neighbours(samples, marks, 5);
         /* Four marks from minute 10, one every 15 minutes, with the half width of the knob's position 0. */
         well = well && accepted("fill", tankcurve_fill(10, 15, 0, points, 4, bandwidths, 4)) && preview(samples, 4) && sweep(samples, 4);
     }

@@ -8,7 +8,7 @@
  * names its section. Words in quotes are the trade's. A minute counts from pitching; a value is in tenths of a microgram per litre.
  *
  * Every call but tankcurve_version returns TANKCURVE_DETAIL_UNIT * detail + number. Number 0 means accepted; what the detail then is stands at
- * each call. Number 1 to 13, or 16, is a report and the detail its place; every list that was lent then holds what it held before: a row that is
+ * each call. Number 1 to 14, or 16, is a report and the detail its place; every list that was lent then holds what it held before: a row that is
  * still there is that of an earlier call. Each call gives the first of its reports whose condition holds, in the order that stands at it. A
  * place is 0 unless something else is said there.
  *
@@ -59,10 +59,10 @@ extern "C" {
 #endif
 
 /*
- * The version that this header belongs to, 2.3.0: major * 65536 + minor * 256 + patch. tankcurve_version gives that of the archive. What is
- * counted by it stands in link/abi-2.3.0.
+ * The version that this header belongs to, 2.4.0: major * 65536 + minor * 256 + patch. tankcurve_version gives that of the archive. What is
+ * counted by it stands in link/abi-2.4.0.
  */
-#define TANKCURVE_VERSION 0x020300
+#define TANKCURVE_VERSION 0x020400
 
 /* The lengths and limits. */
 #define TANKCURVE_MAX_SAMPLES 1024 /* samples ("readings") in a list, and the length of the reader's lists of them */
@@ -165,6 +165,7 @@ enum tankcurve_report TANKCURVE_REPORT_TYPE {
     TANKCURVE_INVALID_RECORD = 11,        /* "foreign record": left is over right, or right over the number of samples */
     TANKCURVE_UNKNOWN_PRESET = 12,        /* "knob": the preset is over 11 */
     TANKCURVE_GRID_OVERFLOW = 13,         /* "past the clock": the last point would be over 65,535 */
+    TANKCURVE_TOO_FEW_SAMPLES = 14,       /* "too few": k is 0 or over the number of samples */
     TANKCURVE_SECOND_SERIES = 16          /* "second tank": the second tank's lists have the condition of 8, 6 or 4 */
 };
 
@@ -198,6 +199,7 @@ static inline const char *tankcurve_word(enum tankcurve_report report)
     case TANKCURVE_INVALID_RECORD: return "foreign record";
     case TANKCURVE_UNKNOWN_PRESET: return "knob";
     case TANKCURVE_GRID_OVERFLOW: return "past the clock";
+    case TANKCURVE_TOO_FEW_SAMPLES: return "too few";
     case TANKCURVE_SECOND_SERIES: return "second tank";
     }
     return "unknown";
@@ -378,6 +380,18 @@ uint64_t tankcurve_compare(const uint16_t *minutes1, size_t minutes1_len, const 
                            const uint16_t *minutes2, size_t minutes2_len, const uint16_t *values2, size_t values2_len,
                            const uint16_t *points, size_t points_len, const uint32_t *bandwidths, size_t bandwidths_len, uint64_t *out,
                            size_t out_len);
+
+/*
+ * Bandwidths by neighbours and the estimates with them [Half widths by neighbours]: the bandwidth of a point becomes 1 more than the k-th
+ * smallest distance of a sample to it, samples of one distance counted each, so that k samples or more have a weight. bandwidths, written:
+ * one a point; rows, written: exactly TANKCURVE_ROW_LEN numbers a point, each the row of its point and new bandwidth. What the two lists hold
+ * before is not looked at. No value is missing. Detail 0. Reports: 8 (minutes with values, points with bandwidths, or rows), 6, 7, 4, 5, 14; the
+ * places of 4 and 5 are the lowest position at which the condition holds, that of the later one. Neither 9 nor 10 can come: these bandwidths are
+ * in range, and with points in order none of their edges goes back.
+ */
+TANKCURVE_ANSWER
+uint64_t tankcurve_neighbours(const uint16_t *minutes, size_t minutes_len, const uint16_t *values, size_t values_len, const uint16_t *points,
+                              size_t points_len, size_t k, uint32_t *bandwidths, size_t bandwidths_len, uint64_t *rows, size_t rows_len);
 
 #ifdef __cplusplus
 }

@@ -53,6 +53,13 @@ static uint64_t preview(size_t samples, size_t marks)
     return tankcurve_preview(minutes, samples, values, samples, points, marks, bandwidths, marks, rows, marks * TANKCURVE_ROW_LEN);
 }
 
+/* One sample, with half widths of its own. */
+static uint64_t by_neighbours(size_t k, size_t marks, size_t bandwidths_len, size_t rows_len)
+{
+    static uint32_t widths[4];
+    return tankcurve_neighbours(minutes, 1, values, 1, points, marks, k, widths, bandwidths_len, numbers, rows_len);
+}
+
 static uint64_t read_lists(const char *text, size_t length, size_t samples_len, size_t points_len, size_t counts_len)
 {
     return tankcurve_read((const uint8_t *)text, length, minutes, samples_len, values, samples_len, points, points_len, bandwidths, points_len,
@@ -130,6 +137,8 @@ static void lengths(void)
         size_t d = (size_t)by;
         gives("row", evaluate(1, 1, TANKCURVE_ROW_LEN + d), report, 0);
         gives("rows", tankcurve_smooth(minutes, 1, values, 1, points, 2, bandwidths, 2, numbers, 2 * TANKCURVE_ROW_LEN + d), report, 0);
+        gives("bandwidths by neighbours", by_neighbours(1, 2, 2 + d, 2 * TANKCURVE_ROW_LEN), report, 0);
+        gives("rows by neighbours", by_neighbours(1, 2, 2, 2 * TANKCURVE_ROW_LEN + d), report, 0);
         gives("bounds", tankcurve_window(minutes, 1, values, 1, 0, 1, numbers, TANKCURVE_BOUNDS_LEN + d), report, 0);
         gives("position", tankcurve_first_at_most(minutes, 1, values, 1, points, 2, bandwidths, 2, 0, numbers, TANKCURVE_POSITION_LEN + d), report, 0);
         gives("position of a sample", tankcurve_decisive(minutes, 1, values, 1, 0, 1, 0, numbers, TANKCURVE_POSITION_LEN + d), report, 0);
@@ -173,6 +182,8 @@ static void reports(void)
     gives("invalid record", tankcurve_advance(record, TANKCURVE_RECORD_LEN, minutes, 1, values, 1, 0, 1), TANKCURVE_INVALID_RECORD, 0);
     gives("unknown preset", tankcurve_fill(0, 0, 12, points, 1, bandwidths, 1), TANKCURVE_UNKNOWN_PRESET, 0);
     gives("grid overflow", tankcurve_fill(65535, 1, 11, points, 2, bandwidths, 2), TANKCURVE_GRID_OVERFLOW, 0);
+    gives("too few samples, k of 0", by_neighbours(0, 1, 1, TANKCURVE_ROW_LEN), TANKCURVE_TOO_FEW_SAMPLES, 0);
+    gives("too few samples", by_neighbours(2, 1, 1, TANKCURVE_ROW_LEN), TANKCURVE_TOO_FEW_SAMPLES, 0);
     const uint16_t falling[] = {7, 6};
     const uint32_t one[] = {1};
     gives("second series", tankcurve_compare(falling, 1, falling, 1, falling, 2, falling, 2, falling, 1, one, 1, numbers, TANKCURVE_PARTING_LEN),
@@ -184,7 +195,7 @@ static void words(void)
 {
     static const char *const trade[] = {"accepted",   "overlong",   "heading",   "torn line",      "early reading", "early mark",
                                         "crowded",    "no marks",   "uneven",    "half width",     "edge back",     "foreign record",
-                                        "knob",       "past the clock"};
+                                        "knob",       "past the clock", "too few"};
     for (unsigned number = 0; number < TANKCURVE_DETAIL_UNIT; number++) {
         const char *word = tankcurve_word(tankcurve_number(number));
         const char *expected = number < sizeof trade / sizeof *trade ? trade[number] : number == 16 ? "second tank" : "unknown";

@@ -23,4 +23,5 @@ void ignored(uint16_t *shorts, uint32_t *words, uint64_t *numbers, uint8_t *byte
     tankcurve_refusal_text(1, 0, bytes, TANKCURVE_MAX_OUTPUT);
     tankcurve_first_at_most(shorts, 1, shorts, 1, shorts, 1, words, 1, 0, numbers, TANKCURVE_POSITION_LEN);
     tankcurve_decisive(shorts, 1, shorts, 1, 0, 1, 0, numbers, TANKCURVE_POSITION_LEN);
+    tankcurve_neighbours(shorts, 1, shorts, 1, shorts, 1, 1, words, 1, numbers, TANKCURVE_ROW_LEN);
 }

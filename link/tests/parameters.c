@@ -323,6 +323,46 @@ static void decisive(void)
     same("decisive, behind its list", position[1], 91);
 }
 
+/* As many points as samples, so that no exchange of lists shows in their lengths, and a k that is none of their numbers. */
+static void neighbours(void)
+{
+    const uint16_t points[SAMPLES] = {9, 14, 22, 30, 31, 40};
+    const uint32_t widths_before[] = {80, 81, 82, 83, 84, 85, 86}, widths_after[] = {2, 7, 8, 11, 11, 20, 86};
+    const uint32_t widths_of_all[] = {32, 27, 20, 28, 29, 38, 86};
+    const uint64_t rows_after[] = {1, 3, 6,  54,   9,  1, 5, 74, 858,  12, 3, 5, 78,  2022,  26,
+                                   4, 6, 61, 1811, 30, 4, 6, 61, 1849, 30, 4, 6, 439, 13531, 31, 92};
+    uint32_t bandwidths[] = {80, 81, 82, 83, 84, 85, 86};
+    uint64_t rows[SAMPLES * TANKCURVE_ROW_LEN + 1], rows_before[SAMPLES * TANKCURVE_ROW_LEN + 1];
+    const size_t width = SAMPLES * TANKCURVE_ROW_LEN;
+    for (size_t i = 0; i <= width; i++)
+        rows[i] = rows_before[i] = 92;
+    same("neighbours, none", tankcurve_neighbours(minutes, SAMPLES, values, SAMPLES, points, SAMPLES, 0, bandwidths, SAMPLES, rows, width),
+         TANKCURVE_TOO_FEW_SAMPLES);
+    same("neighbours, one too many",
+         tankcurve_neighbours(minutes, SAMPLES, values, SAMPLES, points, SAMPLES, SAMPLES + 1, bandwidths, SAMPLES, rows, width),
+         TANKCURVE_TOO_FEW_SAMPLES);
+    same("neighbours, a minute below the one before",
+         tankcurve_neighbours(falling, SAMPLES, values, SAMPLES, points, SAMPLES, 2, bandwidths, SAMPLES, rows, width),
+         TANKCURVE_DETAIL_UNIT * 4 + TANKCURVE_SAMPLE_OUT_OF_ORDER);
+    same("neighbours, one value less",
+         tankcurve_neighbours(minutes, SAMPLES, values, SAMPLES - 1, points, SAMPLES, 2, bandwidths, SAMPLES, rows, width),
+         TANKCURVE_LENGTH_MISMATCH);
+    same("neighbours, one bandwidth more",
+         tankcurve_neighbours(minutes, SAMPLES, values, SAMPLES, points, SAMPLES, 2, bandwidths, SAMPLES + 1, rows, width),
+         TANKCURVE_LENGTH_MISMATCH);
+    same("neighbours, longer rows",
+         tankcurve_neighbours(minutes, SAMPLES, values, SAMPLES, points, SAMPLES, 2, bandwidths, SAMPLES, rows, width + 1),
+         TANKCURVE_LENGTH_MISMATCH);
+    same_list("neighbours, bandwidths of a refusal", bandwidths, widths_before, sizeof widths_before);
+    same_list("neighbours, rows of a refusal", rows, rows_before, sizeof rows_before);
+    same("neighbours", tankcurve_neighbours(minutes, SAMPLES, values, SAMPLES, points, SAMPLES, 2, bandwidths, SAMPLES, rows, width), 0);
+    same_list("neighbours, bandwidths", bandwidths, widths_after, sizeof widths_after);
+    same_list("neighbours, rows", rows, rows_after, sizeof rows_after);
+    same("neighbours, all of them",
+         tankcurve_neighbours(minutes, SAMPLES, values, SAMPLES, points, SAMPLES, SAMPLES, bandwidths, SAMPLES, rows, width), 0);
+    same_list("neighbours, bandwidths of all", bandwidths, widths_of_all, sizeof widths_of_all);
+}
+
 static void fill(void)
 {
     const uint16_t points_before[] = {90, 91, 92};
@@ -486,6 +526,7 @@ int main(void)
     smooth_lists_of_one_length();
     first_at_most();
     decisive();
+    neighbours();
     fill();
     read();
     text();

@@ -9,9 +9,11 @@
 pub mod exported;
 pub mod generators;
 mod limit;
+mod neighbours;
 pub mod pair;
 
 pub use limit::{decisive, first_at_most};
+pub use neighbours::neighbours;
 
 /// The longest list of kept readings that is no fault [Readings and marks].
 pub const MOST_READINGS: usize = 1024;
@@ -46,7 +48,7 @@ pub const KNOB: [u32; 12] = [30, 45, 60, 90, 120, 180, 240, 360, 480, 720, 1080,
 /// [Reports].
 #[derive(Clone, Copy, Debug, PartialEq, Eq)]
 pub struct Refusal {
-    /// The report's number, 1 to 13 or 16.
+    /// The report's number, 1 to 14 or 16.
     pub number: u8,
     /// A byte of the sheet, a position in a list, or 0.
     pub place: u64,

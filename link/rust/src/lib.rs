@@ -38,9 +38,9 @@ pub use row::{Estimate, NoEstimate, RecordRow, Rows};
 /// of the linked archive.
 ///
 /// ```
-/// assert_eq!(tankcurve::VERSION, 0x02_03_00);
+/// assert_eq!(tankcurve::VERSION, 0x02_04_00);
 /// ```
-pub const VERSION: u32 = 0x02_03_00;
+pub const VERSION: u32 = 0x02_04_00;
 
 /// How many samples ("readings") there may be, and how many places the reader's lists of them have.
 ///
@@ -563,6 +563,34 @@ pub fn decisive(
     let answer = slices::decisive(minutes, values, point, bandwidth, limit, &mut position);
     report::outcome(answer)?;
     found(position, minutes).ok_or(Error::Unknown(answer))
+}
+
+/// Bandwidths by neighbours, and the estimates with them: the bandwidth of a point becomes 1 more than the
+/// `k`-th smallest distance of a sample to it, samples of one distance counted each. `bandwidths` receives one a
+/// point and `rows` exactly [`ROW_WIDTH`] numbers a point; no value is missing. Reports 8, 6, 7, 4, 5, 14; not
+/// 9 or 10: these bandwidths are in range, and with points in order none of their edges goes back.
+///
+/// ```
+/// # fn main() -> Result<(), tankcurve::Error> {
+/// let (minutes, values) = ([10, 20, 20, 35], [40, 60, 80, 20]);
+/// let (mut bandwidths, mut rows) = ([0; 3], [0; 3 * tankcurve::ROW_WIDTH]);
+/// let rows = tankcurve::neighbours(&minutes, &values, &[20, 25, 60], 2, &mut bandwidths, &mut rows)?;
+/// let values: Vec<Option<u16>> = rows.map(|row| row.value()).collect();
+/// assert_eq!(values, [Some(70), Some(70), Some(27)]);
+/// assert_eq!(bandwidths, [1, 6, 41]);
+/// # Ok(())
+/// # }
+/// ```
+pub fn neighbours<'a>(
+    minutes: &[u16],
+    values: &[u16],
+    points: &[u16],
+    k: usize,
+    bandwidths: &mut [u32],
+    rows: &'a mut [u64],
+) -> Result<Rows<'a>, Error> {
+    let answer = slices::neighbours(minutes, values, points, k, bandwidths, rows);
+    smoothed(answer, rows).map(|curve| curve.rows)
 }
 
 /// Fills an evaluation grid ("the mark filler"): point k, from 0, is `first` + k × `spacing`, and every

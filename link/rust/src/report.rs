@@ -40,6 +40,8 @@ pub enum Report {
     UnknownPreset = 12,
     /// "past the clock": the last point would be over 65,535.
     GridOverflow = 13,
+    /// "too few": k is 0 or over the number of samples.
+    TooFewSamples = 14,
     /// "second tank": the second tank's lists have the condition of 8, 6 or 4.
     SecondSeries = 16,
 }
@@ -50,7 +52,7 @@ impl Report {
     /// ```
     /// use tankcurve::Report;
     /// assert_eq!(Report::from_number(4), Some(Report::SampleOutOfOrder));
-    /// assert_eq!(Report::from_number(14), None);
+    /// assert_eq!(Report::from_number(15), None);
     /// ```
     #[must_use]
     pub fn from_number(number: u64) -> Option<Report> {
@@ -68,6 +70,7 @@ impl Report {
             11 => Report::InvalidRecord,
             12 => Report::UnknownPreset,
             13 => Report::GridOverflow,
+            14 => Report::TooFewSamples,
             16 => Report::SecondSeries,
             _ => return None,
         })
@@ -104,6 +107,7 @@ impl Report {
             Report::InvalidRecord => "foreign record",
             Report::UnknownPreset => "knob",
             Report::GridOverflow => "past the clock",
+            Report::TooFewSamples => "too few",
             Report::SecondSeries => "second tank",
         }
     }
@@ -209,11 +213,11 @@ mod tests {
                 let answer = DETAIL_UNIT * place + number;
                 match outcome(answer) {
                     Err(Error::Refused(refusal)) => {
-                        assert!(number <= 13 || number == 16);
+                        assert!(number <= 14 || number == 16);
                         assert_eq!((refusal.report.number(), refusal.place), (number, place));
                     }
                     Err(Error::Unknown(whole)) => {
-                        assert!(number > 13 && number != 16);
+                        assert!(number > 14 && number != 16);
                         assert_eq!(whole, answer);
                     }
                     Ok(_) => panic!("number {number} was accepted"),
@@ -224,7 +228,7 @@ mod tests {
 
     #[test]
     fn numbers_of_no_report() {
-        for number in [0, 14, 15, 17, 255, DETAIL_UNIT, DETAIL_UNIT + 1, u64::MAX] {
+        for number in [0, 15, 17, 255, DETAIL_UNIT, DETAIL_UNIT + 1, u64::MAX] {
             assert_eq!(Report::from_number(number), None);
         }
     }

@@ -1,6 +1,6 @@
 //! The proved calls over slices of any length, with the number that they return.
 //!
-//! Every call returns [`DETAIL_UNIT`] × detail + number. Number 0 means accepted; 1 to 13, or 16, is a report
+//! Every call returns [`DETAIL_UNIT`] × detail + number. Number 0 means accepted; 1 to 14, or 16, is a report
 //! and the detail its place. A slice for the answer of another length than stated gets report 8 at place 0,
 //! found before all else.
 //!
@@ -203,6 +203,20 @@ mod exports {
             bandwidths_len: usize,
             out: *mut u64,
             out_len: usize,
+        ) -> u64;
+
+        pub fn tankcurve_neighbours(
+            minutes: *const u16,
+            minutes_len: usize,
+            values: *const u16,
+            values_len: usize,
+            points: *const u16,
+            points_len: usize,
+            k: usize,
+            bandwidths: *mut u32,
+            bandwidths_len: usize,
+            rows: *mut u64,
+            rows_len: usize,
         ) -> u64;
 
         pub fn tankcurve_version() -> u32;
@@ -642,6 +656,41 @@ pub fn compare(
             bandwidths.len(),
             out.as_mut_ptr(),
             out.len(),
+        )
+    }
+}
+
+/// Bandwidths by neighbours, and the estimates with them. `bandwidths`: one a point; `rows`:
+/// [`crate::ROW_WIDTH`] numbers a point. Both are written. Detail 0.
+///
+/// ```
+/// let (mut bandwidths, mut rows) = ([0; 2], [0; 10]);
+/// let answer = tankcurve::slices::neighbours(&[5, 9], &[2, 3], &[5, 9], 1, &mut bandwidths, &mut rows);
+/// assert_eq!((answer, bandwidths), (0, [1, 1]));
+/// assert_eq!(rows, [0, 1, 1, 2, 2, 1, 2, 1, 3, 3]);
+/// ```
+#[must_use]
+pub fn neighbours(
+    minutes: &[u16],
+    values: &[u16],
+    points: &[u16],
+    k: usize,
+    bandwidths: &mut [u32],
+    rows: &mut [u64],
+) -> u64 {
+    unsafe {
+        exports::tankcurve_neighbours(
+            minutes.as_ptr(),
+            minutes.len(),
+            values.as_ptr(),
+            values.len(),
+            points.as_ptr(),
+            points.len(),
+            k,
+            bandwidths.as_mut_ptr(),
+            bandwidths.len(),
+            rows.as_mut_ptr(),
+            rows.len(),
         )
     }
 }

@@ -99,6 +99,15 @@ fn lengths() {
         assert_eq!(slices::row(record, 0, 1, &mut [0; ROW_WIDTH]), answer);
         let rows = &mut vec![0; length(2 * ROW_WIDTH)];
         assert_eq!(slices::smooth(&[], &[], &[0, 0], &[1, 1], rows), answer);
+        let widths = &mut vec![0; length(2)];
+        assert_eq!(
+            slices::neighbours(&[0], &[0], &[0, 0], 1, widths, &mut [0; 2 * ROW_WIDTH]),
+            answer
+        );
+        assert_eq!(
+            slices::neighbours(&[0], &[0], &[0, 0], 1, &mut [0; 2], rows),
+            answer
+        );
         let position = &mut vec![0; length(1)];
         assert_eq!(
             slices::first_at_most(&[], &[], &[0], &[1], 0, position),
@@ -185,6 +194,13 @@ fn reports() {
     let fill = |first, preset| tankcurve::fill(first, 1, preset, &mut [0; 2], &mut [0; 2]);
     assert_eq!(fill(0, 12), refused(Report::UnknownPreset, 0));
     assert_eq!(fill(65_535, 11), refused(Report::GridOverflow, 0));
+    for k in [0, 2] {
+        let (mut bandwidths, mut rows) = ([0; 1], [0; ROW_WIDTH]);
+        assert_eq!(
+            tankcurve::neighbours(&[0], &[0], &[0], k, &mut bandwidths, &mut rows).map(|_| ()),
+            refused(Report::TooFewSamples, 0)
+        );
+    }
     assert_eq!(
         tankcurve::compare(&[7], &[7], &[7, 6], &[7, 6], &[7], &[1]),
         refused(Report::SecondSeries, 1)
@@ -208,6 +224,7 @@ fn words() {
         "foreign record",
         "knob",
         "past the clock",
+        "too few",
     ];
     let numbered = (1..).zip(trade).chain([(16, "second tank")]);
     for (number, word) in numbered {

@@ -702,3 +702,41 @@ fn compare() {
     let missing = tankcurve::compare(&[50], &[9], &[3, 4], &far, &[50], &[1]).unwrap().unwrap();
     assert_eq!((missing.point, missing.higher, missing.run.as_ptr_range()), (0, Tank::Second, far[2..].as_ptr_range()));
 }
+
+/// As many points as samples, so that no exchange of lists shows in their lengths, and a k that is none of
+/// their numbers.
+#[test]
+fn neighbours() {
+    let points = [9, 14, 22, 30, 31, 40];
+    let ask = |minutes: &[u16], k| {
+        let (mut bandwidths, mut rows) = ([90; 6], [91; 6 * ROW_WIDTH]);
+        let answer = slices::neighbours(minutes, &VALUES, &points, k, &mut bandwidths, &mut rows);
+        (answer, bandwidths, rows)
+    };
+    for k in [0, 7, usize::MAX] {
+        assert_eq!(ask(&MINUTES, k), (14, [90; 6], [91; 6 * ROW_WIDTH]));
+    }
+    let falls = DETAIL_UNIT * 4 + 4;
+    assert_eq!(ask(&FALLING, 2), (falls, [90; 6], [91; 6 * ROW_WIDTH]));
+    let rows = [
+        1, 3, 6, 54, 9, 1, 5, 74, 858, 12, 3, 5, 78, 2022, 26, 4, 6, 61, 1811, 30, 4, 6, 61, 1849,
+        30, 4, 6, 439, 13531, 31,
+    ];
+    assert_eq!(ask(&MINUTES, 2), (0, [2, 7, 8, 11, 11, 20], rows));
+    assert_eq!(ask(&MINUTES, 6).1, [32, 27, 20, 28, 29, 38]);
+    let mut long = [90; 7];
+    assert_eq!(
+        slices::neighbours(&MINUTES, &VALUES, &points, 2, &mut long, &mut [91; 30]),
+        8
+    );
+    assert_eq!(long, [90; 7]);
+
+    let (mut bandwidths, mut lent) = ([90; 6], [91; 6 * ROW_WIDTH]);
+    let curve = tankcurve::neighbours(&MINUTES, &VALUES, &points, 2, &mut bandwidths, &mut lent);
+    let values: Vec<Option<u16>> = curve.unwrap().map(|row| row.value()).collect();
+    assert_eq!(values, [9, 12, 26, 30, 30, 31].map(Some));
+    assert_eq!((bandwidths, lent), ([2, 7, 8, 11, 11, 20], rows));
+    let refusal = tankcurve::neighbours(&MINUTES, &VALUES, &points, 7, &mut bandwidths, &mut lent);
+    assert_eq!(refusal.map(|_| ()), refused(Report::TooFewSamples, 0));
+    assert_eq!((bandwidths, lent), ([2, 7, 8, 11, 11, 20], rows));
+}

@@ -12,7 +12,7 @@ use reference::{
 pub const MOST_ELEMENTS: usize = 1100;
 
 /// The most rows.
-const MOST_ROWS: usize = 2600;
+pub const MOST_ROWS: usize = 2600;
 
 /// The most numbers of a row, bounds or counts.
 pub const MOST_NUMBERS: usize = 8;
@@ -23,7 +23,7 @@ const MOST_RECORD: usize = 16;
 /// The most bytes of out.
 pub const MOST_OUT: usize = 31_300;
 
-fn wide<T: Copy + Into<u64>>(list: &[T]) -> Vec<u64> {
+pub fn wide<T: Copy + Into<u64>>(list: &[T]) -> Vec<u64> {
     list.iter().map(|&x| x.into()).collect()
 }
 

@@ -25,20 +25,22 @@ pub enum Program {
     Sheet,
     Text,
     Limit,
+    Neighbours,
     Pair,
 }
 
-const PROGRAMS: [(Program, &str); 6] = [
+const PROGRAMS: [(Program, &str); 7] = [
     (Program::Point, "vectors_point"),
     (Program::Sweep, "vectors_sweep"),
     (Program::Sheet, "vectors_sheet"),
     (Program::Text, "vectors_text"),
     (Program::Limit, "vectors_limit"),
+    (Program::Neighbours, "vectors_neighbours"),
     (Program::Pair, "vectors_pair"),
 ];
 
 /// Each call, and what it can answer.
-const REPORTS: [(&str, &[u64]); 14] = [
+const REPORTS: [(&str, &[u64]); 15] = [
     ("evaluate", &[8, 6, 4, 9, 0]),
     ("window", &[8, 6, 4, 9, 0]),
     ("advance", &[8, 6, 11, 9, 0]),
@@ -52,6 +54,7 @@ const REPORTS: [(&str, &[u64]); 14] = [
     ("refusal_text", &[8, 0]),
     ("first_at_most", &[8, 6, 7, 4, 5, 9, 10, 0]),
     ("decisive", &[8, 6, 4, 9, 0]),
+    ("neighbours", &[8, 6, 7, 4, 5, 14, 0]),
     ("compare", &[8, 6, 7, 4, 5, 9, 10, 16, 0]),
 ];
 

@@ -1,5 +1,6 @@
 //! The cases of the gate's programs `vectors_point`, `vectors_sweep`,
-//! `vectors_sheet`, `vectors_text`, `vectors_limit` and `vectors_pair`, and what each has to write for them.
+//! `vectors_sheet`, `vectors_text`, `vectors_limit`, `vectors_neighbours` and `vectors_pair`, and what each has to write
+//! for them.
 //!
 //! `gate_vectors crates` writes stdin and stdout of each program into its
 //! folder below `crates`, always the same. The answers are the second
@@ -36,6 +37,9 @@
 //! 1 first_at_most(minutes, values, points, bandwidths, limit, position*)   the first mark at or below a limit
 //! 2 decisive(minutes, values, point, bandwidth, limit, position*)          the reading that decides
 //!
+//! vectors_neighbours
+//! 1 neighbours(minutes, values, points, k, bandwidths*, rows*)   half widths by neighbours
+//!
 //! vectors_pair
 //! 1 compare(minutes, values, minutes, values, points, bandwidths, out*)   two tanks, and the run handed back
 //! 2 window(minutes, values, point, bandwidth)              the run handed back
@@ -43,7 +47,7 @@
 //!
 //! An answer is a number and a detail. Number 0 is accepted, with the passes
 //! of a sweep or a preview or up to the mark that answers, the bytes of a text, the
-//! higher of two tanks, else 0 as detail; 1 to 13, or 16, is a report, with its
+//! higher of two tanks, else 0 as detail; 1 to 14, or 16, is a report, with its
 //! place. The lists for a row, bounds, a record, counts, a position and a parting
 //! have one length only (`ROW_WIDTH`, `BOUNDS`, `RECORD`, `COUNTS`, `ANSWER`, `PARTING`), and
 //! out has `MOST_OUTPUT` bytes.
@@ -74,6 +78,7 @@
 //!                 4 number place length-of-out
 //! vectors_limit   1 MINUTES VALUES POINTS BANDWIDTHS limit length-of-position
 //!                 2 MINUTES VALUES point bandwidth limit length-of-position
+//! vectors_neighbours   1 MINUTES VALUES POINTS k length-of-bandwidths length-of-rows
 //! vectors_pair    1 MINUTES VALUES MINUTES VALUES POINTS BANDWIDTHS length-of-out
 //!                 2 MINUTES VALUES point bandwidth
 //! ```
@@ -97,6 +102,7 @@ mod calls;
 mod draws;
 mod files;
 mod limit;
+mod neighbours;
 mod pair;
 mod point;
 mod sheet;
@@ -115,6 +121,7 @@ fn all() -> Cases {
     sheet::cases(&mut cases);
     text::cases(&mut cases);
     limit::cases(&mut cases);
+    neighbours::cases(&mut cases);
     pair::cases(&mut cases);
     let random = &mut Random(1);
     point::random_cases(random, &mut cases);
@@ -122,6 +129,7 @@ fn all() -> Cases {
     sheet::random_cases(random, &mut cases);
     text::random_cases(random, &mut cases);
     limit::random_cases(random, &mut cases);
+    neighbours::random_cases(&mut cases);
     pair::random_cases(&mut Random(12), &mut cases);
     cases
 }

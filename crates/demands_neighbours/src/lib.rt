@@ -1,0 +1,1 @@
+// What is promised of half widths by neighbours, in specs/, and its proof. No code.

@@ -1,0 +1,1 @@
+// Laws of half widths by neighbours beyond the contracts, in proofs/. No code.
