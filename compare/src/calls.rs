@@ -129,7 +129,7 @@ pub fn same<T: PartialEq + Debug>(what: &str, expected: T, got: T) -> Result<(),
 }
 
 /// A present value lies between the lowest and the highest value of the samples with a weight.
-fn among(
+pub fn among(
     minutes: &[u16],
     values: &[u16],
     point: u16,

@@ -5,6 +5,7 @@
 //! printed with its whole case and ends the run with status 1, and so does a report that a call can
 //! give and that never came.
 
+mod biweight;
 mod calls;
 mod cases;
 mod lent;
@@ -15,6 +16,7 @@ mod pair;
 mod sheets;
 mod tally;
 
+use biweight::Biweights;
 use calls::Calls;
 use limit::Questions;
 use neighbours::Neighbours;
@@ -51,6 +53,7 @@ fn compare(
     questions: &mut Questions,
     by_neighbours: &mut Neighbours,
     pairs: &mut Pairs,
+    biweights: &mut Biweights,
     examples: &Path,
 ) -> Result<(), String> {
     published(calls, examples)?;
@@ -69,12 +72,14 @@ fn compare(
     limit::decisive(questions)?;
     neighbours::neighbours(by_neighbours)?;
     pair::compare(pairs)?;
+    biweight::biweight(biweights)?;
     let tallies = || {
         let calls = calls.tallies().into_iter();
         calls
             .chain(questions.tallies())
             .chain(by_neighbours.tallies())
             .chain(pairs.tallies())
+            .chain(biweights.tallies())
     };
     tallies().for_each(|tally| println!("{}", tally.line()));
     tallies().try_for_each(Tally::complete)
@@ -90,11 +95,13 @@ fn main() -> ExitCode {
     let mut questions = Questions::new();
     let mut by_neighbours = Neighbours::new();
     let mut pairs = Pairs::new();
+    let mut biweights = Biweights::new();
     let compared = compare(
         &mut calls,
         &mut questions,
         &mut by_neighbours,
         &mut pairs,
+        &mut biweights,
         examples,
     );
     if let Err(difference) = compared {
@@ -105,7 +112,8 @@ fn main() -> ExitCode {
     let tallies = tallies
         .chain(questions.tallies())
         .chain(by_neighbours.tallies())
-        .chain(pairs.tallies());
+        .chain(pairs.tallies())
+        .chain(biweights.tallies());
     let total: u64 = tallies.map(Tally::cases).sum();
     println!("compare: {total} cases agree");
     ExitCode::SUCCESS

@@ -4,7 +4,7 @@ use figures::inputs::{Buffers, Input};
 use figures::plain::{DETAIL_UNIT, ROW_WIDTH};
 use figures::{direct, plain};
 use std::sync::OnceLock;
-use tankcurve::{slices, MAX_SAMPLES, PARTING_WIDTH};
+use tankcurve::{slices, BIWEIGHT_BANDWIDTH, MAX_SAMPLES, PARTING_WIDTH};
 
 pub struct Contestant {
     pub name: &'static str,
@@ -37,7 +37,7 @@ fn plain_read(read: Reader, input: &Input, lent: &mut Buffers) -> u64 {
 }
 
 /// Every contestant answers what the proved call returns: detail and number as one number.
-pub static CALLS: [Contestant; 26] = [
+pub static CALLS: [Contestant; 32] = [
     Contestant {
         name: "tankcurve_smooth",
         call: |input, lent| {
@@ -199,7 +199,58 @@ pub static CALLS: [Contestant; 26] = [
         name: "tankcurve_neighbours, 608",
         call: |input, lent| by_neighbours(input, 608, lent),
     },
+    Contestant {
+        name: "tankcurve_biweight, none",
+        call: |_, lent| biweight(lent, 0, 0),
+    },
+    Contestant {
+        name: "tankcurve_biweight, 512",
+        call: |_, lent| biweight(lent, 19_791, 512),
+    },
+    Contestant {
+        name: "tankcurve_biweight, 1024",
+        call: |_, lent| biweight(lent, 20_511, 1024),
+    },
+    Contestant {
+        name: "tankcurve_evaluate, none",
+        call: |_, lent| evaluate(lent, 0, 0),
+    },
+    Contestant {
+        name: "tankcurve_evaluate, 512",
+        call: |_, lent| evaluate(lent, 19_791, 512),
+    },
+    Contestant {
+        name: "tankcurve_evaluate, 1024",
+        call: |_, lent| evaluate(lent, 20_511, 1024),
+    },
 ];
+
+/// A reading each minute, as many as there may be, from 20,000 on.
+static EACH_MINUTE: [u16; MAX_SAMPLES] = {
+    let mut minutes = [0; MAX_SAMPLES];
+    let mut i = 0;
+    while i < MAX_SAMPLES {
+        minutes[i] = 20_000 + i as u16;
+        i += 1;
+    }
+    minutes
+};
+
+/// The biweight row of these at a mark with so many of them in its window, all from the first on.
+fn biweight(lent: &mut Buffers, point: u16, inside: u64) -> u64 {
+    let row = &mut lent.rows[..ROW_WIDTH];
+    let answer = slices::biweight(&EACH_MINUTE, &FALLING, point, row);
+    assert_eq!(row[..2], [0, inside], "the run");
+    answer
+}
+
+/// The row of the same window.
+fn evaluate(lent: &mut Buffers, point: u16, inside: u64) -> u64 {
+    let row = &mut lent.rows[..ROW_WIDTH];
+    let answer = slices::evaluate(&EACH_MINUTE, &FALLING, point, BIWEIGHT_BANDWIDTH, row);
+    assert_eq!(row[..2], [0, inside], "the run");
+    answer
+}
 
 /// The half widths of the first input that is met, which is the only one in a process that counts.
 static WIDTHS_OF_16: OnceLock<Vec<u32>> = OnceLock::new();

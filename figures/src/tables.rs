@@ -226,6 +226,35 @@ widths that come of it, and of instructions to those at full size; linear is 0.2
     Ok(())
 }
 
+/// The biweight row beside the row of the same window, for runs of three lengths.
+fn biweight(full: &Input) -> Result<(), String> {
+    println!("\n### The biweight row\n");
+    println!(
+        "1,024 readings, one each minute, at marks with so many of them in the window, all from the first on; beside
+`tankcurve_evaluate` at the same mark with half width 720. Ratios are to that.
+"
+    );
+    println!("| readings in the run | `tankcurve_biweight` | `tankcurve_evaluate` | ratio, instructions | least times |");
+    println!("|---|---|---|---|---|");
+    for run in ["none", "512", "1024"] {
+        let names = ["biweight", "evaluate"].map(|call| format!("tankcurve_{call}, {run}"));
+        let timed = times(&[(called(&names[0]), full), (called(&names[1]), full)]);
+        let counts = [
+            instructions(&names[0], 1, BANDWIDTH)?,
+            instructions(&names[1], 1, BANDWIDTH)?,
+        ];
+        println!(
+            "| {run} | {} | {} | {:.2} | {} and {} |",
+            grouped(counts[0]),
+            grouped(counts[1]),
+            counts[0] as f64 / counts[1] as f64,
+            micros(least(&timed[0])),
+            micros(least(&timed[1])),
+        );
+    }
+    Ok(())
+}
+
 /// A turn beside one that is refused after the order check and has moved nothing.
 fn turn(full: &Input) -> Result<(), String> {
     let names = ["tankcurve_turn", "tankcurve_turn, refused with 9"];
@@ -468,6 +497,7 @@ all, the loader's too.
     decisive(&input(1, WIDE))?;
     two_tanks(full)?;
     neighbours()?;
+    biweight(full)?;
     growth(&parts)
 }
 

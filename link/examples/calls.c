@@ -1,7 +1,7 @@
 /*
  * Every call once, as a panel would make them: reads a sheet from standard input, draws its curve by the sweep and, mark by mark, by a running
- * record; asks at one mark, and when the tank may move; sets the tank against a twin; draws once more with half widths by neighbours and at marks
- * of the filler; writes the text. Says each report by its number, word and place.
+ * record; asks at one mark, there once more with softer weights, and when the tank may move; sets the tank against a twin; draws once more with half
+ * widths by neighbours and at marks of the filler; writes the text. Says each report by its number, word and place.
  */
 #include "tankcurve.h"
 
@@ -164,6 +164,16 @@ static bool twins(size_t samples, size_t marks)
     return true;
 }
 
+/* The softer curve at one mark: biweight weights over 720 minutes on each side, whatever half width the sheet has there. */
+static bool softer(size_t samples, uint16_t point)
+{
+    uint64_t row[TANKCURVE_ROW_LEN];
+    if (!accepted("biweight", tankcurve_biweight(minutes, samples, values, samples, point, row, TANKCURVE_ROW_LEN)))
+        return false;
+    show("biweight", row);
+    return true;
+}
+
 /* What the program writes of the sheet: its curve, or its refusal. */
 static bool text(size_t sheet_len)
 {
@@ -193,9 +203,9 @@ int main(void)
         size_t samples = counts[TANKCURVE_COUNTS_SAMPLES], marks = counts[TANKCURVE_COUNTS_POINTS];
         printf("read: %zu samples, %zu points\n", samples, marks);
         well = well && sweep(samples, marks) && steps(samples, marks) && one_mark(samples, points[0], bandwidths[0]) &&
-               may_move(samples, marks, 58) && may_move(samples, marks, 57) && repeat_which(samples, points[0], bandwidths[0], 60) &&
-               repeat_which(samples, points[0], bandwidths[0], 59) && twins(samples, marks) && by_neighbours(samples, marks, 2) &&
-               by_neighbours(samples, marks, 5);
+               softer(samples, points[0]) && may_move(samples, marks, 58) && may_move(samples, marks, 57) &&
+               repeat_which(samples, points[0], bandwidths[0], 60) && repeat_which(samples, points[0], bandwidths[0], 59) && twins(samples, marks) &&
+               by_neighbours(samples, marks, 2) && by_neighbours(samples, marks, 5);
         /* Four marks from minute 10, one every 15 minutes, with the half width of the knob's position 0. */
         well = well && accepted("fill", tankcurve_fill(10, 15, 0, points, 4, bandwidths, 4)) && preview(samples, 4) && sweep(samples, 4);
     }

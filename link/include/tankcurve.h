@@ -1,6 +1,7 @@
 /*
- * The tank curve for C: Epanechnikov kernel regression in exact whole numbers, proved in Rattle. Link libtankcurve_abi.a, which
- * `link/archive` writes to target/staticlib; `link/install PREFIX` puts both with a pkg-config file under a prefix.
+ * The tank curve for C: kernel regression in exact whole numbers, with the Epanechnikov kernel and, in tankcurve_biweight, the biweight one, proved in
+ * Rattle. Link libtankcurve_abi.a, which `link/archive` writes to target/staticlib; `link/install PREFIX` puts both with a pkg-config file under a
+ * prefix.
  *
  * A list is a pointer and its number of elements. Every call ends, whatever its lists contain and however long they are, so that nothing
  * has to be tested before it. The calls use no heap and no global memory and keep nothing from call to call, so that they may run in several
@@ -35,7 +36,8 @@
  *   - dangling or misaligned pointers, and lengths that do not belong to their pointers;
  *   - a list that is written and overlaps another; lists that are only read may overlap;
  *   - lists that someone else writes, or reads while they are written, during the call;
- *   - the stack: on the largest sheet tankcurve_text took 35 KB and tankcurve_read less than 8 KB, the other calls under 1 KB;
+ *   - the stack: on the largest sheet tankcurve_text took 35 KB and tankcurve_read less than 8 KB; tankcurve_biweight takes less than 6 KB, most of
+ *     it for its table, and the other calls under 1 KB;
  *   - the compiler's back end below the proof, memcpy and memset, which the archive takes from the host, the linker and the machine. The
  *     archive links only into programs for x86-64 Linux;
  *   - this header: nothing compares it with the Rattle source but the tests in link/tests and the examples in link/examples.
@@ -59,10 +61,10 @@ extern "C" {
 #endif
 
 /*
- * The version that this header belongs to, 2.4.0: major * 65536 + minor * 256 + patch. tankcurve_version gives that of the archive. What is
- * counted by it stands in link/abi-2.4.0.
+ * The version that this header belongs to, 2.5.0: major * 65536 + minor * 256 + patch. tankcurve_version gives that of the archive. What is
+ * counted by it stands in link/abi-2.5.0.
  */
-#define TANKCURVE_VERSION 0x020400
+#define TANKCURVE_VERSION 0x020500
 
 /* The lengths and limits. */
 #define TANKCURVE_MAX_SAMPLES 1024 /* samples ("readings") in a list, and the length of the reader's lists of them */
@@ -137,6 +139,11 @@ enum tankcurve_tank {
 /* The least and the greatest bandwidth ("half width"). */
 #define TANKCURVE_MIN_BANDWIDTH 1
 #define TANKCURVE_MAX_BANDWIDTH 65536
+
+/* The bandwidth of tankcurve_biweight, and the greatest weight and sum of its row: 1,024 samples at the point, and each value 65,535. */
+#define TANKCURVE_BIWEIGHT_BANDWIDTH 720
+#define TANKCURVE_BIWEIGHT_MAX_WEIGHT UINT64_C(275188285440000)
+#define TANKCURVE_BIWEIGHT_MAX_SUM UINT64_C(18034464286310400000)
 
 /* So that in C++ too every number that an answer can have is a value of the reports' type; without it one over 31 is undefined there. */
 #if defined(__cplusplus) && __cplusplus >= 201103L
@@ -214,7 +221,7 @@ static inline bool tankcurve_present(const uint64_t *row)
 /*
  * Whether the numbers of a row are within what a row of readings has: weight and sum up to their greatest, and a value of 16 bits if one is
  * present. False for many rows of tankcurve_row that are not of the record's last accepted step, since their weight or sum has wrapped around;
- * not for all: what a row must have come by stands there.
+ * not for all: what a row must have come by stands there. Not for rows of tankcurve_biweight, whose numbers are greater.
  */
 static inline bool tankcurve_of_readings(const uint64_t *row)
 {
@@ -244,6 +251,18 @@ uint64_t tankcurve_evaluate(const uint16_t *minutes, size_t minutes_len, const u
 TANKCURVE_ANSWER
 uint64_t tankcurve_window(const uint16_t *minutes, size_t minutes_len, const uint16_t *values, size_t values_len, uint16_t point,
                           uint32_t bandwidth, uint64_t *bounds, size_t bounds_len);
+
+/*
+ * The softer estimate at one point z, over 720 minutes on each side ("the biweight row") [The biweight row]. row: 5 numbers. left, right and the
+ * run are those of tankcurve_evaluate and tankcurve_window at z with TANKCURVE_BIWEIGHT_BANDWIDTH; weight: the sum over the run of
+ * (518,400 - (minute - z)^2)^2; sum: the same, each times its value; value: as in a row of tankcurve_evaluate, TANKCURVE_MISSING if weight is
+ * 0: ask tankcurve_present. A sample 720 minutes away is in the run and has no weight. No bandwidth is given, so none is reported. WARNING: the
+ * sum has up to 64 bits; doubled it may wrap. Detail 0. Reports: 8 (minutes and values differ in length, or row has another length), 6, 4 (place:
+ * the lowest position that is below the one before).
+ */
+TANKCURVE_ANSWER
+uint64_t tankcurve_biweight(const uint16_t *minutes, size_t minutes_len, const uint16_t *values, size_t values_len, uint16_t point,
+                            uint64_t *row, size_t row_len);
 
 /*
  * Moves a running record to the next point ("a step") [The running record and the book]. record: 9 numbers, read and written: left, right,

@@ -139,6 +139,7 @@ static void lengths(void)
         gives("rows", tankcurve_smooth(minutes, 1, values, 1, points, 2, bandwidths, 2, numbers, 2 * TANKCURVE_ROW_LEN + d), report, 0);
         gives("bandwidths by neighbours", by_neighbours(1, 2, 2 + d, 2 * TANKCURVE_ROW_LEN), report, 0);
         gives("rows by neighbours", by_neighbours(1, 2, 2, 2 * TANKCURVE_ROW_LEN + d), report, 0);
+        gives("biweight row", tankcurve_biweight(minutes, 1, values, 1, 0, numbers, TANKCURVE_ROW_LEN + d), report, 0);
         gives("bounds", tankcurve_window(minutes, 1, values, 1, 0, 1, numbers, TANKCURVE_BOUNDS_LEN + d), report, 0);
         gives("position", tankcurve_first_at_most(minutes, 1, values, 1, points, 2, bandwidths, 2, 0, numbers, TANKCURVE_POSITION_LEN + d), report, 0);
         gives("position of a sample", tankcurve_decisive(minutes, 1, values, 1, 0, 1, 0, numbers, TANKCURVE_POSITION_LEN + d), report, 0);
@@ -271,6 +272,36 @@ static void bounds(void)
     same("a missing value is of readings", tankcurve_of_readings(numbers), 1);
 }
 
+/* The same of the biweight row, whose edges are those of its bandwidth. */
+static void biweight_bounds(void)
+{
+    for (size_t k = 0; k < TANKCURVE_MAX_SAMPLES; k++) {
+        minutes[k] = 5;
+        values[k] = 65535;
+    }
+    gives("the greatest biweight row", tankcurve_biweight(minutes, TANKCURVE_MAX_SAMPLES, values, TANKCURVE_MAX_SAMPLES, 5, numbers, TANKCURVE_ROW_LEN),
+          TANKCURVE_ACCEPTED, 0);
+    same("its weight", numbers[TANKCURVE_ROW_WEIGHT], TANKCURVE_BIWEIGHT_MAX_WEIGHT);
+    same("its sum", numbers[TANKCURVE_ROW_SUM], TANKCURVE_BIWEIGHT_MAX_SUM);
+    same("its value", numbers[TANKCURVE_ROW_VALUE], 65535);
+    /* From 17 samples at the point on the weight is over what other rows have. */
+    for (size_t n = 16; n <= 17; n++) {
+        gives("16 or 17 at the point", tankcurve_biweight(minutes, n, values, n, 5, numbers, TANKCURVE_ROW_LEN), TANKCURVE_ACCEPTED, 0);
+        same("their weight", numbers[TANKCURVE_ROW_WEIGHT], n * UINT64_C(268738560000));
+        same("their value", numbers[TANKCURVE_ROW_VALUE], 65535);
+        same("within the bounds of other rows", tankcurve_of_readings(numbers), n == 16);
+    }
+    gives("a sample more", tankcurve_biweight(minutes, TANKCURVE_MAX_SAMPLES + 1, values, TANKCURVE_MAX_SAMPLES + 1, 5, numbers, TANKCURVE_ROW_LEN),
+          TANKCURVE_TOO_MANY, 0);
+    for (unsigned d = 0; d <= 1; d++) {
+        gives("at the edge and behind it", tankcurve_biweight(minutes, 1, values, 1, (uint16_t)(5 + TANKCURVE_BIWEIGHT_BANDWIDTH + d), numbers,
+                                                              TANKCURVE_ROW_LEN),
+              TANKCURVE_ACCEPTED, 0);
+        same("left of it", numbers[TANKCURVE_ROW_LEFT], d);
+        same("its value is present", tankcurve_present(numbers), 0);
+    }
+}
+
 /* Rows of a record that is not of the point and bandwidth asked for: their value is 0 or 1 and has a weight. */
 static void rows_of_another_window(void)
 {
@@ -342,6 +373,7 @@ int main(void)
     tanks();
     fields();
     bounds();
+    biweight_bounds();
     rows_of_another_window();
     printf("constants: %d comparisons passed\n", compared);
     return 0;

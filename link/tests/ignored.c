@@ -10,6 +10,7 @@ void ignored(uint16_t *shorts, uint32_t *words, uint64_t *numbers, uint8_t *byte
 {
     tankcurve_version();
     tankcurve_evaluate(shorts, 1, shorts, 1, 0, 1, numbers, TANKCURVE_ROW_LEN);
+    tankcurve_biweight(shorts, 1, shorts, 1, 0, numbers, TANKCURVE_ROW_LEN);
     tankcurve_window(shorts, 1, shorts, 1, 0, 1, numbers, TANKCURVE_BOUNDS_LEN);
     tankcurve_advance(numbers, TANKCURVE_RECORD_LEN, shorts, 1, shorts, 1, 0, 1);
     tankcurve_turn(numbers, TANKCURVE_RECORD_LEN, shorts, 1, shorts, 1, 0, 1);

@@ -20,6 +20,7 @@ pub fn ignored(shorts: &mut [u16], words: &mut [u32], numbers: &mut [u64], bytes
     tankcurve::slices::first_at_most(&[], &[], &[0], &[1], 0, numbers);
     tankcurve::slices::decisive(&[], &[], 0, 1, 0, numbers);
     tankcurve::slices::neighbours(&[], &[], &[0], 1, words, numbers);
+    tankcurve::slices::biweight(&[], &[], 0, numbers);
     // The other calls give a `Result`, of which the language says the same.
     tankcurve::RunningSums::default().row(0, 1);
 }

@@ -82,6 +82,27 @@ static void empty_lists(void)
     same_list("evaluate, row of no samples", row, after, sizeof after);
 }
 
+/* A point whose window begins behind the first three samples. */
+static void biweight(void)
+{
+    const uint64_t before[] = {90, 91, 92, 93, 94, 95};
+    const uint64_t after[] = {3, 6, 1325419441, UINT64_C(40939945039), 31, 95};
+    const uint64_t on_the_edge[] = {0, 1, 0, 0, TANKCURVE_MISSING, 95};
+    const uint16_t edge[] = {TANKCURVE_BIWEIGHT_BANDWIDTH}, seven[] = {7};
+    uint64_t row[TANKCURVE_ROW_LEN + 1] = {90, 91, 92, 93, 94, 95};
+    same("biweight, falling minutes", tankcurve_biweight(falling, SAMPLES, values, SAMPLES, 735, row, TANKCURVE_ROW_LEN),
+         TANKCURVE_DETAIL_UNIT * 4 + TANKCURVE_SAMPLE_OUT_OF_ORDER);
+    same("biweight, one value less", tankcurve_biweight(minutes, SAMPLES, values, SAMPLES - 1, 735, row, TANKCURVE_ROW_LEN),
+         TANKCURVE_LENGTH_MISMATCH);
+    same("biweight, a longer row", tankcurve_biweight(minutes, SAMPLES, values, SAMPLES, 735, row, TANKCURVE_ROW_LEN + 1),
+         TANKCURVE_LENGTH_MISMATCH);
+    same_list("biweight, row of a refusal", row, before, sizeof before);
+    same("biweight", tankcurve_biweight(minutes, SAMPLES, values, SAMPLES, 735, row, TANKCURVE_ROW_LEN), 0);
+    same_list("biweight, row", row, after, sizeof after);
+    same("biweight, a sample on the edge", tankcurve_biweight(edge, 1, seven, 1, 0, row, TANKCURVE_ROW_LEN), 0);
+    same_list("biweight, its row", row, on_the_edge, sizeof on_the_edge);
+}
+
 static void window(void)
 {
     const uint64_t before[] = {90, 91, 92};
@@ -516,6 +537,7 @@ int main(void)
     answers();
     evaluate();
     empty_lists();
+    biweight();
     window();
     advance();
     turn();

@@ -6,12 +6,14 @@
 //! A comment that ends in a title in brackets names the section of
 //! docs/SPECIFICATION.md that its code follows.
 
+mod biweight;
 pub mod exported;
 pub mod generators;
 mod limit;
 mod neighbours;
 pub mod pair;
 
+pub use biweight::{biweight, BIWEIGHT_HALF};
 pub use limit::{decisive, first_at_most};
 pub use neighbours::neighbours;
 

@@ -122,7 +122,7 @@ module _ (ts vs vs′ : List ℕ) (r : Rearranged ts vs vs′) where
       sym (total-over-pairs f ts vs (r .even)) ∙ r .as-often (z .minute) (z .value) ∙ total-over-pairs f ts vs′ (r .even′)
 
   -- a sum over all readings of what goes by minute and value alone
-  same-total : (f : ℕ → ℕ → ℕ)
+  pub same-total : (f : ℕ → ℕ → ℕ)
       → total (λ i. f (getD ts i 0) (getD vs i 0)) 0 (length ts) ≡ total (λ i. f (getD ts i 0) (getD vs′ i 0)) 0 (length ts)
   same-total f =
       total-over-pairs f ts vs (r .even)

@@ -1,4 +1,5 @@
-//! The tank curve for Rust: Epanechnikov kernel regression in exact whole numbers, proved in Rattle.
+//! The tank curve for Rust: kernel regression in exact whole numbers, with the Epanechnikov kernel and, in
+//! [`biweight`], the biweight one, proved in Rattle.
 //!
 //! Every call takes every content and every length of its lists and answers with what was asked for
 //! or with a [`Refusal`]; on a refusal every lent list holds what it held before. Nothing here changes
@@ -38,9 +39,9 @@ pub use row::{Estimate, NoEstimate, RecordRow, Rows};
 /// of the linked archive.
 ///
 /// ```
-/// assert_eq!(tankcurve::VERSION, 0x02_04_00);
+/// assert_eq!(tankcurve::VERSION, 0x02_05_00);
 /// ```
-pub const VERSION: u32 = 0x02_04_00;
+pub const VERSION: u32 = 0x02_05_00;
 
 /// How many samples ("readings") there may be, and how many places the reader's lists of them have.
 ///
@@ -171,6 +172,40 @@ pub const MIN_BANDWIDTH: u32 = 1;
 /// assert!(evaluate(&[], &[], 0, MAX_BANDWIDTH + 1).is_err());
 /// ```
 pub const MAX_BANDWIDTH: u32 = 65_536;
+
+/// The bandwidth of [`biweight`]: so many minutes on each side of the point.
+///
+/// ```
+/// use tankcurve::{biweight, evaluate, BIWEIGHT_BANDWIDTH};
+/// let (minutes, values) = ([0, 1000, 2000], [7, 8, 9]);
+/// let (soft, plain) = (
+///     biweight(&minutes, &values, 1720).unwrap(),
+///     evaluate(&minutes, &values, 1720, BIWEIGHT_BANDWIDTH).unwrap(),
+/// );
+/// assert_eq!((soft.left(), soft.right()), (plain.left(), plain.right()));
+/// ```
+pub const BIWEIGHT_BANDWIDTH: u32 = 720;
+
+/// The greatest weight that a row of [`biweight`] has: that of as many samples as there may be, all at the
+/// point.
+///
+/// ```
+/// use tankcurve::{biweight, BIWEIGHT_MAX_WEIGHT, MAX_SAMPLES};
+/// let row = biweight(&[5; MAX_SAMPLES], &[0; MAX_SAMPLES], 5).unwrap();
+/// assert_eq!(row.weight(), BIWEIGHT_MAX_WEIGHT);
+/// ```
+pub const BIWEIGHT_MAX_WEIGHT: u64 = 275_188_285_440_000;
+
+/// The greatest sum that a row of [`biweight`] has: [`BIWEIGHT_MAX_WEIGHT`] times the greatest value. Twice as
+/// much has more than 64 bits.
+///
+/// ```
+/// use tankcurve::{biweight, BIWEIGHT_MAX_SUM, MAX_SAMPLES};
+/// let row = biweight(&[5; MAX_SAMPLES], &[65_535; MAX_SAMPLES], 5).unwrap();
+/// assert_eq!((row.sum(), row.value()), (BIWEIGHT_MAX_SUM, Some(65_535)));
+/// assert_eq!(BIWEIGHT_MAX_SUM.checked_mul(2), None);
+/// ```
+pub const BIWEIGHT_MAX_SUM: u64 = 18_034_464_286_310_400_000;
 
 /// The running sums ("running record"); the default is the fresh record. `spq` adds up minute to the
 /// power p times value to the power q, modulo 2^64, of the samples that steps have added and not
@@ -337,6 +372,30 @@ pub fn evaluate(
     let answer = slices::evaluate(minutes, values, point, bandwidth, &mut row);
     report::outcome(answer)?;
     Estimate::try_from(row).map_err(|_| Error::Unknown(answer))
+}
+
+/// The softer estimate at one point ("the biweight row"): a row whose weights are
+/// (518,400 − distance²)², over [`BIWEIGHT_BANDWIDTH`] minutes on each side. Its edges are those of
+/// [`evaluate`] and its run that of [`window`] with this bandwidth; its weight and sum are greater than what
+/// [`Estimate`] takes from numbers. Reports 8, 6, 4.
+///
+/// ```
+/// # fn main() -> Result<(), tankcurve::Error> {
+/// // The same readings, an hour and half a day from the mark: the far one counts for less.
+/// let (minutes, values) = ([0, 300], [100, 200]);
+/// assert_eq!(tankcurve::evaluate(&minutes, &values, 360, 720)?.value(), Some(157));
+/// assert_eq!(tankcurve::biweight(&minutes, &values, 360)?.value(), Some(164));
+/// // A reading on the edge has no weight: the value is missing.
+/// assert_eq!(tankcurve::biweight(&[0], &[40], 720)?.value(), None);
+/// # Ok(())
+/// # }
+/// ```
+pub fn biweight(minutes: &[u16], values: &[u16], point: u16) -> Result<Estimate, Error> {
+    let mut row = [0; ROW_WIDTH];
+    let answer = slices::biweight(minutes, values, point, &mut row);
+    report::outcome(answer)?;
+    Estimate::within(row.into(), BIWEIGHT_MAX_WEIGHT, BIWEIGHT_MAX_SUM)
+        .map_err(|_| Error::Unknown(answer))
 }
 
 /// The values inside the window of one point ("the question at one mark": the run), as that part of

@@ -8,7 +8,8 @@ use core::iter::FusedIterator;
 ///
 /// Its value is `None` exactly if its weight is 0. It can be made only of numbers that are within what a
 /// row of readings has: a weight up to [`MAX_WEIGHT`], a sum up to [`MAX_SUM`], and a value of 16 bits or
-/// no weight. That is all that is looked at: [`RecordRow`] says what a row must have come by.
+/// no weight. That is all that is looked at: [`RecordRow`] says what a row must have come by. The rows of
+/// [`crate::biweight`] have greater numbers and come from that call alone.
 ///
 /// ```
 /// use tankcurve::{Estimate, MAX_SUM, MAX_WEIGHT};
@@ -28,6 +29,22 @@ pub struct Estimate {
 }
 
 impl Estimate {
+    /// The row, if weight and sum are at most these and a value that is present has 16 bits.
+    pub(crate) fn within(
+        row: RecordRow,
+        most_weight: u64,
+        most_sum: u64,
+    ) -> Result<Estimate, NoEstimate> {
+        if row.weight > most_weight || row.sum > most_sum {
+            return Err(NoEstimate);
+        }
+        let value = match row.value() {
+            Some(value) => Some(u16::try_from(value).map_err(|_| NoEstimate)?),
+            None => None,
+        };
+        Ok(Estimate { row, value })
+    }
+
     /// How many samples lie before the window.
     ///
     /// ```
@@ -110,14 +127,7 @@ impl TryFrom<RecordRow> for Estimate {
     type Error = NoEstimate;
 
     fn try_from(row: RecordRow) -> Result<Estimate, NoEstimate> {
-        if row.weight > MAX_WEIGHT || row.sum > MAX_SUM {
-            return Err(NoEstimate);
-        }
-        let value = match row.value() {
-            Some(value) => Some(u16::try_from(value).map_err(|_| NoEstimate)?),
-            None => None,
-        };
-        Ok(Estimate { row, value })
+        Estimate::within(row, MAX_WEIGHT, MAX_SUM)
     }
 }
 

@@ -70,6 +70,16 @@ mod exports {
             bounds_len: usize,
         ) -> u64;
 
+        pub fn tankcurve_biweight(
+            minutes: *const u16,
+            minutes_len: usize,
+            values: *const u16,
+            values_len: usize,
+            point: u16,
+            row: *mut u64,
+            row_len: usize,
+        ) -> u64;
+
         pub fn tankcurve_advance(
             record: *mut u64,
             record_len: usize,
@@ -302,6 +312,31 @@ pub fn window(
             bandwidth,
             bounds.as_mut_ptr(),
             bounds.len(),
+        )
+    }
+}
+
+/// The softer estimate at one point, over [`crate::BIWEIGHT_BANDWIDTH`] minutes on each side. `row`:
+/// [`crate::ROW_WIDTH`] numbers: left, right, weight, sum, value. Detail 0.
+///
+/// ```
+/// let mut row = [0; 5];
+/// assert_eq!(tankcurve::slices::biweight(&[720], &[7], 0, &mut row), 0);
+/// assert_eq!(row, [0, 1, 0, 0, 65_536]);
+/// assert_eq!(tankcurve::slices::biweight(&[720], &[7], 1, &mut row), 0);
+/// assert_eq!(row, [0, 1, 2_070_721, 14_495_047, 7]);
+/// ```
+#[must_use]
+pub fn biweight(minutes: &[u16], values: &[u16], point: u16, row: &mut [u64]) -> u64 {
+    unsafe {
+        exports::tankcurve_biweight(
+            minutes.as_ptr(),
+            minutes.len(),
+            values.as_ptr(),
+            values.len(),
+            point,
+            row.as_mut_ptr(),
+            row.len(),
         )
     }
 }

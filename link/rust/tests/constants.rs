@@ -3,9 +3,10 @@
 
 use tankcurve::slices::{self, DETAIL_UNIT};
 use tankcurve::{
-    Error, Estimate, Refusal, Report, Rows, RunningSums, MAX_BANDWIDTH, MAX_OUTPUT, MAX_POINTS,
-    MAX_SAMPLES, MAX_SHEET, MAX_SUM, MAX_WEIGHT, MIN_BANDWIDTH, MISSING, PARTING_WIDTH,
-    PREVIEW_MAX_POINTS, PREVIEW_MAX_SAMPLES, RECORD_WIDTH, ROW_WIDTH,
+    Error, Estimate, Refusal, Report, Rows, RunningSums, BIWEIGHT_BANDWIDTH, BIWEIGHT_MAX_SUM,
+    BIWEIGHT_MAX_WEIGHT, MAX_BANDWIDTH, MAX_OUTPUT, MAX_POINTS, MAX_SAMPLES, MAX_SHEET, MAX_SUM,
+    MAX_WEIGHT, MIN_BANDWIDTH, MISSING, PARTING_WIDTH, PREVIEW_MAX_POINTS, PREVIEW_MAX_SAMPLES,
+    RECORD_WIDTH, ROW_WIDTH,
 };
 
 const HEAD: &str = "mark,half\n5,2\n\nminute,inj,vdk\n";
@@ -93,6 +94,7 @@ fn lengths() {
         let length = |stated: usize| stated - 1 + by;
         let row = &mut vec![0; length(ROW_WIDTH)];
         assert_eq!(slices::evaluate(&[], &[], 0, 1, row), answer);
+        assert_eq!(slices::biweight(&[], &[], 0, row), answer);
         assert_eq!(slices::row(&[0; RECORD_WIDTH], 0, 1, row), answer);
         let record = &mut vec![0; length(RECORD_WIDTH)];
         assert_eq!(slices::advance(record, &[], &[], 0, 1), answer);
@@ -249,6 +251,38 @@ fn bounds() {
     assert!(estimate(MAX_WEIGHT, MAX_SUM).is_ok());
     assert!(estimate(MAX_WEIGHT + 1, MAX_SUM).is_err());
     assert!(estimate(MAX_WEIGHT, MAX_SUM + 1).is_err());
+}
+
+/// The same of the biweight row, whose edges are those of its bandwidth.
+#[test]
+fn biweight_bounds() {
+    let (there, values) = ([5; MAX_SAMPLES], [65_535; MAX_SAMPLES]);
+    let row = tankcurve::biweight(&there, &values, 5).unwrap();
+    let greatest = (BIWEIGHT_MAX_WEIGHT, BIWEIGHT_MAX_SUM);
+    assert_eq!((row.weight(), row.sum()), greatest);
+    assert_eq!(row.value(), Some(65_535));
+    // From 17 readings at the mark on the weight is over what other rows have: this call gives such rows, the conversion takes none.
+    for (count, over) in [(16, false), (17, true), (MAX_SAMPLES, true)] {
+        let row = tankcurve::biweight(&there[..count], &values[..count], 5).unwrap();
+        let weight = 268_738_560_000 * count as u64;
+        assert_eq!((row.weight(), row.sum()), (weight, weight * 65_535));
+        assert_eq!((row.right(), row.value()), (count as u64, Some(65_535)));
+        assert_eq!(weight > MAX_WEIGHT, over);
+        assert_eq!(
+            Estimate::try_from(<[u64; ROW_WIDTH]>::from(row)).is_err(),
+            over
+        );
+    }
+    let more = [5; MAX_SAMPLES + 1];
+    assert_eq!(
+        tankcurve::biweight(&more, &more, 5),
+        refused(Report::TooMany, 0)
+    );
+    for (by, left) in [(0, 0), (1, 1)] {
+        let point = 5 + BIWEIGHT_BANDWIDTH as u16 + by;
+        let row = tankcurve::biweight(&[5], &[7], point).unwrap();
+        assert_eq!((row.left(), row.right(), row.value()), (left, 1, None));
+    }
 }
 
 /// Rows of a record that is not of the point and bandwidth asked for: their value is 0 or 1 and has a weight.

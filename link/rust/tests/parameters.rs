@@ -55,6 +55,34 @@ fn evaluate() {
     );
 }
 
+/// A point whose window begins behind the first three samples.
+#[test]
+fn biweight() {
+    let mut row = [90, 91, 92, 93, 94];
+    assert_eq!(
+        slices::biweight(&FALLING, &VALUES, 735, &mut row),
+        DETAIL_UNIT * 4 + 4
+    );
+    assert_eq!(slices::biweight(&MINUTES, &VALUES[1..], 735, &mut row), 8);
+    assert_eq!(row, [90, 91, 92, 93, 94]);
+    assert_eq!(slices::biweight(&MINUTES, &VALUES, 735, &mut row), 0);
+    assert_eq!(row, [3, 6, 1_325_419_441, 40_939_945_039, 31]);
+    let mut long = [90; ROW_WIDTH + 1];
+    assert_eq!(slices::biweight(&MINUTES, &VALUES, 735, &mut long), 8);
+    assert_eq!(long, [90; ROW_WIDTH + 1]);
+
+    let estimate = tankcurve::biweight(&MINUTES, &VALUES, 735).unwrap();
+    assert_eq!(<[u64; ROW_WIDTH]>::from(estimate), row);
+    assert_eq!(estimate.value(), Some(31));
+    assert_eq!(
+        tankcurve::biweight(&FALLING, &VALUES, 735),
+        refused(Report::SampleOutOfOrder, 4)
+    );
+    // On the edge: in the run, without a value.
+    let edge = tankcurve::biweight(&[720], &[7], 0).unwrap();
+    assert_eq!((edge.left(), edge.right(), edge.value()), (0, 1, None));
+}
+
 /// Empty lists, whose pointers lead nowhere: case C4, and an empty sheet.
 #[test]
 fn empty_lists() {

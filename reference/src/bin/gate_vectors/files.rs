@@ -27,9 +27,10 @@ pub enum Program {
     Limit,
     Neighbours,
     Pair,
+    Biweight,
 }
 
-const PROGRAMS: [(Program, &str); 7] = [
+const PROGRAMS: [(Program, &str); 8] = [
     (Program::Point, "vectors_point"),
     (Program::Sweep, "vectors_sweep"),
     (Program::Sheet, "vectors_sheet"),
@@ -37,10 +38,11 @@ const PROGRAMS: [(Program, &str); 7] = [
     (Program::Limit, "vectors_limit"),
     (Program::Neighbours, "vectors_neighbours"),
     (Program::Pair, "vectors_pair"),
+    (Program::Biweight, "vectors_biweight"),
 ];
 
 /// Each call, and what it can answer.
-const REPORTS: [(&str, &[u64]); 15] = [
+const REPORTS: [(&str, &[u64]); 16] = [
     ("evaluate", &[8, 6, 4, 9, 0]),
     ("window", &[8, 6, 4, 9, 0]),
     ("advance", &[8, 6, 11, 9, 0]),
@@ -56,6 +58,7 @@ const REPORTS: [(&str, &[u64]); 15] = [
     ("decisive", &[8, 6, 4, 9, 0]),
     ("neighbours", &[8, 6, 7, 4, 5, 14, 0]),
     ("compare", &[8, 6, 7, 4, 5, 9, 10, 16, 0]),
+    ("biweight", &[8, 6, 4, 0]),
 ];
 
 /// What a call gave: its answer and its lent lists.

@@ -1,6 +1,6 @@
 //! The cases of the gate's programs `vectors_point`, `vectors_sweep`,
-//! `vectors_sheet`, `vectors_text`, `vectors_limit`, `vectors_neighbours` and `vectors_pair`, and what each has to write
-//! for them.
+//! `vectors_sheet`, `vectors_text`, `vectors_limit`, `vectors_neighbours`, `vectors_pair` and
+//! `vectors_biweight`, and what each has to write for them.
 //!
 //! `gate_vectors crates` writes stdin and stdout of each program into its
 //! folder below `crates`, always the same. The answers are the second
@@ -43,6 +43,9 @@
 //! vectors_pair
 //! 1 compare(minutes, values, minutes, values, points, bandwidths, out*)   two tanks, and the run handed back
 //! 2 window(minutes, values, point, bandwidth)              the run handed back
+//!
+//! vectors_biweight
+//! 1 biweight(minutes, values, point, row*)                 the biweight row at one mark
 //! ```
 //!
 //! An answer is a number and a detail. Number 0 is accepted, with the passes
@@ -81,6 +84,7 @@
 //! vectors_neighbours   1 MINUTES VALUES POINTS k length-of-bandwidths length-of-rows
 //! vectors_pair    1 MINUTES VALUES MINUTES VALUES POINTS BANDWIDTHS length-of-out
 //!                 2 MINUTES VALUES point bandwidth
+//! vectors_biweight   1 MINUTES VALUES point length-of-row
 //! ```
 //!
 //! The bytes of a sheet stand as they are, up to the end of the case. There are
@@ -98,6 +102,7 @@
 //! the line of out's other bytes. A run that is handed back has a line with its
 //! length, as an answer's number and detail, and one with its values.
 
+mod biweight;
 mod calls;
 mod draws;
 mod files;
@@ -123,6 +128,7 @@ fn all() -> Cases {
     limit::cases(&mut cases);
     neighbours::cases(&mut cases);
     pair::cases(&mut cases);
+    biweight::cases(&mut cases);
     let random = &mut Random(1);
     point::random_cases(random, &mut cases);
     sweep::random_cases(random, &mut cases);
@@ -131,6 +137,7 @@ fn all() -> Cases {
     limit::random_cases(random, &mut cases);
     neighbours::random_cases(&mut cases);
     pair::random_cases(&mut Random(12), &mut cases);
+    biweight::random_cases(&mut cases);
     cases
 }
 

@@ -1,0 +1,1 @@
+// What is promised of the biweight row, in specs/, and its proof. No code.

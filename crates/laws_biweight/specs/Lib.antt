@@ -1,0 +1,3 @@
+pub mod BetaKernels
+pub mod PublishedRow
+pub mod Readings

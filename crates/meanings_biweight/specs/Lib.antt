@@ -1,0 +1,2 @@
+pub mod Biweight
+pub mod Cases
