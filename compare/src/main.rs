@@ -8,6 +8,7 @@
 mod biweight;
 mod calls;
 mod cases;
+mod doubles;
 mod lent;
 mod limit;
 mod lists;
@@ -18,6 +19,7 @@ mod tally;
 
 use biweight::Biweights;
 use calls::Calls;
+use doubles::Cells;
 use limit::Questions;
 use neighbours::Neighbours;
 use pair::Pairs;
@@ -54,6 +56,7 @@ fn compare(
     by_neighbours: &mut Neighbours,
     pairs: &mut Pairs,
     biweights: &mut Biweights,
+    cells: &mut Cells,
     examples: &Path,
 ) -> Result<(), String> {
     published(calls, examples)?;
@@ -73,6 +76,7 @@ fn compare(
     neighbours::neighbours(by_neighbours)?;
     pair::compare(pairs)?;
     biweight::biweight(biweights)?;
+    doubles::doubles(cells)?;
     let tallies = || {
         let calls = calls.tallies().into_iter();
         calls
@@ -80,6 +84,7 @@ fn compare(
             .chain(by_neighbours.tallies())
             .chain(pairs.tallies())
             .chain(biweights.tallies())
+            .chain(cells.tallies())
     };
     tallies().for_each(|tally| println!("{}", tally.line()));
     tallies().try_for_each(Tally::complete)
@@ -96,12 +101,14 @@ fn main() -> ExitCode {
     let mut by_neighbours = Neighbours::new();
     let mut pairs = Pairs::new();
     let mut biweights = Biweights::new();
+    let mut cells = Cells::new();
     let compared = compare(
         &mut calls,
         &mut questions,
         &mut by_neighbours,
         &mut pairs,
         &mut biweights,
+        &mut cells,
         examples,
     );
     if let Err(difference) = compared {
@@ -113,7 +120,8 @@ fn main() -> ExitCode {
         .chain(questions.tallies())
         .chain(by_neighbours.tallies())
         .chain(pairs.tallies())
-        .chain(biweights.tallies());
+        .chain(biweights.tallies())
+        .chain(cells.tallies());
     let total: u64 = tallies.map(Tally::cases).sum();
     println!("compare: {total} cases agree");
     ExitCode::SUCCESS

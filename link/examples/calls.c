@@ -1,7 +1,7 @@
 /*
  * Every call once, as a panel would make them: reads a sheet from standard input, draws its curve by the sweep and, mark by mark, by a running
- * record; asks at one mark, there once more with softer weights, and when the tank may move; sets the tank against a twin; draws once more with half
- * widths by neighbours and at marks of the filler; writes the text. Says each report by its number, word and place.
+ * record; asks at one mark, whose weight and sum it has as doubles too, there once more with softer weights, and when the tank may move; sets the tank
+ * against a twin; draws once more with half widths by neighbours and at marks of the filler; writes the text. Says each report by its number, word and place.
  */
 #include "tankcurve.h"
 
@@ -128,6 +128,20 @@ static bool by_neighbours(size_t samples, size_t marks, size_t k)
     return true;
 }
 
+/* A weight or a sum of a row as doubles; spreadsheet.c has them as cells, and back. */
+static bool as_doubles(const char *call, uint64_t weight, uint64_t number)
+{
+    double doubles[TANKCURVE_DOUBLES_LEN];
+    uint64_t answer = tankcurve_doubles(weight, number, doubles, TANKCURVE_DOUBLES_LEN);
+    if (!accepted("doubles", answer))
+        return false;
+    printf("%s as doubles:", call);
+    for (uint64_t k = 0; k < tankcurve_detail(answer); k++)
+        printf(" %.0f", doubles[k]);
+    printf("\n");
+    return true;
+}
+
 /* The question at one mark: its row, and the values inside its window. */
 static bool one_mark(size_t samples, uint16_t point, uint32_t bandwidth)
 {
@@ -140,7 +154,8 @@ static bool one_mark(size_t samples, uint16_t point, uint32_t bandwidth)
     for (uint64_t k = bounds[TANKCURVE_ROW_LEFT]; k < bounds[TANKCURVE_ROW_RIGHT]; k++)
         printf(" %" PRIu16, values[k]);
     printf("\n");
-    return true;
+    return as_doubles("weight", row[TANKCURVE_ROW_WEIGHT], row[TANKCURVE_ROW_WEIGHT]) &&
+           as_doubles("sum", row[TANKCURVE_ROW_WEIGHT], row[TANKCURVE_ROW_SUM]);
 }
 
 /* The tank beside a twin that lacks its last reading: where they part, which is higher there, and that one's values. */

@@ -14,8 +14,8 @@
  * place is 0 unless something else is said there.
  *
  * Report 8 is about the lengths of the lists that the caller lends, found before all else, at place 0. A list for the answer (row, bounds,
- * record, counts, position, out, and the reader's minutes, values, points and bandwidths) has exactly the length that is stated: a longer one is
- * refused too. rows has exactly TANKCURVE_ROW_LEN times as many elements as there are points: pass that product and not what the array
+ * record, counts, position, doubles, out, and the reader's minutes, values, points and bandwidths) has exactly the length that is stated: a longer
+ * one is refused too. rows has exactly TANKCURVE_ROW_LEN times as many elements as there are points: pass that product and not what the array
  * could hold. In tankcurve_read and tankcurve_text every other number is about the sheet, and its place a byte of the sheet, counted from 0;
  * in all other calls a place is a position in a list, from 0.
  *
@@ -61,10 +61,10 @@ extern "C" {
 #endif
 
 /*
- * The version that this header belongs to, 2.5.0: major * 65536 + minor * 256 + patch. tankcurve_version gives that of the archive. What is
- * counted by it stands in link/abi-2.5.0.
+ * The version that this header belongs to, 2.6.0: major * 65536 + minor * 256 + patch. tankcurve_version gives that of the archive. What is
+ * counted by it stands in link/abi-2.6.0.
  */
-#define TANKCURVE_VERSION 0x020500
+#define TANKCURVE_VERSION 0x020600
 
 /* The lengths and limits. */
 #define TANKCURVE_MAX_SAMPLES 1024 /* samples ("readings") in a list, and the length of the reader's lists of them */
@@ -79,6 +79,7 @@ extern "C" {
 #define TANKCURVE_COUNTS_LEN 2     /* enum tankcurve_counts_field: samples, points */
 #define TANKCURVE_POSITION_LEN 1   /* a position, or TANKCURVE_NO_POSITION */
 #define TANKCURVE_PARTING_LEN 3    /* enum tankcurve_parting_field: point, left, right */
+#define TANKCURVE_DOUBLES_LEN 2    /* enum tankcurve_doubles_field: a high part, or all of a number, and a low part */
 
 /* Where a field stands in its list: row[TANKCURVE_ROW_VALUE]; that of row k of a sweep is rows[TANKCURVE_ROW_LEN * k + TANKCURVE_ROW_VALUE]. */
 enum tankcurve_row_field {
@@ -114,6 +115,10 @@ enum tankcurve_tank {
     TANKCURVE_ALIKE = 0,
     TANKCURVE_FIRST = 1,
     TANKCURVE_SECOND = 2
+};
+enum tankcurve_doubles_field {
+    TANKCURVE_DOUBLES_HIGH = 0,
+    TANKCURVE_DOUBLES_LOW = 1
 };
 
 /*
@@ -411,6 +416,19 @@ uint64_t tankcurve_compare(const uint16_t *minutes1, size_t minutes1_len, const 
 TANKCURVE_ANSWER
 uint64_t tankcurve_neighbours(const uint16_t *minutes, size_t minutes_len, const uint16_t *values, size_t values_len, const uint16_t *points,
                               size_t points_len, size_t k, uint32_t *bandwidths, size_t bandwidths_len, uint64_t *rows, size_t rows_len);
+
+/*
+ * A weight or a sum of a row as doubles, for a spreadsheet whose cells hold nothing else [Sums for the spreadsheet]. weight is the row's, also
+ * where number is the sum. doubles: 2. Detail: how many of them are used; the others stay as they were.
+ *   0: weight is 0. The cell stays empty, whatever number is, and stands for 0.
+ *   1: number is below 2^53. The first double is number.
+ *   2: doubles[TANKCURVE_DOUBLES_LOW] is the remainder of number by 2^32, doubles[TANKCURVE_DOUBLES_HIGH] the rest.
+ * Each double used is exactly that whole number. A number is had back as a whole number: cast each used double to uint64_t and add these; no call
+ * does it. WARNING: added as doubles, in the spreadsheet too, the two parts are not exact from 2^53 on: 2^53 and 1 give 2^53. A row of
+ * readings has no sum without weight; of a row of any other origin a sum above 0 with weight 0 is lost. Report: 8 (doubles has another length).
+ */
+TANKCURVE_ANSWER
+uint64_t tankcurve_doubles(uint64_t weight, uint64_t number, double *doubles, size_t doubles_len);
 
 #ifdef __cplusplus
 }

@@ -13,6 +13,7 @@
 static uint16_t minutes[2 * TANKCURVE_MAX_SAMPLES], values[2 * TANKCURVE_MAX_SAMPLES], points[2 * TANKCURVE_MAX_POINTS];
 static uint32_t bandwidths[2 * TANKCURVE_MAX_POINTS];
 static uint64_t numbers[16];
+static double doubles[4];
 static uint8_t out[2 * TANKCURVE_MAX_OUTPUT];
 static char sheet[2 * TANKCURVE_MAX_SHEET];
 
@@ -141,6 +142,7 @@ static void lengths(void)
         gives("rows by neighbours", by_neighbours(1, 2, 2, 2 * TANKCURVE_ROW_LEN + d), report, 0);
         gives("biweight row", tankcurve_biweight(minutes, 1, values, 1, 0, numbers, TANKCURVE_ROW_LEN + d), report, 0);
         gives("bounds", tankcurve_window(minutes, 1, values, 1, 0, 1, numbers, TANKCURVE_BOUNDS_LEN + d), report, 0);
+        gives("doubles", tankcurve_doubles(5, 3, doubles, TANKCURVE_DOUBLES_LEN + d), report, 0);
         gives("position", tankcurve_first_at_most(minutes, 1, values, 1, points, 2, bandwidths, 2, 0, numbers, TANKCURVE_POSITION_LEN + d), report, 0);
         gives("position of a sample", tankcurve_decisive(minutes, 1, values, 1, 0, 1, 0, numbers, TANKCURVE_POSITION_LEN + d), report, 0);
         gives("parting", tankcurve_compare(minutes, 1, values, 1, minutes, 1, values, 1, points, 2, bandwidths, 2, numbers, TANKCURVE_PARTING_LEN + d), report, 0);
@@ -359,6 +361,14 @@ static void tanks(void)
     same("a parting's right", parting[TANKCURVE_PARTING_RIGHT], 3);
 }
 
+/* Where the parts of a number stand. */
+static void parts(void)
+{
+    gives("parts", tankcurve_doubles(1, UINT64_C(9007199254740993), doubles, TANKCURVE_DOUBLES_LEN), TANKCURVE_ACCEPTED, 0);
+    same("high", (uint64_t)doubles[TANKCURVE_DOUBLES_HIGH], UINT64_C(9007199254740992));
+    same("low", (uint64_t)doubles[TANKCURVE_DOUBLES_LOW], 1);
+}
+
 int main(void)
 {
     same("the version", tankcurve_version(), TANKCURVE_VERSION);
@@ -371,6 +381,7 @@ int main(void)
     missing();
     no_position();
     tanks();
+    parts();
     fields();
     bounds();
     biweight_bounds();

@@ -4,9 +4,9 @@
  */
 #include "tankcurve.h"
 
-void ignored(uint16_t *shorts, uint32_t *words, uint64_t *numbers, uint8_t *bytes);
+void ignored(uint16_t *shorts, uint32_t *words, uint64_t *numbers, uint8_t *bytes, double *doubles);
 
-void ignored(uint16_t *shorts, uint32_t *words, uint64_t *numbers, uint8_t *bytes)
+void ignored(uint16_t *shorts, uint32_t *words, uint64_t *numbers, uint8_t *bytes, double *doubles)
 {
     tankcurve_version();
     tankcurve_evaluate(shorts, 1, shorts, 1, 0, 1, numbers, TANKCURVE_ROW_LEN);
@@ -22,6 +22,7 @@ void ignored(uint16_t *shorts, uint32_t *words, uint64_t *numbers, uint8_t *byte
     tankcurve_read(bytes, 1, shorts, 1, shorts, 1, shorts, 1, words, 1, numbers, TANKCURVE_COUNTS_LEN);
     tankcurve_text(bytes, 1, bytes, TANKCURVE_MAX_OUTPUT);
     tankcurve_refusal_text(1, 0, bytes, TANKCURVE_MAX_OUTPUT);
+    tankcurve_doubles(0, 0, doubles, TANKCURVE_DOUBLES_LEN);
     tankcurve_first_at_most(shorts, 1, shorts, 1, shorts, 1, words, 1, 0, numbers, TANKCURVE_POSITION_LEN);
     tankcurve_decisive(shorts, 1, shorts, 1, 0, 1, 0, numbers, TANKCURVE_POSITION_LEN);
     tankcurve_neighbours(shorts, 1, shorts, 1, shorts, 1, 1, words, 1, numbers, TANKCURVE_ROW_LEN);

@@ -1,6 +1,12 @@
 //! Drops the answer of every call over slices. tests/link compiles it and wants a warning for each.
 
-pub fn ignored(shorts: &mut [u16], words: &mut [u32], numbers: &mut [u64], bytes: &mut [u8]) {
+pub fn ignored(
+    shorts: &mut [u16],
+    words: &mut [u32],
+    numbers: &mut [u64],
+    bytes: &mut [u8],
+    doubles: &mut [f64],
+) {
     tankcurve::version();
     tankcurve::slices::version();
     tankcurve::slices::number(8);
@@ -21,6 +27,7 @@ pub fn ignored(shorts: &mut [u16], words: &mut [u32], numbers: &mut [u64], bytes
     tankcurve::slices::decisive(&[], &[], 0, 1, 0, numbers);
     tankcurve::slices::neighbours(&[], &[], &[0], 1, words, numbers);
     tankcurve::slices::biweight(&[], &[], 0, numbers);
+    tankcurve::slices::doubles(0, 0, doubles);
     // The other calls give a `Result`, of which the language says the same.
     tankcurve::RunningSums::default().row(0, 1);
 }

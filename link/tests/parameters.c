@@ -384,6 +384,49 @@ static void neighbours(void)
     same_list("neighbours, bandwidths of all", bandwidths, widths_of_all, sizeof widths_of_all);
 }
 
+/* Numbers about the places where a cell changes, compared as they are in memory: -0 and 0 differ there. */
+static void doubles(void)
+{
+    const struct {
+        uint64_t weight, number, used;
+        double first, second;
+    } asked[] = {
+        {0, 0, 0, 90.5, 91.5},
+        {0, 9, 0, 90.5, 91.5},
+        {0, UINT64_MAX, 0, 90.5, 91.5},
+        {5, 0, 1, 0.0, 91.5},
+        {5, 3, 1, 3.0, 91.5},
+        {5, UINT64_C(4294967295), 1, 4294967295.0, 91.5},
+        {5, UINT64_C(4294967296), 1, 4294967296.0, 91.5},
+        {5, UINT64_C(9007199254740991), 1, 9007199254740991.0, 91.5},
+        {5, UINT64_C(9007199254740992), 2, 9007199254740992.0, 0.0},
+        {5, UINT64_C(9007199254740993), 2, 9007199254740992.0, 1.0},
+        {5, TANKCURVE_MAX_SUM, 2, 288225978105200640.0, 0.0},
+        {5, UINT64_C(18034464286310400000), 2, 18034464283156283392.0, 3154116608.0},
+        {UINT64_MAX, UINT64_MAX, 2, 18446744069414584320.0, 4294967295.0},
+    };
+    for (size_t k = 0; k < sizeof asked / sizeof *asked; k++) {
+        const double after[] = {asked[k].first, asked[k].second, 92.5};
+        double list[] = {90.5, 91.5, 92.5};
+        same("doubles", tankcurve_doubles(asked[k].weight, asked[k].number, list, TANKCURVE_DOUBLES_LEN), TANKCURVE_DETAIL_UNIT * asked[k].used);
+        same_list("doubles, list", list, after, sizeof after);
+        same("doubles, number", asked[k].used < 2 || (uint64_t)list[TANKCURVE_DOUBLES_HIGH] + (uint64_t)list[TANKCURVE_DOUBLES_LOW] == asked[k].number, 1);
+    }
+    const double before[] = {90.5, 91.5, 92.5};
+    double list[] = {90.5, 91.5, 92.5};
+    same("doubles, a longer list", tankcurve_doubles(5, 3, list, TANKCURVE_DOUBLES_LEN + 1), TANKCURVE_LENGTH_MISMATCH);
+    same("doubles, a shorter list", tankcurve_doubles(5, 3, list, TANKCURVE_DOUBLES_LEN - 1), TANKCURVE_LENGTH_MISMATCH);
+    same_list("doubles, list of a refusal", list, before, sizeof before);
+    /* Doubles that are not numbers, each with bits of its own: unused ones keep them. */
+    const uint64_t bits[] = {UINT64_C(0x7ff80000deadbeef), UINT64_C(0xfff0000000000001)};
+    const uint64_t three[] = {UINT64_C(0x4008000000000000), UINT64_C(0xfff0000000000001)};
+    memcpy(list, bits, sizeof bits);
+    same("doubles, none used of no numbers", tankcurve_doubles(0, 3, list, TANKCURVE_DOUBLES_LEN), 0);
+    same_list("doubles, no numbers", list, bits, sizeof bits);
+    same("doubles, one used of no numbers", tankcurve_doubles(5, 3, list, TANKCURVE_DOUBLES_LEN), TANKCURVE_DETAIL_UNIT);
+    same_list("doubles, a number and none", list, three, sizeof three);
+}
+
 static void fill(void)
 {
     const uint16_t points_before[] = {90, 91, 92};
@@ -549,6 +592,7 @@ int main(void)
     first_at_most();
     decisive();
     neighbours();
+    doubles();
     fill();
     read();
     text();

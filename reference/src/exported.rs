@@ -27,3 +27,6 @@ pub const NO_POSITION: u64 = u64::MAX;
 
 /// The numbers of a parting: the mark's position, left and right.
 pub const PARTING: usize = 3;
+
+/// The doubles that a weight or a sum is stored in.
+pub const DOUBLES: usize = 2;

@@ -7,6 +7,7 @@
 //! docs/SPECIFICATION.md that its code follows.
 
 mod biweight;
+mod doubles;
 pub mod exported;
 pub mod generators;
 mod limit;
@@ -14,6 +15,7 @@ mod neighbours;
 pub mod pair;
 
 pub use biweight::{biweight, BIWEIGHT_HALF};
+pub use doubles::{cell, pattern, row_cells, whole, Cell, LOW_PART, ONE_DOUBLE};
 pub use limit::{decisive, first_at_most};
 pub use neighbours::neighbours;
 

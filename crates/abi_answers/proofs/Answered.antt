@@ -1,4 +1,4 @@
--- An answer as one number, and a lent list as its numbers: what both are, by what the call below was met as.
+-- An answer as one number, and a lent list as its elements: what both are, by what the call below was met as.
 use Prim.Native.Nat.{ℕ, _*_, _%_, _≤_, zero-le}
 use mathlib.Core.Path.{_≡_, refl, sym, ap, _∙_}
 use mathlib.Core.Bool.{Bool, true, false, true≢false}
@@ -20,13 +20,13 @@ use Rattle.abi_answers.proofs.Places.{refusal-place, refusal-place-at-m
 short-same : (e : Fault) → e .place ≤ max-sheet → short e ≡ e
 short-same e l = rw (mod-eq-of-lt {n = e .place} {m = place-limit} (omega arith)) refl
 
--- as many numbers as the list has are stored
-pub same-length-replaced : (ys xs : List ℕ) → length xs ≡ length ys → replaced ys xs ≡ ys
+-- as many elements as the list has are stored
+pub same-length-replaced : {B : Type 0} (ys xs : List B) → length xs ≡ length ys → replaced ys xs ≡ ys
 unfolding replaced
 same-length-replaced ys xs e = rw (eq-eqb (length xs) (length ys) e)
 
 -- another number of them is not
-pub other-length-stays : (ys xs : List ℕ) → (length xs ≡ length ys → ⊥) → xs ≡ replaced ys xs
+pub other-length-stays : {B : Type 0} (ys xs : List B) → (length xs ≡ length ys → ⊥) → xs ≡ replaced ys xs
 unfolding replaced
 other-length-stays ys xs e = rw (ne-eqb (length xs) (length ys) e)
 
@@ -47,10 +47,10 @@ module _ {E A : Type 0} (tell : E → Answer A) (r x : E) (met : r ≡ x) (a : A
         ∙ ap code (short-same (fault-of f) (refusal-place-at-most a (fault-of f) (sym no ∙ answer-is) small))
         ∙ ap (answered detail) (sym no ∙ answer-is)
 
-  pub refused-stays : refuses (tell x) ≡ true → (numbers : A → List ℕ) (xs : List ℕ) → xs ≡ stored numbers a xs
-  refused-stays so numbers xs = by (tell x) so ∙ ap (λ (o : Answer A). stored numbers o xs) answer-is
+  pub refused-stays : {B : Type 0} → refuses (tell x) ≡ true → (elements : A → List B) (xs : List B) → xs ≡ stored elements a xs
+  refused-stays so elements xs = by (tell x) so ∙ ap (λ (o : Answer A). stored elements o xs) answer-is
     where
-      by : (o : Answer A) → refuses o ≡ true → xs ≡ stored numbers o xs
+      by : (o : Answer A) → refuses o ≡ true → xs ≡ stored elements o xs
       by (refused e) q = refl
       by (given b) q = absurd (true≢false (sym q))
 
@@ -61,10 +61,10 @@ module _ {E A : Type 0} (tell : E → Answer A) (r x : E) (met : r ≡ x) (a : A
       by (refused e) q = absurd (true≢false q)
       by (given b) q = refl
 
-  pub accepted-stored : (b : A) → tell x ≡ given b → (numbers : A → List ℕ) (xs ys : List ℕ) → ys ≡ replaced (numbers b) xs
-      → length xs ≡ length (numbers b) → ys ≡ stored numbers a xs
-  accepted-stored b so numbers xs ys e l =
-      e ∙ same-length-replaced (numbers b) xs l ∙ ap (λ (o : Answer A). stored numbers o xs) (sym so ∙ answer-is)
+  pub accepted-stored : {B : Type 0} (b : A) → tell x ≡ given b → (elements : A → List B) (xs ys : List B) → ys ≡ replaced (elements b) xs
+      → length xs ≡ length (elements b) → ys ≡ stored elements a xs
+  accepted-stored b so elements xs ys e l =
+      e ∙ same-length-replaced (elements b) xs l ∙ ap (λ (o : Answer A). stored elements o xs) (sym so ∙ answer-is)
 
 pub accepted-number : {E : Type 0} (tell : E → Answer ℕ) (r x : E) → r ≡ x → (a : Answer ℕ) → tell r ≡ a → (n : ℕ) → tell x ≡ given n
     → detail-unit * n ≡ answered (λ (k : ℕ). k) a
@@ -74,7 +74,7 @@ accepted-number tell r x met a answer n so = ap (answered (λ (k : ℕ). k)) (sy
 abbrev pub uneven : Fault
 uneven = record { number = 8; place = 0 }
 
-module _ {A : Type 0} (n : ℕ) (xs : List ℕ) (a : Answer A) (other : length xs ≡ n → ⊥) where
+module _ {A B : Type 0} (n : ℕ) (xs : List B) (a : Answer A) (other : length xs ≡ n → ⊥) where
   pub other-size : refused uneven ≡ sized n xs a
   unfolding sized
   other-size = rw (ne-eqb (length xs) n other)
@@ -85,34 +85,34 @@ module _ {A : Type 0} (n : ℕ) (xs : List ℕ) (a : Answer A) (other : length x
   pub other-code : 8 ≡ answered no-detail (sized n xs a)
   other-code = other-detail no-detail
 
-  pub other-stays : (numbers : A → List ℕ) (ys : List ℕ) → ys ≡ stored numbers (sized n xs a) ys
-  other-stays numbers ys = ap (λ (o : Answer A). stored numbers o ys) other-size
+  pub other-stays : {C : Type 0} (elements : A → List C) (ys : List C) → ys ≡ stored elements (sized n xs a) ys
+  other-stays elements ys = ap (λ (o : Answer A). stored elements o ys) other-size
 
 -- at the right length the call below decides
-pub right-size : {A : Type 0} (n : ℕ) (xs : List ℕ) → length xs ≡ n → (a : Answer A) → a ≡ sized n xs a
+pub right-size : {A B : Type 0} (n : ℕ) (xs : List B) → length xs ≡ n → (a : Answer A) → a ≡ sized n xs a
 unfolding sized
 right-size n xs right a = rw (eq-eqb (length xs) n right)
 
-pub sized-answer : {E A : Type 0} (tell : E → Answer A) (r : E) (a : Answer A) → tell r ≡ a → (n : ℕ) (xs : List ℕ) → length xs ≡ n
+pub sized-answer : {E A : Type 0} (tell : E → Answer A) (r : E) (a : Answer A) → tell r ≡ a → {B : Type 0} (n : ℕ) (xs : List B) → length xs ≡ n
     → tell r ≡ sized n xs a
 sized-answer tell r a answer n xs right = answer ∙ right-size n xs right a
 
 -- two lists of set length: the second is looked at where the first is right
-module _ {A : Type 0} (n : ℕ) (xs : List ℕ) (right : length xs ≡ n) (m : ℕ) (ys : List ℕ) (a : Answer A) where
+module _ {A B C : Type 0} (n : ℕ) (xs : List B) (right : length xs ≡ n) (m : ℕ) (ys : List C) (a : Answer A) where
   second-size : sized m ys a ≡ sized n xs (sized m ys a)
   second-size = right-size n xs right (sized m ys a)
 
   pub second-other-code : (length ys ≡ m → ⊥) → 8 ≡ answered no-detail (sized n xs (sized m ys a))
   second-other-code other = other-code m ys a other ∙ ap (answered no-detail) second-size
 
-  pub second-other-stays : (length ys ≡ m → ⊥) → (numbers : A → List ℕ) → ys ≡ stored numbers (sized n xs (sized m ys a)) ys
-  second-other-stays other numbers = other-stays m ys a other numbers ys ∙ ap (λ (o : Answer A). stored numbers o ys) second-size
+  pub second-other-stays : (length ys ≡ m → ⊥) → (elements : A → List C) → ys ≡ stored elements (sized n xs (sized m ys a)) ys
+  second-other-stays other elements = other-stays m ys a other elements ys ∙ ap (λ (o : Answer A). stored elements o ys) second-size
 
   pub both-sizes : length ys ≡ m → a ≡ sized n xs (sized m ys a)
   both-sizes right-too = right-size m ys right-too a ∙ second-size
 
 -- a list of another length is refused at 0
-pub sized-place : {A : Type 0} (n : ℕ) (xs : List ℕ) (a : Answer A) → refusal-place a ≤ max-sheet → refusal-place (sized n xs a) ≤ max-sheet
+pub sized-place : {A B : Type 0} (n : ℕ) (xs : List B) (a : Answer A) → refusal-place a ≤ max-sheet → refusal-place (sized n xs a) ≤ max-sheet
 unfolding sized
 sized-place n xs a l = by (eqb (length xs) n)
   where

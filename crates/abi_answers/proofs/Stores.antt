@@ -1,4 +1,4 @@
--- A list all of whose numbers are stored anew is the new ones. A record stored as numbers is read back as it was.
+-- A list all of whose elements are stored anew is the new ones. A record stored as numbers is read back as it was.
 use Prim.Native.Nat.{ℕ, _+_}
 use mathlib.Core.Path.{_≡_, refl, sym, ap, _∙_}
 use mathlib.Core.List.{List, _++_, append-nil}
@@ -11,14 +11,14 @@ use Rattle.meanings.specs.Running.{fresh}
 use Rattle.abi_answers.specs.Answers.{replaced, record-numbers, record-of, record-length, record-in}
 use Rattle.abi_answers.proofs.Answered.{same-length-replaced}
 
-all-stored : (ys xs : List ℕ) → length xs ≡ length ys → sets xs 0 ys ≡ ys
-all-stored ys xs e =
+all-stored : {B : Type 0} (ys xs : List B) → length xs ≡ length ys → sets xs 0 ys ≡ ys
+all-stored {B} ys xs e =
     sets-eq ys xs 0 (omega arith)
-    ∙ ap (λ (rest : List ℕ). (take 0 xs ++ ys) ++ rest) (drop-of-length-le xs {i = 0 + length ys} (omega arith))
+    ∙ ap (λ (rest : List B). (take 0 xs ++ ys) ++ rest) (drop-of-length-le xs {i = 0 + length ys} (omega arith))
     ∙ append-nil ys
 
--- so the numbers that a list is to hold are stored one by one
-pub stored-replaced : (ys xs : List ℕ) → length xs ≡ length ys → sets xs 0 ys ≡ replaced ys xs
+-- so the elements that a list is to hold are stored one by one
+pub stored-replaced : {B : Type 0} (ys xs : List B) → length xs ≡ length ys → sets xs 0 ys ≡ replaced ys xs
 stored-replaced ys xs e = all-stored ys xs e ∙ sym (same-length-replaced ys xs e)
 
 -- so a list of exported steps is a list of steps on records, and demand 3 is said of it too

@@ -10,17 +10,17 @@ use Rattle.meanings.specs.Reports.{Fault, Answer, given, refused}
 use Rattle.meanings.specs.Running.{fresh}
 use Rattle.meanings.specs.Calls.{Counts}
 
--- a list that must have n numbers is looked at before all else: another length gets 8 at place 0
-unfoldable pub sized : {A : Type 0} → ℕ → List ℕ → Answer A → Answer A
+-- a list that must have n elements is looked at before all else: another length gets 8 at place 0
+unfoldable pub sized : {A B : Type 0} → ℕ → List B → Answer A → Answer A
 sized n xs a = pick (eqb (length xs) n) a (refused (record { number = 8; place = 0 }))
 
--- a lent list at exit: the numbers of an accepted call's answer, or what it held
-abbrev pub stored : {A : Type 0} → (A → List ℕ) → Answer A → List ℕ → List ℕ
-stored numbers (given a) xs = numbers a
-stored numbers (refused e) xs = xs
+-- a lent list at exit: the elements of an accepted call's answer, or what it held
+abbrev pub stored : {A B : Type 0} → (A → List B) → Answer A → List B → List B
+stored elements (given a) xs = elements a
+stored elements (refused e) xs = xs
 
--- a lent list in which as many numbers as it has are stored; another number of them is not stored
-unfoldable pub replaced : List ℕ → List ℕ → List ℕ
+-- a lent list in which as many elements as it has are stored; another number of them is not stored
+unfoldable pub replaced : {B : Type 0} → List B → List B → List B
 replaced ys xs = pick (eqb (length xs) (length ys)) ys xs
 
 -- places that a code of 64 bits can hold lie below this

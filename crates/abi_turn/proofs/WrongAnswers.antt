@@ -13,7 +13,7 @@ use Rattle.meanings.specs.Codes.{answered, no-detail}
 use Rattle.abi_answers.specs.Answers.{sized, stored, record-length, record-numbers, record-of}
 
 -- a record of eight numbers, as before it had passes
-pub no-turn-of-eight-numbers : (a : Answer RunningSums) → ¬ (0 ≡ answered no-detail (sized record-length (replicate 8 0) a))
+pub no-turn-of-eight-numbers : (a : Answer RunningSums) → ¬ (0 ≡ answered no-detail (sized {B = ℕ} record-length (replicate 8 0) a))
 unfolding sized
 no-turn-of-eight-numbers a q = let z : _≡_ {A = ℕ} 0 8 = q in omega arith
 

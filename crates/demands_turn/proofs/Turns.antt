@@ -83,12 +83,12 @@ module _ (xs ts vs : List ℕ) (z h : ℕ) where
       (first-numbered (length-first record-length xs (turn-conditions ts vs (record-of xs .left) (record-of xs .right) h)) refl) turn-exactly
 
 -- a turn of nine numbers is the turn of their record
-record NumbersTurn (xs ts vs : List ℕ) (z h c : ℕ) (xs′ : List ℕ) : Type 0 where
-  nine : length xs′ ≡ record-length
-  turns-record : record-of xs′ ≡ turn-record ts vs (record-of xs) z h
-  tells : code-refusal c ≡ turn-refusal ts vs (record-of xs) h
+pub record NumbersTurn (xs ts vs : List ℕ) (z h c : ℕ) (xs′ : List ℕ) : Type 0 where
+  pub nine : length xs′ ≡ record-length
+  pub turns-record : record-of xs′ ≡ turn-record ts vs (record-of xs) z h
+  pub tells : code-refusal c ≡ turn-refusal ts vs (record-of xs) h
 
-numbers-turn : (xs ts vs : List ℕ) (z h c : ℕ) (xs′ : List ℕ) → length xs ≡ record-length → ExportedTurn xs ts vs z h c xs′ → NumbersTurn xs ts vs z h c xs′
+pub numbers-turn : (xs ts vs : List ℕ) (z h c : ℕ) (xs′ : List ℕ) → length xs ≡ record-length → ExportedTurn xs ts vs z h c xs′ → NumbersTurn xs ts vs z h c xs′
 numbers-turn xs ts vs z h c xs′ e k =
     let t = turn-answer ts vs (record-of xs) z h in
     let o = opened xs t e in

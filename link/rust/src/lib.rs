@@ -39,9 +39,9 @@ pub use row::{Estimate, NoEstimate, RecordRow, Rows};
 /// of the linked archive.
 ///
 /// ```
-/// assert_eq!(tankcurve::VERSION, 0x02_05_00);
+/// assert_eq!(tankcurve::VERSION, 0x02_06_00);
 /// ```
-pub const VERSION: u32 = 0x02_05_00;
+pub const VERSION: u32 = 0x02_06_00;
 
 /// How many samples ("readings") there may be, and how many places the reader's lists of them have.
 ///
@@ -339,6 +339,39 @@ pub struct Crossing {
     pub point: Option<usize>,
     /// The passes up to and with that point; where there is none, those of all points.
     pub passes: u64,
+}
+
+/// A weight or a sum for a spreadsheet, whose cells are doubles. Each double here is exactly a whole number.
+///
+/// The number is had back by adding whole numbers, not doubles: 2^53 and 1 give 2^53 as doubles.
+///
+/// ```
+/// # fn main() -> Result<(), tankcurve::Error> {
+/// use tankcurve::Cell;
+/// let number = match tankcurve::doubles(5, 9_007_199_254_740_993)? {
+///     Cell::Empty => 0,
+///     Cell::One(double) => double as u64,
+///     Cell::Pair { high, low } => high as u64 + low as u64,
+/// };
+/// assert_eq!(number, 9_007_199_254_740_993);
+/// assert_eq!(9_007_199_254_740_992.0 + 1.0, 9_007_199_254_740_992.0);
+/// # Ok(())
+/// # }
+/// ```
+#[derive(Clone, Copy, Debug, PartialEq)]
+#[must_use]
+pub enum Cell {
+    /// The row has no weight; the number counts as 0.
+    Empty,
+    /// A number below 2^53.
+    One(f64),
+    /// A number from 2^53 on.
+    Pair {
+        /// The number less its remainder by 2^32.
+        high: f64,
+        /// That remainder.
+        low: f64,
+    },
 }
 
 /// The version of the linked archive.
@@ -748,6 +781,38 @@ pub fn refusal_text(refusal: Refusal, out: &mut [u8; MAX_OUTPUT]) -> Result<&[u8
     let answer = slices::refusal_text(refusal.report.number(), refusal.place, out);
     let length = report::outcome(answer)?;
     part(out, [0, length]).ok_or(Error::Unknown(answer))
+}
+
+/// A weight or a sum of a row as doubles. `weight` is the row's, also where `number` is the sum; no number is
+/// refused.
+///
+/// A row of readings has no sum without weight. Of a row of any other origin a sum above 0 with weight 0 is
+/// lost: its cell is empty, too.
+///
+/// ```
+/// # fn main() -> Result<(), tankcurve::Error> {
+/// use tankcurve::Cell;
+/// let row = tankcurve::evaluate(&[10, 20, 20, 35], &[40, 60, 80, 20], 20, 10)?;
+/// assert_eq!(tankcurve::doubles(row.weight(), row.weight())?, Cell::One(200.0));
+/// assert_eq!(tankcurve::doubles(row.weight(), row.sum())?, Cell::One(14_000.0));
+/// // By the weight and never by the number.
+/// assert_eq!(tankcurve::doubles(5, 0)?, Cell::One(0.0));
+/// assert_eq!(tankcurve::doubles(0, 0)?, Cell::Empty);
+/// let (high, low) = (9_007_199_254_740_992.0, 0.0);
+/// assert_eq!(tankcurve::doubles(5, 9_007_199_254_740_992)?, Cell::Pair { high, low });
+/// # Ok(())
+/// # }
+/// ```
+pub fn doubles(weight: u64, number: u64) -> Result<Cell, Error> {
+    let mut doubles = [0.0; 2];
+    let answer = slices::doubles(weight, number, &mut doubles);
+    let [high, low] = doubles;
+    match report::outcome(answer)? {
+        0 => Ok(Cell::Empty),
+        1 => Ok(Cell::One(high)),
+        2 => Ok(Cell::Pair { high, low }),
+        _ => Err(Error::Unknown(answer)),
+    }
 }
 
 /// What a call has found in a list: a position of it, or none; nothing where it is neither.

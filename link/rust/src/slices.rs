@@ -229,6 +229,13 @@ mod exports {
             rows_len: usize,
         ) -> u64;
 
+        pub fn tankcurve_doubles(
+            weight: u64,
+            number: u64,
+            doubles: *mut f64,
+            doubles_len: usize,
+        ) -> u64;
+
         pub fn tankcurve_version() -> u32;
     }
 }
@@ -728,6 +735,19 @@ pub fn neighbours(
             rows.len(),
         )
     }
+}
+
+/// A weight or a sum of a row of this weight as doubles. `doubles`: 2, of which as many are stored as the
+/// detail says: 0 without weight, 1 below 2^53, and from there on a high part and a low part.
+///
+/// ```
+/// let mut doubles = [7.0; 2];
+/// assert_eq!(tankcurve::slices::doubles(5, 9_007_199_254_740_993, &mut doubles), 256 * 2);
+/// assert_eq!(doubles, [9_007_199_254_740_992.0, 1.0]);
+/// ```
+#[must_use]
+pub fn doubles(weight: u64, number: u64, doubles: &mut [f64]) -> u64 {
+    unsafe { exports::tankcurve_doubles(weight, number, doubles.as_mut_ptr(), doubles.len()) }
 }
 
 /// The version of the linked archive, which is no answer: it has neither number nor detail.

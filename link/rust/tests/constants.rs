@@ -121,6 +121,8 @@ fn lengths() {
             slices::compare(&[], &[], &[], &[], &[0], &[1], parting),
             answer
         );
+        let doubles = &mut vec![0.0; length(2)];
+        assert_eq!(slices::number(slices::doubles(5, 3, doubles)), answer);
         let out = &mut vec![0; length(MAX_OUTPUT)];
         assert_eq!(slices::number(slices::refusal_text(1, 2, out)), answer);
         assert_eq!(slices::number(slices::text(HEAD.as_bytes(), out)), answer);

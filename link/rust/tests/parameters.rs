@@ -5,7 +5,7 @@
 
 use tankcurve::slices::{self, DETAIL_UNIT};
 use tankcurve::{
-    Counts, Error, Parting, RecordRow, Refusal, Report, RunningSums, Tank, MAX_OUTPUT,
+    Cell, Counts, Error, Parting, RecordRow, Refusal, Report, RunningSums, Tank, MAX_OUTPUT,
     PREVIEW_MAX_SAMPLES, ROW_WIDTH,
 };
 
@@ -767,4 +767,62 @@ fn neighbours() {
     let refusal = tankcurve::neighbours(&MINUTES, &VALUES, &points, 7, &mut bandwidths, &mut lent);
     assert_eq!(refusal.map(|_| ()), refused(Report::TooFewSamples, 0));
     assert_eq!((bandwidths, lent), ([2, 7, 8, 11, 11, 20], rows));
+}
+
+/// Numbers about the places where a cell changes, as weight and as sum, by their bit patterns.
+#[test]
+fn doubles() {
+    let stored = |weight, number| {
+        let mut doubles = [90.5, 91.5, 92.5];
+        let answer = slices::doubles(weight, number, &mut doubles[..2]);
+        (answer, doubles.map(f64::to_bits))
+    };
+    let bits = |used: u64, first: f64, second: f64| {
+        (DETAIL_UNIT * used, [first, second, 92.5].map(f64::to_bits))
+    };
+    for number in [0, 1, 9, 1 << 53, u64::MAX] {
+        assert_eq!(stored(0, number), bits(0, 90.5, 91.5));
+        assert_eq!(tankcurve::doubles(0, number), Ok(Cell::Empty));
+    }
+    for (number, double) in [
+        (0, 0.0),
+        (3, 3.0),
+        ((1 << 32) - 1, 4_294_967_295.0),
+        (1 << 32, 4_294_967_296.0),
+        ((1 << 53) - 1, 9_007_199_254_740_991.0),
+    ] {
+        assert_eq!(stored(5, number), bits(1, double, 91.5));
+        assert_eq!(tankcurve::doubles(5, number), Ok(Cell::One(double)));
+    }
+    for (number, high, low) in [
+        (1 << 53, 9_007_199_254_740_992.0, 0.0),
+        ((1 << 53) + 1, 9_007_199_254_740_992.0, 1.0),
+        ((1 << 58) - (1 << 42), 288_225_978_105_200_640.0, 0.0),
+        (
+            18_034_464_286_310_400_000,
+            18_034_464_283_156_283_392.0,
+            3_154_116_608.0,
+        ),
+        (u64::MAX, 18_446_744_069_414_584_320.0, 4_294_967_295.0),
+    ] {
+        assert_eq!(stored(5, number), bits(2, high, low));
+        assert_eq!(stored(u64::MAX, number), bits(2, high, low));
+        let pair = tankcurve::doubles(5, number);
+        assert_eq!(pair, Ok(Cell::Pair { high, low }));
+        assert_eq!(high as u64 + low as u64, number);
+    }
+    // The weight is not the number.
+    assert_eq!(stored(3, 0), bits(1, 0.0, 91.5));
+    assert_eq!(stored(0, 3), bits(0, 90.5, 91.5));
+    let mut long = [90.5; 3];
+    assert_eq!(slices::doubles(5, 3, &mut long), 8);
+    assert_eq!(slices::doubles(0, 3, &mut long[..1]), 8);
+    assert_eq!(long, [90.5; 3]);
+    // Doubles that are not numbers, each with bits of its own: unused ones keep them.
+    let bits = [0x7ff8_0000_dead_beef, 0xfff0_0000_0000_0001];
+    let mut list = bits.map(f64::from_bits);
+    assert_eq!(slices::doubles(0, 3, &mut list), 0);
+    assert_eq!(list.map(f64::to_bits), bits);
+    assert_eq!(slices::doubles(5, 3, &mut list), DETAIL_UNIT);
+    assert_eq!(list.map(f64::to_bits), [3f64.to_bits(), bits[1]]);
 }

@@ -28,9 +28,10 @@ pub enum Program {
     Neighbours,
     Pair,
     Biweight,
+    Doubles,
 }
 
-const PROGRAMS: [(Program, &str); 8] = [
+const PROGRAMS: [(Program, &str); 9] = [
     (Program::Point, "vectors_point"),
     (Program::Sweep, "vectors_sweep"),
     (Program::Sheet, "vectors_sheet"),
@@ -39,10 +40,11 @@ const PROGRAMS: [(Program, &str); 8] = [
     (Program::Neighbours, "vectors_neighbours"),
     (Program::Pair, "vectors_pair"),
     (Program::Biweight, "vectors_biweight"),
+    (Program::Doubles, "vectors_doubles"),
 ];
 
 /// Each call, and what it can answer.
-const REPORTS: [(&str, &[u64]); 16] = [
+const REPORTS: [(&str, &[u64]); 18] = [
     ("evaluate", &[8, 6, 4, 9, 0]),
     ("window", &[8, 6, 4, 9, 0]),
     ("advance", &[8, 6, 11, 9, 0]),
@@ -59,6 +61,8 @@ const REPORTS: [(&str, &[u64]); 16] = [
     ("neighbours", &[8, 6, 7, 4, 5, 14, 0]),
     ("compare", &[8, 6, 7, 4, 5, 9, 10, 16, 0]),
     ("biweight", &[8, 6, 4, 0]),
+    ("doubles", &[8, 0]),
+    ("row_cells", &[0]),
 ];
 
 /// What a call gave: its answer and its lent lists.

@@ -1,6 +1,6 @@
 //! The cases of the gate's programs `vectors_point`, `vectors_sweep`,
-//! `vectors_sheet`, `vectors_text`, `vectors_limit`, `vectors_neighbours`, `vectors_pair` and
-//! `vectors_biweight`, and what each has to write for them.
+//! `vectors_sheet`, `vectors_text`, `vectors_limit`, `vectors_neighbours`, `vectors_pair`,
+//! `vectors_biweight` and `vectors_doubles`, and what each has to write for them.
 //!
 //! `gate_vectors crates` writes stdin and stdout of each program into its
 //! folder below `crates`, always the same. The answers are the second
@@ -46,14 +46,18 @@
 //!
 //! vectors_biweight
 //! 1 biweight(minutes, values, point, row*)                 the biweight row at one mark
+//!
+//! vectors_doubles
+//! 1 doubles(weight, number, doubles*)                      a weight or a sum as doubles
+//! 2 row_cells(row)                                         both of a row, by the call that takes a row
 //! ```
 //!
 //! An answer is a number and a detail. Number 0 is accepted, with the passes
 //! of a sweep or a preview or up to the mark that answers, the bytes of a text, the
-//! higher of two tanks, else 0 as detail; 1 to 14, or 16, is a report, with its
-//! place. The lists for a row, bounds, a record, counts, a position and a parting
-//! have one length only (`ROW_WIDTH`, `BOUNDS`, `RECORD`, `COUNTS`, `ANSWER`, `PARTING`), and
-//! out has `MOST_OUTPUT` bytes.
+//! higher of two tanks, how many doubles are used, else 0 as detail; 1 to 14, or 16, is
+//! a report, with its place. The lists for a row, bounds, a record, counts, a position, a
+//! parting and doubles have one length only (`ROW_WIDTH`, `BOUNDS`, `RECORD`, `COUNTS`,
+//! `ANSWER`, `PARTING`, `DOUBLES`), and out has `MOST_OUTPUT` bytes.
 //! Another length of these is report 8 at place 0, before any other. A refused
 //! sheet has no curve: text then answers with the sheet's report, and
 //! refusal_text writes the text of any number and place.
@@ -85,12 +89,14 @@
 //! vectors_pair    1 MINUTES VALUES MINUTES VALUES POINTS BANDWIDTHS length-of-out
 //!                 2 MINUTES VALUES point bandwidth
 //! vectors_biweight   1 MINUTES VALUES point length-of-row
+//! vectors_doubles 1 weight number length-of-doubles
+//!                 2 left right weight sum value
 //! ```
 //!
 //! The bytes of a sheet stand as they are, up to the end of the case. There are
 //! at most 1,100 minutes, values, points or bandwidths, 2,600 rows, 16 numbers
-//! of a record, 8 of a row, bounds, counts, a position or a parting, 31,300 bytes of out,
-//! 40,000 bytes of a case and 100,000 cases.
+//! of a record, 8 of a row, bounds, counts, a position, a parting or doubles, 31,300 bytes of
+//! out, 40,000 bytes of a case and 100,000 cases.
 //!
 //! # Standard output
 //!
@@ -98,12 +104,15 @@
 //! call, whole, a line each. A list is written as runs of equal elements, each
 //! `VALUE` or, for more than one, `VALUE*COUNT`, and a space behind each run.
 //! Before the call a lent list holds 7 everywhere, except the record of a step,
-//! which the case gives. For an accepted text the bytes written stand as they are before
+//! which the case gives. Doubles are written by their bit patterns, and hold 7 as a double
+//! before the call; of a row the doubles of its weight and then those of its sum are
+//! written, as two lists. For an accepted text the bytes written stand as they are before
 //! the line of out's other bytes. A run that is handed back has a line with its
 //! length, as an answer's number and detail, and one with its values.
 
 mod biweight;
 mod calls;
+mod doubles;
 mod draws;
 mod files;
 mod limit;
@@ -129,6 +138,7 @@ fn all() -> Cases {
     neighbours::cases(&mut cases);
     pair::cases(&mut cases);
     biweight::cases(&mut cases);
+    doubles::cases(&mut cases);
     let random = &mut Random(1);
     point::random_cases(random, &mut cases);
     sweep::random_cases(random, &mut cases);
@@ -138,6 +148,7 @@ fn all() -> Cases {
     neighbours::random_cases(&mut cases);
     pair::random_cases(&mut Random(12), &mut cases);
     biweight::random_cases(&mut cases);
+    doubles::random_cases(&mut Random(11), &mut cases);
     cases
 }
 

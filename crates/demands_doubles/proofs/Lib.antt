@@ -1,0 +1,4 @@
+pub mod Biweight
+pub mod Doubles
+pub mod Neighbours
+pub mod Rows

@@ -1,0 +1,3 @@
+pub mod Biweight
+pub mod Doubles
+pub mod Neighbours
