@@ -115,3 +115,41 @@ fn run_and_reports_of_the_question_at_720() {
         assert_eq!(soft[4] == MISSING, plain[4] == MISSING);
     }
 }
+
+/// The sample sheets of `examples/`: at these marks the softer value beside that of half width 720.
+#[test]
+fn softer_curves_of_two_lagers() {
+    for (name, expected) in [
+        (
+            "even-fall",
+            [
+                (13_680, 1340, 1340),
+                (13_920, 962, 957),
+                (14_400, 942, 941),
+                (14_880, 935, 937),
+                (15_120, 920, 917),
+            ],
+        ),
+        (
+            "afternoon",
+            [
+                (13_680, 1340, 1340),
+                (13_920, 918, 923),
+                (14_400, 938, 939),
+                (14_880, 945, 943),
+                (15_120, 962, 969),
+            ],
+        ),
+    ] {
+        let path = format!("{}/../examples/{name}.sheet", env!("CARGO_MANIFEST_DIR"));
+        let sheet = std::fs::read(path).unwrap();
+        let (mut minutes, mut values) = ([0; 1024], [0; 1024]);
+        let (mut marks, mut halves) = ([0; 512], [0; 512]);
+        let counts = read(&sheet, &mut minutes, &mut values, &mut marks, &mut halves);
+        let (m, v) = (&minutes[..counts.unwrap().0], &values[..counts.unwrap().0]);
+        for (mark, soft, plain) in expected {
+            assert_eq!(biweight(m, v, mark).unwrap()[4], soft);
+            assert_eq!(one_mark(m, v, mark, BIWEIGHT_HALF).unwrap()[4], plain);
+        }
+    }
+}

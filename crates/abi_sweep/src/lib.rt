@@ -1,12 +1,12 @@
 // The whole sweep, the preview and the mark filler, for programs in C and Rust: numbers and slices of numbers only.
 // Each answer is one number, DETAIL_UNIT × detail + report: report 0 is accepted, and the detail of a report is its place.
 use abi_answers::refusal_code;
-use estimator::preview;
-use estimator::smooth;
 use grid::fill_grid;
 use meanings::DETAIL_UNIT;
 use meanings::Filling;
 use meanings::Smoothing;
+use sweep::preview;
+use sweep::smooth;
 ghost use mathlib.Core.Path.{_≡_};
 ghost use Rattle.meanings.specs.Limits.{full, preview as small-limits};
 ghost use Rattle.meanings.specs.Calls.{smooth as smooth-meaning, smooth-rows, fill, fill-points, fill-bandwidths};

@@ -4,7 +4,7 @@ use abi_answers::refusal_code;
 use meanings::DETAIL_UNIT;
 use meanings::Writing;
 use text::curve_text;
-use text::refusal_text;
+use text_refusal::refusal_text;
 ghost use mathlib.Core.Path.{_≡_};
 ghost use Rattle.meanings.specs.Calls.{write, write-buffer, write-refusal-text, refusal-buffer};
 ghost use Rattle.meanings.specs.Codes.{answered};

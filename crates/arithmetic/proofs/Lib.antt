@@ -1,5 +1,3 @@
 pub mod OneSample
-pub mod Products
-pub mod Quotients
 pub mod TwoSums
 pub mod Wrapping

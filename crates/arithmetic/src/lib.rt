@@ -1,14 +1,10 @@
-// The estimator's arithmetic on single numbers: the six running sums with one reading more or less, and the passes with the way of an edge,
-// kept modulo 2^64, the weight or sum that three of the sums give, a row's value, and the least minute of a window. Every function takes every input.
+// The estimator's six running sums with one reading more or less, or with six others less, and the passes with the way of an edge, kept modulo 2^64. Every
+// function takes every input.
 use meanings::PowerSums;
 ghost use mathlib.Core.Path.{_≡_};
-ghost use Prim.Native.Nat.{_-_, _*_, _%_, _^_};
+ghost use Prim.Native.Nat.{_*_, _^_};
 ghost use Rattle.meanings.specs.Lists.{distance};
-ghost use Rattle.meanings.specs.Estimate.{value-of};
-ghost use Rattle.meanings.specs.Running.{six, sum-at, plus, minus, combined};
-
-// A half of 64 bits: 2^32.
-const HALF: u64 = 4294967296;
+ghost use Rattle.meanings.specs.Running.{six, sum-at, plus, minus};
 
 // All six zero.
 pub fn zero_sums() -> PowerSums
@@ -80,60 +76,4 @@ pub fn plus_travel(passes: u64, from: usize, to: usize) -> u64
         return std::num::wrapping_add_u64(passes, (to - from) as u64);
     }
     std::num::wrapping_add_u64(passes, (from - to) as u64)
-}
-
-// k × s modulo 2^64. There is no product that wraps, so the halves of s are multiplied one by one: of the upper half's product only the lower
-// 32 bits count.
-pub fn wrapping_product(k: u32, s: u64) -> u64
-    ensures { λ r. ⌜ r ≡ k * s % 2 ^ 64 ⌝ }
-{
-    let factor = k as u64;
-    let upper = s / HALF * factor % HALF * HALF;
-    let lower = s % HALF * factor;
-    std::num::wrapping_add_u64(upper, lower)
-}
-
-// The weight or the sum that three of the running sums of any record give, modulo 2^64: (h² − z²) s0 + 2 z s1 − s2.
-pub fn wrapping_combined(s0: u64, s1: u64, s2: u64, point: u16, bandwidth: u32) -> u64
-    ensures { λ r. ⌜ r ≡ combined 64 point bandwidth s0 s1 s2 ⌝ }
-{
-    let z = point as u32;
-    let wide = wrapping_product(bandwidth, s0);
-    let wide = wrapping_product(bandwidth, wide);
-    let cross = wrapping_product(z, s1);
-    let twice = std::num::wrapping_add_u64(cross, cross);
-    let gained = std::num::wrapping_add_u64(wide, twice);
-    let near = wrapping_product(z, s0);
-    let near = wrapping_product(z, near);
-    let lost = std::num::wrapping_add_u64(near, s2);
-    std::num::wrapping_sub_u64(gained, lost)
-}
-
-// A sum divided by its weight to the nearest whole number, a half to the even neighbour; 65,536 for missing if the weight is 0. The rest is held
-// against what it lacks of the weight, so that nothing is doubled.
-pub fn value(sum: u64, weight: u64) -> u64
-    ensures { λ r. ⌜ r ≡ value-of sum weight ⌝ }
-{
-    if weight == 0 {
-        return 65536;
-    }
-    let quotient = sum / weight;
-    let rest = sum % weight;
-    let lack = weight - rest;
-    if rest < lack {
-        return quotient;
-    }
-    if lack < rest {
-        return quotient + 1;
-    }
-    quotient + quotient % 2
-}
-
-// The least minute that is not under the left edge: z − h, or 0 where that is negative.
-pub fn lowest_minute(point: u16, bandwidth: u32) -> u64
-    ensures { λ r. ⌜ r ≡ point - bandwidth ⌝ }
-{
-    let z = point as u64;
-    let h = bandwidth as u64;
-    if h < z { z - h } else { 0 }
 }

@@ -1,9 +1,8 @@
 -- Both searches start at 0, so for ordered minutes they find the row's right and then its left; what is weighed between them makes the row. The call
 -- is refused for what its check finds, and else gives that row.
 use Prim.Native.Nat.{ℕ, _+_, _-_, _≤_}
-use mathlib.Core.Path.{_≡_, refl, sym, ap, _∙_}
+use mathlib.Core.Path.{_≡_, sym, ap, _∙_}
 use mathlib.Core.List.{List}
-use native.Mathlib.Nat.{le-refl}
 use native.Mathlib.Omega.{arith}
 use lib.ListN.{length}
 use Rattle.meanings.specs.declared.Estimate.{Estimate}
@@ -12,7 +11,6 @@ use Rattle.meanings.specs.declared.Refusal.{Refusal}
 use Rattle.meanings.specs.declared.Verdict.{Verdict}
 use Rattle.meanings.specs.declared.Verdict.the-variants.{Fit, Faulty}
 use Rattle.meanings.specs.Limits.{full}
-use Rattle.meanings.specs.Lists.{total, Ordered}
 use Rattle.meanings.specs.Reports.{given, refused, fault-of, verdict-fault, first-of, size-checks, sample-order-checks, series-checks}
 use Rattle.meanings.specs.Estimate.{left-of, right-of, value-of}
 use Rattle.meanings.specs.Running.{new-left}
@@ -25,7 +23,7 @@ use Rattle.meanings_biweight.specs.Biweight.{biweight-bandwidth, biweight-weigh
 use Rattle.biweight_table.specs.Table.{IsTable}
 use Rattle.biweight.specs.declared.Weighed.{Weighed}
 use Rattle.biweight.specs.Rows as rows
-use Rattle.biweight.specs.Rows.{Accepted, ShortRun, RowAt, weight-term, sum-term}
+use Rattle.biweight.specs.Rows.{Accepted, ShortRun, RowAt}
 
 pub right-within : {ts : List ℕ} {m right : ℕ} → FoundFrom ts 0 (length ts) m right → right ≤ length ts
 right-within f = found-from-start f .inside

@@ -1,16 +1,15 @@
 -- The pass over the run: before each turn weight and sum are those of the readings from the start up to i. Each weight is at most 720⁴ and each value
 -- below 2^16, so of at most 1,024 readings no sum reaches 2^64.
 use Prim.Native.Nat.{ℕ, suc, _+_, _-_, _*_, _^_, _≤_, _<_}
-use mathlib.Core.Path.{_≡_, refl, sym, ap, _∙_}
+use mathlib.Core.Path.{_≡_, ap, _∙_}
 use mathlib.Core.List.{List}
-use native.Mathlib.Nat.{le-refl, le-trans, sub-self, add-sub-of-le, mul-le-mul, mul-le-mul-left}
+use native.Mathlib.Nat.{le-refl, sub-self, add-sub-of-le, mul-le-mul-left}
 use native.Mathlib.Omega.{arith}
 use mir.Val.{Fits}
 use mir.Syntax.{w16}
-use lib.ListN.{length, getD}
-use Rattle.meanings.specs.Limits.{full, max-u16}
+use lib.ListN.{getD}
 use Rattle.meanings.specs.Lists.{distance, total}
-use Rattle.meanings_biweight.specs.Biweight.{biweight-bandwidth, biweight-at, biweight-kernel}
+use Rattle.meanings_biweight.specs.Biweight.{biweight-bandwidth, biweight-at}
 use Rattle.meanings_biweight.proofs.Bounds.{biweight-at-most}
 use Rattle.biweight.specs.Rows.{ShortRun, Weighed, weight-term, sum-term}
 

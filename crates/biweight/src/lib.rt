@@ -1,6 +1,6 @@
 // The biweight row: the call `biweight`, a second form of the row of the question at one mark, over 720 minutes on each side.
-use arithmetic::lowest_minute;
-use arithmetic::value;
+use arithmetic_values::lowest_minute;
+use arithmetic_values::value;
 use biweight_table::biweight_weights;
 use biweight_table::weight_at;
 use checks::full;

@@ -1,7 +1,7 @@
 // Which reading decides whether the row at a mark is low enough: one pass for weight and sum, and one over the run that takes each of its
 // readings out of them.
-use arithmetic::lowest_minute;
-use arithmetic::value;
+use arithmetic_values::lowest_minute;
+use arithmetic_values::value;
 use checks::full;
 use checks_point::evaluate_fault;
 use meanings::Verdict;

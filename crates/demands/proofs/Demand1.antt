@@ -35,13 +35,13 @@ use Rattle.abi_answers.specs.Answers.{sized, bounds, count-numbers, record-numb
 use Rattle.estimator.proofs.evaluate.Met as evaluate-met
 use Rattle.estimator.proofs.window.Met as window-met
 use Rattle.estimator.proofs.advance.Met as advance-met
-use Rattle.estimator.proofs.record_row.Met as record-row-met
-use Rattle.estimator.proofs.smooth.Met as smooth-met
-use Rattle.estimator.proofs.preview.Met as preview-met
+use Rattle.row.proofs.record_row.Met as record-row-met
+use Rattle.sweep.proofs.smooth.Met as smooth-met
+use Rattle.sweep.proofs.preview.Met as preview-met
 use Rattle.grid.proofs.fill_grid.Met as fill-grid-met
 use Rattle.sheet.proofs.read_sheet.Met as read-sheet-met
 use Rattle.text.proofs.curve_text.Met as curve-text-met
-use Rattle.text.proofs.refusal_text.Met as refusal-text-met
+use Rattle.text_refusal.proofs.refusal_text.Met as refusal-text-met
 use Rattle.abi_point.proofs.tankcurve_evaluate.Met as exported-evaluate-met
 use Rattle.abi_point.proofs.tankcurve_window.Met as exported-window-met
 use Rattle.abi_record.proofs.tankcurve_advance.Met as exported-advance-met
@@ -59,13 +59,13 @@ use Rattle.demands.specs.Calls.{ExportedAdvance, ExportedRecordRow, Expo
 use Rattle.demands.specs.Calls.{ExportedRefusalText}
 use Rattle.demands.specs.Conditions.{RefusedExactly, FirstFault, FirstOrElse, evaluate-conditions, advance-conditions}
 use Rattle.demands.specs.Conditions.{smooth-conditions, fill-conditions, read-conditions, buffer-conditions, length-first}
-use Rattle.demands.specs.Conditions.{no-more, record-row-conditions, code-refusal}
+use Rattle.demands.specs.Conditions.{record-row-conditions, code-refusal}
 use Rattle.demands.specs.Demands.{RefusedAndStays}
-use Rattle.demands.proofs.FirstFaults.{FindAll, refused-exactly}
+use Rattle.demands.proofs.FirstFaults.{refused-exactly}
 use Rattle.demands.proofs.CallChecks.{evaluate-finds, advance-finds, smooth-finds, fill-finds, read-finds, buffer-finds}
-use Rattle.demands.proofs.Refusals.{decided-exactly, decided-stays, sheet-exactly, length-check, length-first-finds}
+use Rattle.demands.proofs.Refusals.{decided-exactly, decided-stays, sheet-exactly, length-first-finds}
 use Rattle.demands.proofs.Refusals.{sized-is-checked, sized-sheet-is-checked, stored-stays, first-numbered, first-or-else-numbered}
-use Rattle.demands.proofs.Refusals.{exported-refusal, exported-stays, counts-refused, size-refused, front-stays}
+use Rattle.demands.proofs.Refusals.{record-row-exactly, exported-refusal, exported-stays, counts-refused, size-refused, front-stays}
 
 pub every-input : EveryInputTaken
 every-input = record {
@@ -252,20 +252,14 @@ module _ (xs : List ℕ) (z h : ℕ) (row : List ℕ) where
   abbrev pub row-coded : Answer Estimate
   row-coded = sized record-length xs (sized 5 row (given (record-row (record-of xs) z h)))
 
-  record-row-exactly : RefusedExactly (refusal row-coded) (FirstFault (record-row-conditions xs row))
-  record-row-exactly =
-      let e = record-row (record-of xs) z h in
-      let nothing : FindAll [] no-more = record { each = tt } in
-      decided-exactly e (length-first-finds record-length xs (length-first-finds 5 row nothing))
-      (ap (sized record-length xs) (sized-is-checked 5 row [] e) ∙ sized-is-checked record-length xs (length-check 5 row ∷ []) e)
-
   pub record-row-coded : (c : ℕ) → c ≡ answered no-detail row-coded → code-refusal c ≡ refusal row-coded
-  record-row-coded c q = exported-refusal no-detail row-coded c _ q (first-numbered (record-row-conditions xs row) refl) record-row-exactly
+  record-row-coded c q = exported-refusal no-detail row-coded c _ q (first-numbered (record-row-conditions xs row) refl)
+      (record-row-exactly xs row (record-row (record-of xs) z h))
 
 pub exported-record-row-refused : (xs : List ℕ) (z h : ℕ) (row : List ℕ) (c : ℕ) (row′ : List ℕ) → ExportedRecordRow xs z h row c row′
     → RefusedAndStays (code-refusal c) (FirstFault (record-row-conditions xs row)) (row′ ≡ row)
 exported-record-row-refused xs z h row c row′ k =
-    exported-stays (row-coded xs z h row) c _ (record-row-coded xs z h row c (k .ensured .0)) (record-row-exactly xs z h row)
+    exported-stays (row-coded xs z h row) c _ (record-row-coded xs z h row c (k .ensured .0)) (record-row-exactly xs row (record-row (record-of xs) z h))
     (row′ ≡ row) (λ e q. k .ensured .1 ∙ stored-stays fields (row-coded xs z h row) row e q)
 
 -- the sweep, under any limits

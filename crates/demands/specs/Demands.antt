@@ -1,6 +1,6 @@
 -- What is promised: the three demands of docs/SPECIFICATION.md, "The three demands", about the program's bytes and about the calls that a
 -- program makes. The theorem is `demands` of the crate's proofs/Demands.antt.
--- A call is known by its contract alone: Calls.antt. When a call is refused stands in Conditions.antt, for a sheet in
+-- A call is known by its contract alone: Calls.antt. When a call is refused stands in Conditions.antt of crates/demands_conditions, for a sheet in
 -- crates/meanings/specs/SheetForm.antt; what a published row is in PublishedRow.antt there, the step in Running.antt, the event log and the claim
 -- about a list of steps in EventLog.antt and Claim.antt, the texts in Output.antt.
 -- ts are minutes, vs values, z a mark, h a half width, zs and hs lists of these, rs rows, s the bytes of a sheet; a list at exit has a prime.
@@ -53,6 +53,7 @@ use Rattle.demands.specs.Calls.{Place, EveryInputTaken, EvaluateCall, Wi
 use Rattle.demands.specs.Calls.{FillCall, ReadCall, TextCall, RefusalTextCall, ExportedEvaluate, ExportedWindow}
 use Rattle.demands.specs.Calls.{ExportedAdvance, ExportedRecordRow, ExportedSmooth, ExportedPreview, ExportedFill, ExportedRead, ExportedText}
 use Rattle.demands.specs.Calls.{ExportedRefusalText, ExportedVersion}
+pub use Rattle.demands_conditions.specs.Conditions.{RefusedAndStays}
 use Rattle.demands.specs.Conditions.{RefusedExactly, NoFault, FirstFault, FirstOrElse, evaluate-conditions, advance-conditions}
 use Rattle.demands.specs.Conditions.{smooth-conditions, fill-conditions, read-conditions, buffer-conditions, length-first}
 use Rattle.demands.specs.Conditions.{record-row-conditions, code-refusal}
@@ -115,11 +116,6 @@ pub record ProgramHolds (s : List ℕ) : Type 0 where
 
 -- ---------------------------------------------------------------------------------------------------------------------------------------
 -- Demand 1
-
--- a call is refused exactly as R says, and what is lent then stays
-pub record RefusedAndStays (f : Option Fault) (R : ℕ → ℕ → Type 0) (Stays : Type 0) : Type 0 where
-  pub exactly : RefusedExactly f R
-  pub stays : (e : Fault) → f ≡ some e → Stays
 
 pub record Demand1 : Type 2 where
   -- every input is taken, each call ends, and nothing is left for the caller to check

@@ -1,18 +1,17 @@
--- What the estimator's own functions ask and say: verdicts, searches, spans, six sums and a row.
-use Prim.Native.Nat.{ℕ, _+_, _-_, _*_, _^_, _≤_}
+-- What the estimator's own functions ask and say: verdicts, searches, spans and six sums.
+use Prim.Native.Nat.{ℕ, _-_, _≤_}
 use mathlib.Core.Path.{_≡_}
 use mathlib.Core.List.{List}
 use lib.Dec.{leb}
 use lib.ListN.{length, getD}
 use Rattle.meanings.specs.declared.PowerSums.{PowerSums}
-use Rattle.meanings.specs.declared.Estimate.{Estimate}
 use Rattle.meanings.specs.declared.Verdict.{Verdict}
-use Rattle.meanings.specs.Limits.{full, max-bandwidth}
+use Rattle.meanings.specs.Limits.{full}
 use Rattle.meanings.specs.Lists.{first}
 use Rattle.meanings.specs.Reports.{verdict-fault}
 use Rattle.meanings.specs.Running.{six, sum-at, power-sum}
 use Rattle.meanings.specs.Calls.{evaluate-refusal}
-use Rattle.meanings.specs.Estimate.{left-of, right-of, value-of}
+use Rattle.meanings.specs.Estimate.{left-of, right-of}
 use Rattle.estimator.specs.declared.point.Span.{Span}
 
 -- v is what the question at one mark is refused for
@@ -40,28 +39,3 @@ pub record RunJoined (op : ℕ → ℕ → ℕ) (s : PowerSums) (ts vs : List �
 pub record IsSpan (ts : List ℕ) (z h : ℕ) (s : Span) : Type 0 where
   pub left-is : s .left ≡ left-of ts z h
   pub right-is : s .right ≡ right-of ts z h
-
--- three sums small enough for weight or sum at z and h to be had in 64 bits, and without a negative number
-pub record Combines (s0 s1 s2 z h : ℕ) : Type 0 where
-  pub small0 : s0 ≤ 2 ^ 26
-  pub small1 : s1 ≤ 2 ^ 42
-  pub small2 : s2 ≤ 2 ^ 58
-  pub narrow : h ≤ max-bandwidth
-  pub positive : z * z * s0 + s2 ≤ h * h * s0 + 2 * z * s1
-
--- r is (h² − z²) s0 + 2 z s1 − s2
-abbrev pub IsCombined : ℕ → ℕ → ℕ → ℕ → ℕ → ℕ → Type 0
-IsCombined s0 s1 s2 z h r = r + z * z * s0 + s2 ≡ h * h * s0 + 2 * z * s1
-
--- six sums of which weight and sum can be had
-pub record SumsFit (s : PowerSums) (z h : ℕ) : Type 0 where
-  pub counts : Combines (s .s00) (s .s10) (s .s20) z h
-  pub values : Combines (s .s01) (s .s11) (s .s21) z h
-
--- e is the row with these edges and sums
-pub record RowOf (left right : ℕ) (s : PowerSums) (z h : ℕ) (e : Estimate) : Type 0 where
-  pub left-is : e .left ≡ left
-  pub right-is : e .right ≡ right
-  pub weight-is : IsCombined (s .s00) (s .s10) (s .s20) z h (e .weight)
-  pub sum-is : IsCombined (s .s01) (s .s11) (s .s21) z h (e .sum)
-  pub value-is : e .value ≡ value-of (e .sum) (e .weight)

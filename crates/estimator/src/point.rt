@@ -1,10 +1,11 @@
 // The edges and the row of one mark's window, for ordered minutes.
 use crate::edges::first_from;
-use crate::row::row_of;
 use crate::sums::with_run;
-use arithmetic::lowest_minute;
 use arithmetic::zero_sums;
+use arithmetic_values::lowest_minute;
 use meanings::Estimate;
+use meanings::RunningSums;
+use row::record_row;
 ghost use mathlib.Core.Path.{_≡_};
 ghost use Rattle.meanings.specs.Lists.{Ordered};
 ghost use Rattle.meanings.specs.Estimate.{estimate};
@@ -34,5 +35,11 @@ pub(crate) fn estimate_at(minutes: &[u16], values: &[u16], point: u16, bandwidth
 {
     let span = span_at(minutes, point, bandwidth);
     let sums = with_run(zero_sums(), minutes, values, span.left, span.right);
-    row_of(span.left, span.right, sums, point, bandwidth)
+    let window = RunningSums {
+        left: span.left,
+        right: span.right,
+        sums,
+        passes: 0,
+    };
+    record_row(window, point, bandwidth)
 }

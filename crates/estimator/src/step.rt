@@ -2,8 +2,8 @@
 use crate::edges::first_from;
 use crate::sums::with_run;
 use crate::sums::without_run;
-use arithmetic::lowest_minute;
 use arithmetic::plus_travel;
+use arithmetic_values::lowest_minute;
 use meanings::RunningSums;
 ghost use mathlib.Core.Path.{_≡_};
 ghost use Rattle.meanings.specs.Running.{moved as moved-meaning};

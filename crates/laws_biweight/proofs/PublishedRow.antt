@@ -1,5 +1,5 @@
 -- The biweight row of accepted readings is the published one, and no other row is.
-use Prim.Native.Nat.{ℕ, _+_, _*_, _^_, _≤_, _<_}
+use Prim.Native.Nat.{ℕ, _*_, _≤_, _<_}
 use mathlib.Core.Path.{_≡_, sym, _∙_}
 use mathlib.Core.Logic.{_↔_}
 use mathlib.Core.List.{List}

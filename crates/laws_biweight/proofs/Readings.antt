@@ -1,24 +1,23 @@
 -- The biweight row stays among its readings, and its readings of equal minute may change places: a weight above zero is that of a reading nearer than
 -- the half width, so weight and sum are totals over all readings, of which the laws for any weights and for any sum over readings speak.
-use Prim.Native.Nat.{ℕ, _-_, _*_, _≤_, _<_}
-use mathlib.Core.Path.{_≡_, refl, sym, ap, _∙_}
+use Prim.Native.Nat.{ℕ, _-_, _*_, _<_}
+use mathlib.Core.Path.{_≡_, sym, ap, _∙_}
 use mathlib.Core.Logic.{_↔_}
 use mathlib.Core.List.{List}
 use native.Mathlib.Nat.{zero-mul}
 use native.Mathlib.Decide.{decLt}
 use native.Mathlib.Omega.{arith}
 use lib.ListN.{length, getD}
-use Rattle.meanings.specs.declared.Estimate.{Estimate}
 use Rattle.meanings.specs.Lists.{total, distance, Ordered}
 use Rattle.meanings.specs.Limits.{full}
-use Rattle.meanings.specs.Estimate.{Inside, kernel, rounded, missing, value-of}
+use Rattle.meanings.specs.Estimate.{Inside, missing, value-of}
 use Rattle.meanings.proofs.Checks.{same-limits, evaluate-accepts}
 use Rattle.meanings.proofs.Published.{total-is-over-run}
 use Rattle.meanings.proofs.Rounding.{value-present, value-missing}
-use Rattle.meanings_biweight.specs.Biweight.{biweight-at, biweight-kernel, biweight-weight, biweight-sum, biweight-row}
+use Rattle.meanings_biweight.specs.Biweight.{biweight-kernel, biweight-weight, biweight-sum, biweight-row}
 use Rattle.meanings_biweight.proofs.Bounds as bounds
-use Rattle.laws_rows.specs.AmongReadings.{weight-at, value-at, Among, StaysAmong}
-use Rattle.laws_rows.specs.Rearranged.{Rearranged, MayChangePlaces}
+use Rattle.laws_rows.specs.AmongReadings.{weight-at, value-at, StaysAmong}
+use Rattle.laws_rows.specs.Rearranged.{MayChangePlaces}
 use Rattle.laws_rows.specs.Weighted.{Weighs, Extreme, Between}
 use Rattle.laws_rows.proofs.AmongReadings as plain
 use Rattle.laws_rows.proofs.Rearranged.{same-total}

@@ -1,6 +1,6 @@
 -- What makes five numbers the published biweight row of an evaluation point z with bandwidth h: the window's edges, and weight and sum as the
 -- estimators with the biweight kernel have them. At most one row is; the law one-published-row says so.
-use Prim.Native.Nat.{ℕ, _+_, _*_, _^_, _≤_, _<_}
+use Prim.Native.Nat.{ℕ, _+_, _≤_, _<_}
 use mathlib.Core.Path.{_≡_}
 use mathlib.Core.Logic.{_↔_}
 use mathlib.Core.List.{List}

@@ -4,11 +4,11 @@ use Prim.Native.Nat.{ℕ, _+_, _-_, _*_, _^_, _≤_, _<_}
 use mathlib.Core.Path.{_≡_}
 use mathlib.Core.Logic.{_↔_}
 use mathlib.Core.List.{List}
-use native.Mathlib.Nat.{le-trans, le-refl, mul-le-mul, mul-le-mul-left, sub-eq-zero-of-le}
+use native.Mathlib.Nat.{le-trans, mul-le-mul, mul-le-mul-left, sub-eq-zero-of-le}
 use native.Mathlib.Decide.{ℕ-discrete, decLt}
 use native.Mathlib.Omega.{arith}
 use lib.ListN.{length, getD}
-use Rattle.meanings.specs.Lists.{distance, total, AtMost}
+use Rattle.meanings.specs.Lists.{total, AtMost}
 use Rattle.meanings.specs.Limits.{max-u16, full}
 use Rattle.meanings.specs.Estimate.{left-of, right-of, value-of, missing}
 use Rattle.meanings.proofs.Bounds.{total-at-most, total-at-most-times}
@@ -39,13 +39,13 @@ weighs-near h u = (λ p. by p (decLt u h), near)
         let m = mul-le-mul k k in
         omega arith
 
--- the greatest weight at one distance, of a row, and the greatest sum
+-- the greatest weight of a row, and the greatest sum
 pub record Bounds (ts vs : List ℕ) (z : ℕ) : Type 0 where
   pub weight : biweight-weight ts z biweight-bandwidth ≤ 275188285440000
   pub sum : biweight-sum ts vs z biweight-bandwidth ≤ 18034464286310400000
   pub sum-fits : biweight-sum ts vs z biweight-bandwidth < 2 ^ 64
 
--- any terms of at most 720⁴, and such terms times values of 16 bits
+-- at most 1,024 terms of at most 720⁴
 pub few-weights : (g : ℕ → ℕ) (a n : ℕ) → n ≤ 1024 → ((i : ℕ) → i < n → g (a + i) ≤ 268738560000) → total g a n ≤ 275188285440000
 few-weights g a n few each = le-trans (total-at-most g 268738560000 a n each) (omega arith)
 

@@ -1,7 +1,7 @@
 -- The biweight row over equal readings, without going through them: each of n readings inside the window adds the same term. Edges and refusal are
 -- those of the question at one mark. So the greatest sum is reached, by as many readings as there may be of the greatest value at the mark.
 use Prim.Native.Nat.{ℕ, zero, suc, _+_, _*_, _≤_, _<_}
-use mathlib.Core.Path.{_≡_, refl, sym, ap, _∙_}
+use mathlib.Core.Path.{_≡_, refl, ap, _∙_}
 use mathlib.Core.Option.{none}
 use native.Mathlib.Nat.{sub-zero}
 use native.Mathlib.Omega.{arith}
@@ -9,13 +9,12 @@ use lib.ListN.{getD, replicate, getD-replicate}
 use Rattle.meanings.specs.declared.Estimate.{Estimate}
 use Rattle.meanings.specs.Lists.{distance, total}
 use Rattle.meanings.specs.Limits.{full}
-use Rattle.meanings.specs.Reports.{given}
 use Rattle.meanings.specs.Estimate.{Inside, left-of, right-of, kernel, value-of, rounded, estimate}
 use Rattle.meanings.specs.Calls.{evaluate, evaluate-refusal}
 use Rattle.meanings.proofs.Checks.{given-accepted}
 use Rattle.meanings.proofs.EqualSamples.{equal-samples}
 use Rattle.meanings_biweight.specs.Biweight.{biweight-bandwidth, biweight-at, biweight-kernel, biweight-weight, biweight-sum, biweight-row}
-use Rattle.meanings_biweight.specs.Biweight.{biweight-refusal, biweight}
+use Rattle.meanings_biweight.specs.Biweight.{biweight}
 use Rattle.meanings_biweight.specs.Cases.{row}
 use Rattle.meanings_biweight.proofs.Refusals.{refused-as-evaluate}
 

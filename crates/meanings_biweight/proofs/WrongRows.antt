@@ -1,11 +1,10 @@
 -- Wrong programs of another shape than the code, each shut out on a concrete input: what it would answer is not what the meaning says. The
 -- others are edits of the code and of the table.
 use Prim.Native.Nat.{ℕ, _+_, _-_, _*_, _/_, _%_, _^_}
-use mathlib.Core.Path.{_≡_, refl, sym, ap, _∙_}
-use mathlib.Core.List.{List, [], _∷_}
-use mathlib.Core.Option.{Option, none, some}
+use mathlib.Core.Path.{_≡_, sym, ap, _∙_}
+use mathlib.Core.List.{[], _∷_}
 use native.Mathlib.Omega.{arith}
-use lib.ListN.{getD, replicate}
+use lib.ListN.{replicate}
 use Rattle.meanings.specs.declared.Estimate.{Estimate}
 use Rattle.meanings.specs.Lists.{distance}
 use Rattle.meanings.specs.Limits.{full}

@@ -3,10 +3,10 @@ mod nearest;
 
 use checks::full;
 use checks_neighbours::neighbours_fault;
-use estimator::smooth;
 use meanings::Filling;
 use meanings::Smoothing;
 use meanings::Verdict;
+use sweep::smooth;
 ghost use mathlib.Core.Path.{_≡_};
 ghost use Rattle.meanings.specs.Limits.{full as full-limits};
 ghost use Rattle.meanings.specs.Calls.{filling-answer};

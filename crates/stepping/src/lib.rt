@@ -1,10 +1,10 @@
-// A running record on its way over a list of marks, for calls that stop at one of them. Every function takes every input.
+// A running record on its way over a list of marks, for the sweep and for calls that stop at a mark. Every function takes every input.
 use arithmetic::zero_sums;
 use estimator::advance;
-use estimator::record_row;
 use meanings::Advance;
 use meanings::Estimate;
 use meanings::RunningSums;
+use row::record_row;
 use stepping_fused::fused_step;
 ghost use Rattle.stepping.specs.Steps.{IsFresh, Stepped, SteppedRow};
 

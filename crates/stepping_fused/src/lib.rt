@@ -1,9 +1,9 @@
 // A step that looks at each reading once: where an edge stops is found while the sums take in or let go what it passes. The public function takes every
 // input.
-use arithmetic::lowest_minute;
 use arithmetic::minus_sample;
 use arithmetic::plus_sample;
 use arithmetic::plus_travel;
+use arithmetic_values::lowest_minute;
 use checks::full;
 use checks_point::advance_fault;
 use meanings::PowerSums;

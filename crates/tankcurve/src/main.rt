@@ -61,7 +61,7 @@ fn refuse(refusal: Refusal, out: &mut [u8]) -> usize
 {
     let report = refusal.report;
     let place = refusal.place as u64;
-    match text::refusal_text(report_number(report), place, out) {
+    match text_refusal::refusal_text(report_number(report), place, out) {
         Writing::Written(n) => n,
         Writing::Refused(_) => 0,
     }

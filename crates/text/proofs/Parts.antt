@@ -1,11 +1,11 @@
--- The parts of the curve's text and of a refusal's, stored one behind the other from byte 0 on.
+-- The parts of the curve's text, stored one behind the other from byte 0 on.
 use Prim.Native.Nat.{ℕ, _+_, _≤_}
 use mathlib.Core.Path.{_≡_}
 use mathlib.Core.List.{List, [], _∷_, _++_, append-assoc, append-nil}
 use native.Mathlib.Omega.{arith}
 use lib.ListN.{length}
-use Rattle.meanings.specs.Bytes.{line-feed, curve-header, totals-header, refusal-header}
-use Rattle.meanings.specs.Output.{decimal, text-line, refusal-text}
+use Rattle.meanings.specs.Bytes.{line-feed, curve-header, totals-header}
+use Rattle.meanings.specs.Output.{decimal, text-line}
 use Rattle.text_decimal.specs.Written.{joined, Stored}
 use Rattle.text.specs.Table.{table-lines, table-text}
 use Rattle.text_decimal.proofs.Writing.{Left, left-at-first, part-fits, left-behind, all-stored}
@@ -53,23 +53,3 @@ module _ (zs hs rs : List ℕ) (kept passes : ℕ) (out : List ℕ) (fits : leng
         pub table-stored : (out₄ : List ℕ) (r : ℕ) → Stored out₃ q₃ (totals kept passes) out₄ r
             → Stored out 0 (table-text zs hs rs kept passes) out₄ r
         table-stored out₄ r last = all-stored (left-behind before-totals last)
-
--- the names line of a refusal, and right behind it the line of its two numbers
-refusal-parts : (n p : ℕ) → refusal-text (record { number = n; place = p }) ≡ joined (text-line refusal-header [] ∷ totals n p ∷ [])
-unfolding refusal-text
-refusal-parts n p = simp append-nil
-
-module _ (n p : ℕ) (out : List ℕ) (fits : length (refusal-text (record { number = n; place = p })) ≤ length out) where
-  refusal-begun : Left out 0 (refusal-text (record { number = n; place = p })) out 0 (text-line refusal-header [] ∷ totals n p ∷ [])
-  refusal-begun = left-at-first (refusal-parts n p) (omega arith)
-
-  pub refusal-names-fit : 14 ≤ length out
-  refusal-names-fit = part-fits refusal-begun
-
-  module _ (now : List ℕ) (q : ℕ) (names : Stored out 0 (text-line refusal-header []) now q) where
-    pub refusal-pair-fits : q + length (totals n p) ≤ length now
-    refusal-pair-fits = part-fits (left-behind refusal-begun names)
-
-    pub refusal-stored : (next : List ℕ) (r : ℕ) → Stored now q (totals n p) next r
-        → Stored out 0 (refusal-text (record { number = n; place = p })) next r
-    refusal-stored next r pair = all-stored (left-behind (left-behind refusal-begun names) pair)

@@ -14,12 +14,10 @@ use Rattle.meanings.specs.declared.Parsing.the-variants.{Used}
 use Rattle.meanings.specs.Limits.{full, max-output}
 use Rattle.meanings.specs.Reports.{fault-of, given, refused}
 use Rattle.meanings.specs.Sheet.{Contents, Outcome, read-sheet}
-use Rattle.meanings.specs.Output.{refusal-text}
 use Rattle.meanings.specs.Calls.{Counts, counts, parsing-answer, read, read-minutes, read-values, read-evaluation-points, read-bandwidths}
-use Rattle.meanings.specs.Calls.{write, write-buffer, write-refusal-text, refusal-buffer}
+use Rattle.meanings.specs.Calls.{write, write-buffer}
 use Rattle.meanings.proofs.Checks.{differ-true, differ-same}
 use Rattle.laws_output.proofs.AcceptedSheet.{accepted-contents}
-use Rattle.laws_output.proofs.Refusals.{any-refusal-fits}
 use Rattle.checks.specs.ReaderLists.{uneven-lists}
 use Rattle.sheet.proofs.Scans.{even-read}
 use Rattle.text_decimal.specs.Written.{written, Stored}
@@ -34,28 +32,6 @@ module _ (out : List ℕ) (another : ¬ (length out ≡ max-output)) where
   pub other-buffer-stays : (s : List ℕ) → out ≡ write-buffer s out
   unfolding write-buffer
   other-buffer-stays s = rw (differ-true (length out) max-output another)
-
-  pub other-refusal-buffer : (n p : ℕ) → refused (record { number = 8; place = 0 }) ≡ write-refusal-text n p out
-  unfolding write-refusal-text
-  other-refusal-buffer n p = rw (differ-true (length out) max-output another)
-
-  pub other-refusal-buffer-stays : (n p : ℕ) → out ≡ refusal-buffer n p out
-  unfolding refusal-buffer
-  other-refusal-buffer-stays n p = rw (differ-true (length out) max-output another)
-
--- one of the right length holds the text of any two numbers of 64 bits
-module _ (n p : ℕ) (out : List ℕ) (right : length out ≡ max-output) where
-  pub refusal-fits : n < 2 ^ 64 → p < 2 ^ 64 → length (refusal-text (record { number = n; place = p })) ≤ length out
-  refusal-fits a b = omega (arith, any-refusal-fits n p a b)
-
-  module _ (now : List ℕ) (r : ℕ) (s : Stored out 0 (refusal-text (record { number = n; place = p })) now r) where
-    pub refusal-size : given r ≡ write-refusal-text n p out
-    unfolding write-refusal-text
-    refusal-size = rw (differ-same (length out) max-output right, s .end, zero-add)
-
-    pub refusal-written : now ≡ refusal-buffer n p out
-    unfolding refusal-buffer written
-    refusal-written = rw (differ-same (length out) max-output right) (s .text ∙ rw zero-add)
 
 -- the contents of an accepted sheet with so many readings and marks
 record UsedContents (s : List ℕ) (n m : ℕ) : Type 0 where

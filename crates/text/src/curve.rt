@@ -1,4 +1,4 @@
-// The text of a curve and of a refusal.
+// The text of a curve.
 use crate::writer::put_curve_line;
 use crate::writer::put_pair_line;
 use crate::writer::put_text;
@@ -8,7 +8,6 @@ ghost use mathlib.Core.Path.{_≡_};
 ghost use Prim.Native.Nat.{_+_, _*_, _≤_};
 ghost use lib.ListN.{length};
 ghost use Rattle.meanings.specs.Limits.{row-width};
-ghost use Rattle.meanings.specs.Output.{refusal-text};
 ghost use Rattle.text_decimal.specs.Written.{Stored};
 ghost use Rattle.text.specs.Table.{stored-row, table-lines, table-text};
 
@@ -63,13 +62,4 @@ pub(crate) fn put_curve(
     let lines_end = put_curve_lines(out, lines, points, bandwidths, rows);
     let totals = put_text(out, lines_end, b"\nkept,passes\n");
     put_pair_line(out, totals, kept as u64, passes)
-}
-
-// A refusal: number and place.
-pub(crate) fn put_refusal(out: &mut [u8], number: u64, place: u64) -> usize
-    requires { ⌜ length (refusal-text (record { number = number; place = place })) ≤ length (now out) ⌝ }
-    ensures { λ r. ⌜ Stored (now (out .entry)) 0 (refusal-text (record { number = number; place = place })) (now (out .exit)) r ⌝ }
-{
-    let line = put_text(out, 0, b"refused,place\n");
-    put_pair_line(out, line, number, place)
 }

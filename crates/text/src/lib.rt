@@ -1,10 +1,8 @@
-// The texts of the program, as bytes in a lent buffer: the curve of a sheet, and a refusal.
+// The text of a curve, as bytes in a lent buffer.
 mod curve;
 mod writer;
 
 use crate::curve::put_curve;
-use crate::curve::put_refusal;
-use estimator::smooth;
 use meanings::MAX_OUTPUT;
 use meanings::Parsing;
 use meanings::ROW_WIDTH;
@@ -13,11 +11,12 @@ use meanings::Report;
 use meanings::Smoothing;
 use meanings::Writing;
 use sheet::read_sheet;
+use sweep::smooth;
 ghost use mathlib.Core.Path.{_≡_};
 ghost use Prim.Native.Nat.{_*_};
 ghost use lib.ListN.{length};
 ghost use Rattle.meanings.specs.Limits.{max-output, row-width};
-ghost use Rattle.meanings.specs.Calls.{writing-answer, write, write-buffer, write-refusal-text, refusal-buffer};
+ghost use Rattle.meanings.specs.Calls.{writing-answer, write, write-buffer};
 ghost use Rattle.text_decimal.specs.Written.{Stored};
 ghost use Rattle.text.specs.Table.{SheetAccepted, curve-of};
 
@@ -94,19 +93,4 @@ pub fn curve_text(sheet: &[u8], out: &mut [u8]) -> Writing
             &bandwidths[..m],
         )),
     }
-}
-
-// Writes the text of a refusal with this number and place into a buffer of the same length; another length is refused with 8.
-pub fn refusal_text(number: u64, place: u64, out: &mut [u8]) -> Writing
-    ensures { λ r. ⌜ writing-answer r ≡ write-refusal-text number place (now (out .entry)) ⌝ }
-    ensures { λ _. ⌜ now (out .exit) ≡ refusal-buffer number place (now (out .entry)) ⌝ }
-{
-    let size = out.len();
-    if size != MAX_OUTPUT {
-        return Writing::Refused(Refusal {
-            report: Report::LengthMismatch,
-            place: 0,
-        });
-    }
-    Writing::Written(put_refusal(out, number, place))
 }

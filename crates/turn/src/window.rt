@@ -1,10 +1,10 @@
 // A record settled on a window: each edge goes from where it stands to where the window has it.
 use crate::edges::Edge;
 use crate::edges::edge_to;
-use arithmetic::lowest_minute;
 use arithmetic::minus_sums;
 use arithmetic::plus_travel;
 use arithmetic::zero_sums;
+use arithmetic_values::lowest_minute;
 use meanings::RunningSums;
 ghost use mathlib.Core.Path.{_≡_};
 ghost use Rattle.meanings.specs.Turn.{turned};

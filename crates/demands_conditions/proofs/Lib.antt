@@ -1,0 +1,3 @@
+pub mod CallChecks
+pub mod FirstFaults
+pub mod Refusals
