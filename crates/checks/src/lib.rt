@@ -50,6 +50,7 @@ pub fn report_number(report: Report) -> u64
         Report::TooFewSamples => 14,
         Report::CrossedRange => 15,
         Report::SecondSeries => 16,
+        Report::TemperatureOutOfOrder => 17,
     }
 }
 

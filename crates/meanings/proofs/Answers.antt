@@ -1,11 +1,11 @@
--- The enums of the calls say what SPECIFICATION says: the sixteen reports have their numbers, and each answer its values or its report.
+-- The enums of the calls say what SPECIFICATION says: the seventeen reports have their numbers, and each answer its values or its report.
 use Prim.Native.Nat.{ℕ}
 use mathlib.Core.Path.{_≡_, refl}
 use mathlib.Core.Option.{none, some}
 use mathlib.Core.List.{List, [], _∷_, map}
 use Rattle.meanings.specs.declared.Report.the-variants.{TooLong, BadHeader, MalformedLine, SampleOutOfOrder, PointOutOfOrder, TooMany, NoPoints}
 use Rattle.meanings.specs.declared.Report.the-variants.{LengthMismatch, BandwidthOutOfRange, EdgeDecreases, InvalidRecord, UnknownPreset, GridOverflow}
-use Rattle.meanings.specs.declared.Report.the-variants.{TooFewSamples, CrossedRange, SecondSeries}
+use Rattle.meanings.specs.declared.Report.the-variants.{TooFewSamples, CrossedRange, SecondSeries, TemperatureOutOfOrder}
 use Rattle.meanings.specs.declared.Refusal.{Refusal}
 use Rattle.meanings.specs.declared.Estimate.{Estimate}
 use Rattle.meanings.specs.declared.RunningSums.{RunningSums}
@@ -30,7 +30,8 @@ use Rattle.meanings.specs.Sheet.{read-sheet}
 use Rattle.meanings.specs.Calls.{evaluation-answer, advance-answer, smoothing-answer, filling-answer, parsing-answer, writing-answer}
 
 -- "overlong", "heading", "torn line", "early reading", "early mark", "crowded", "no marks", "uneven", "half width",
--- "edge back", "foreign record", "knob", "past the clock", "too few", "crossed range", "second tank"
+-- "edge back", "foreign record", "knob", "past the clock", "too few", "crossed range", "second tank",
+-- "early temperature mark"
 pub reports-are-numbered :
     map number
     (TooLong
@@ -49,8 +50,9 @@ pub reports-are-numbered :
     ∷ TooFewSamples
     ∷ CrossedRange
     ∷ SecondSeries
+    ∷ TemperatureOutOfOrder
     ∷ [])
-    ≡ 1 ∷ 2 ∷ 3 ∷ 4 ∷ 5 ∷ 6 ∷ 7 ∷ 8 ∷ 9 ∷ 10 ∷ 11 ∷ 12 ∷ 13 ∷ 14 ∷ 15 ∷ 16 ∷ []
+    ≡ 1 ∷ 2 ∷ 3 ∷ 4 ∷ 5 ∷ 6 ∷ 7 ∷ 8 ∷ 9 ∷ 10 ∷ 11 ∷ 12 ∷ 13 ∷ 14 ∷ 15 ∷ 16 ∷ 17 ∷ []
 reports-are-numbered = refl
 
 -- a refusal, as each call tells it

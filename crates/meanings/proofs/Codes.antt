@@ -8,7 +8,7 @@ use borrow.Author.Tests.{eq-eqb, ne-eqb}
 use Rattle.meanings.specs.declared.Report.{Report}
 use Rattle.meanings.specs.declared.Report.the-variants.{TooLong, BadHeader, MalformedLine, SampleOutOfOrder, PointOutOfOrder, TooMany, NoPoints}
 use Rattle.meanings.specs.declared.Report.the-variants.{LengthMismatch, BandwidthOutOfRange, EdgeDecreases, InvalidRecord, UnknownPreset, GridOverflow}
-use Rattle.meanings.specs.declared.Report.the-variants.{TooFewSamples, CrossedRange, SecondSeries}
+use Rattle.meanings.specs.declared.Report.the-variants.{TooFewSamples, CrossedRange, SecondSeries, TemperatureOutOfOrder}
 use Rattle.meanings.specs.declared.Refusal.{Refusal}
 use Rattle.meanings.specs.Reports.{Fault, Answer, given, refused, fault-of, number}
 use Rattle.meanings.specs.Codes.{detail-unit, code, answered, answer-of}
@@ -42,6 +42,7 @@ number-range GridOverflow = (omega arith, omega arith)
 number-range TooFewSamples = (omega arith, omega arith)
 number-range CrossedRange = (omega arith, omega arith)
 number-range SecondSeries = (omega arith, omega arith)
+number-range TemperatureOutOfOrder = (omega arith, omega arith)
 
 -- number and place of every fault whose number the unit has room for
 pub code-read-back : (e : Fault) → e .number < detail-unit → (code e % detail-unit ≡ e .number) × (code e / detail-unit ≡ e .place)

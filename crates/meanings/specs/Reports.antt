@@ -1,4 +1,4 @@
--- SPECIFICATION, "Reports": the sixteen reports' numbers, conditions and places, and for each call the order in which
+-- SPECIFICATION, "Reports": the seventeen reports' numbers, conditions and places, and for each call the order in which
 -- they are looked at. A call is refused with the first check of its list that holds.
 use Prim.Native.Nat.{ℕ, zero, suc, _+_, _-_, _*_}
 use mathlib.Core.Bool.{Bool, false, _||_}
@@ -9,7 +9,7 @@ use lib.ListN.{length, getD}
 use Rattle.meanings.specs.declared.Report.{Report}
 use Rattle.meanings.specs.declared.Report.the-variants.{TooLong, BadHeader, MalformedLine, SampleOutOfOrder, PointOutOfOrder, TooMany, NoPoints}
 use Rattle.meanings.specs.declared.Report.the-variants.{LengthMismatch, BandwidthOutOfRange, EdgeDecreases, InvalidRecord, UnknownPreset, GridOverflow}
-use Rattle.meanings.specs.declared.Report.the-variants.{TooFewSamples, CrossedRange, SecondSeries}
+use Rattle.meanings.specs.declared.Report.the-variants.{TooFewSamples, CrossedRange, SecondSeries, TemperatureOutOfOrder}
 use Rattle.meanings.specs.declared.Refusal.{Refusal}
 use Rattle.meanings.specs.declared.Verdict.{Verdict}
 use Rattle.meanings.specs.declared.Verdict.the-variants.{Fit, Faulty}
@@ -37,6 +37,7 @@ number GridOverflow = 13
 number TooFewSamples = 14
 number CrossedRange = 15
 number SecondSeries = 16
+number TemperatureOutOfOrder = 17
 
 -- what a refusal returns: a report's number and place
 pub record Fault : Type 0 where

@@ -10,7 +10,7 @@ pub const ROW_WIDTH: usize = 5;
 // What one of a detail counts for in an exported answer: detail-unit of specs/Codes.antt. Every report's number is below it.
 pub const DETAIL_UNIT: u64 = 256;
 
-// SPECIFICATION, "Reports": the sixteen reports. `number` of specs/Reports.antt gives each its number.
+// SPECIFICATION, "Reports": the seventeen reports. `number` of specs/Reports.antt gives each its number.
 pub enum Report {
     TooLong, // 1, "overlong"
     BadHeader, // 2, "heading"
@@ -28,6 +28,7 @@ pub enum Report {
     TooFewSamples, // 14, "too few"
     CrossedRange, // 15, "crossed range"
     SecondSeries, // 16, "second tank"
+    TemperatureOutOfOrder, // 17, "early temperature mark"
 }
 
 // A report with its place.
