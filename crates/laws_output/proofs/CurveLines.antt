@@ -20,14 +20,14 @@ use Rattle.meanings.proofs.Rounding.{value-missing}
 use Rattle.meanings.proofs.Window.{left-at-most-right, right-at-most-length}
 use Rattle.laws_output.proofs.AcceptedSheet.{AcceptedContents}
 
-value-text-fits : (v : ℕ) → v ≤ missing → length (value-text v) ≤ 5
+pub value-text-fits : (v : ℕ) → v ≤ missing → length (value-text v) ≤ 5
 value-text-fits v l = by (eqb v missing)
   where
     by : (b : Bool) → length (pick b (dash ∷ []) (decimal v)) ≤ 5
     by true = omega arith
     by false = decimal-length v 4 (omega arith)
 
-value-at-most-missing : (ts vs : List ℕ) (z h : ℕ) → WithinLimits ts vs h → value-of (sum-of ts vs z h) (weight-of ts z h) ≤ missing
+pub value-at-most-missing : (ts vs : List ℕ) (z h : ℕ) → WithinLimits ts vs h → value-of (sum-of ts vs z h) (weight-of ts z h) ≤ missing
 value-at-most-missing ts vs z h f = by (ℕ-discrete (weight-of ts z h) 0)
   where
     by : Dec (weight-of ts z h ≡ 0) → value-of (sum-of ts vs z h) (weight-of ts z h) ≤ missing

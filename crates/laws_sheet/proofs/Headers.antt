@@ -15,7 +15,7 @@ use Rattle.meanings.specs.SheetForm.{Begins}
 use Rattle.laws_text.proofs.Numbers.{and-true-both}
 use Rattle.laws_text.proofs.Texts.{lines-of-ending, first-line}
 
-same-true : (s t : List ℕ) → same s t ≡ true → s ≡ t
+pub same-true : (s t : List ℕ) → same s t ≡ true → s ≡ t
 same-true [] [] e = refl
 same-true [] (y ∷ t) e = let z : _≡_ {A = ℕ} 0 1 = cc in absurd (omega arith)
 same-true (x ∷ s) [] e = let z : _≡_ {A = ℕ} 0 1 = cc in absurd (omega arith)

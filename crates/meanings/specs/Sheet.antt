@@ -140,11 +140,11 @@ pub record Contents : Type 0 where
 abbrev pub Outcome : Type 0
 Outcome = Answer Contents
 
-abbrev pub refused-at : ℕ → ℕ → Outcome
+abbrev pub refused-at : {A : Type 0} → ℕ → ℕ → Answer A
 refused-at p n = refused (record { number = n; place = p })
 
 -- the refusal, if there is one, else what comes next
-abbrev pub or-next : Option Fault → Outcome → Outcome
+abbrev pub or-next : {A : Type 0} → Option Fault → Answer A → Answer A
 or-next none o = o
 or-next (some e) o = refused e
 
@@ -165,7 +165,7 @@ sample-checks L p all n j =
     ∷ []
 
 -- a line that is no value line is refused with 3; else the first that holds; else what comes next
-abbrev pub with-point : Limits → ℕ → List ℕ → List ℕ → Option EvaluationPoint → (List ℕ → List ℕ → Outcome) → Outcome
+abbrev pub with-point : {A : Type 0} → Limits → ℕ → List ℕ → List ℕ → Option EvaluationPoint → (List ℕ → List ℕ → Answer A) → Answer A
 with-point L p zs hs none next = refused-at p 3
 with-point L p zs hs (some m) next =
     or-next (first-of (point-checks L p zs hs m)) (next (zs ++ m .point ∷ []) (hs ++ m .bandwidth ∷ []))
@@ -193,7 +193,7 @@ same (x ∷ xs) [] = false
 same (x ∷ xs) (y ∷ ys) = eqb x y && same xs ys
 
 -- the names line at byte p, and what follows it
-abbrev pub header : List ℕ → ℕ → Lines → (ℕ → Lines → Outcome) → Outcome
+abbrev pub header : {A : Type 0} → List ℕ → ℕ → Lines → (ℕ → Lines → Answer A) → Answer A
 header names p end next = refused-at p 2
 header names p (unended t) next = refused-at p 2
 header names p (line t e ls) next = pick (same t names) (next (next-place p t e) ls) (refused-at p 2)

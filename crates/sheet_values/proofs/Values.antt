@@ -30,7 +30,7 @@ first-part-within (b ∷ u) = by (eqb b comma) (first-part-within u)
     by true l = omega arith
     by false l = omega arith
 
-parts-begin : (u : List ℕ) → (ps : List (List ℕ)) × (parts u ≡ first-part u ∷ ps)
+pub parts-begin : (u : List ℕ) → (ps : List (List ℕ)) × (parts u ≡ first-part u ∷ ps)
 parts-begin [] = ([], refl)
 parts-begin (b ∷ u) = by (eqb b comma) refl (parts-begin u)
   where
@@ -63,7 +63,7 @@ some-byte-in-number [] e = let z : _≡_ {A = ℕ} 0 1 = cc in absurd (omega ari
 some-byte-in-number (b ∷ a) e = omega arith
 
 -- the part at byte p is the number n, and ends at byte e
-record Holds (t : List ℕ) (p n e : ℕ) : Type 0 where
+pub record Holds (t : List ℕ) (p n e : ℕ) : Type 0 where
   pub part : List ℕ
   pub part-number : parsed part ≡ some n
   pub end-inside : e ≤ length t
@@ -71,7 +71,7 @@ record Holds (t : List ℕ) (p n e : ℕ) : Type 0 where
   pub comma-then : (e ≡ length t → ⊥) → parts (drop p t) ≡ part ∷ parts (drop (e + 1) t)
 
 -- the part at byte p is no number
-record Lacks (t : List ℕ) (p : ℕ) : Type 0 where
+pub record Lacks (t : List ℕ) (p : ℕ) : Type 0 where
   pub part : List ℕ
   pub others : List (List ℕ)
   pub no-number : parsed part ≡ none
@@ -107,13 +107,13 @@ number-of-none p a h = by (number-form a) refl h
     by true f h = let z : _≡_ {A = ℕ} 0 1 = cc in absurd (omega arith)
     by false f h = rw f
 
-number-holds : {t : List ℕ} {p n e : ℕ} {r : Field} → field-number r ≡ field-at t p → r ≡ Number n e → Holds t p n e
+pub number-holds : {t : List ℕ} {p n e : ℕ} {r : Field} → field-number r ≡ field-at t p → r ≡ Number n e → Holds t p n e
 unfolding field-at
 number-holds {t} {p} {n} {e} {r} h i =
     let o = number-of-some p (first-part (drop p t)) (record { value = n; text-end = e }) (ap field-number (sym i) ∙ h) in
     number-there t p n e (o .0) (o .1) (o .2)
 
-no-number-lacks : {t : List ℕ} {p : ℕ} {r : Field} → field-number r ≡ field-at t p → r ≡ NoNumber → Lacks t p
+pub no-number-lacks : {t : List ℕ} {p : ℕ} {r : Field} → field-number r ≡ field-at t p → r ≡ NoNumber → Lacks t p
 unfolding field-at
 no-number-lacks {t} {p} {r} h i = record {
   part = first-part (drop p t);
