@@ -24,7 +24,7 @@ pub type Answer = (u8, u64);
 pub const WRONG_LENGTH: Answer = (8, 0);
 
 /// Every report, for the typed call that takes one.
-const REPORTS: [Report; 15] = [
+const REPORTS: [Report; 16] = [
     Report::TooLong,
     Report::BadHeader,
     Report::MalformedLine,
@@ -39,6 +39,7 @@ const REPORTS: [Report; 15] = [
     Report::UnknownPreset,
     Report::GridOverflow,
     Report::TooFewSamples,
+    Report::CrossedRange,
     Report::SecondSeries,
 ];
 
@@ -239,9 +240,9 @@ impl Calls {
             every_curve: Tally::new("every curve", &[4, 9]),
             fill: Tally::new("fill", &[8, 7, 6, 12, 13]),
             read: Tally::new("read", &[8, 1, 2, 3, 4, 5, 9, 10, 6, 7]),
-            text: Tally::new("text", &[8, 1, 2, 3, 4, 5, 9, 10, 6, 7]),
+            text: Tally::new("text", &[8, 1, 2, 3, 4, 15, 5, 9, 10, 6, 7]),
             refusal_text: Tally::new("refusal_text", &[8]),
-            run: Tally::new("program", &[1, 2, 3, 4, 5, 9, 10, 6, 7]),
+            run: Tally::new("program", &[1, 2, 3, 4, 15, 5, 9, 10, 6, 7]),
         }
     }
 

@@ -14,6 +14,7 @@ mod limit;
 mod lists;
 mod neighbours;
 mod pair;
+mod ranges;
 mod sheets;
 mod tally;
 
@@ -23,6 +24,7 @@ use doubles::Cells;
 use limit::Questions;
 use neighbours::Neighbours;
 use pair::Pairs;
+use ranges::Ranges;
 use std::ffi::OsStr;
 use std::fs;
 use std::path::{Path, PathBuf};
@@ -57,6 +59,7 @@ fn compare(
     pairs: &mut Pairs,
     biweights: &mut Biweights,
     cells: &mut Cells,
+    by_ranges: &mut Ranges,
     examples: &Path,
 ) -> Result<(), String> {
     published(calls, examples)?;
@@ -77,6 +80,7 @@ fn compare(
     pair::compare(pairs)?;
     biweight::biweight(biweights)?;
     doubles::doubles(cells)?;
+    ranges::ranges(by_ranges, calls)?;
     let tallies = || {
         let calls = calls.tallies().into_iter();
         calls
@@ -85,6 +89,7 @@ fn compare(
             .chain(pairs.tallies())
             .chain(biweights.tallies())
             .chain(cells.tallies())
+            .chain(by_ranges.tallies())
     };
     tallies().for_each(|tally| println!("{}", tally.line()));
     tallies().try_for_each(Tally::complete)
@@ -102,6 +107,7 @@ fn main() -> ExitCode {
     let mut pairs = Pairs::new();
     let mut biweights = Biweights::new();
     let mut cells = Cells::new();
+    let mut by_ranges = Ranges::new();
     let compared = compare(
         &mut calls,
         &mut questions,
@@ -109,6 +115,7 @@ fn main() -> ExitCode {
         &mut pairs,
         &mut biweights,
         &mut cells,
+        &mut by_ranges,
         examples,
     );
     if let Err(difference) = compared {
@@ -121,7 +128,8 @@ fn main() -> ExitCode {
         .chain(by_neighbours.tallies())
         .chain(pairs.tallies())
         .chain(biweights.tallies())
-        .chain(cells.tallies());
+        .chain(cells.tallies())
+        .chain(by_ranges.tallies());
     let total: u64 = tallies.map(Tally::cases).sum();
     println!("compare: {total} cases agree");
     ExitCode::SUCCESS

@@ -4,7 +4,7 @@ use figures::inputs::{Buffers, Input};
 use figures::plain::{DETAIL_UNIT, ROW_WIDTH};
 use figures::{direct, plain};
 use std::sync::OnceLock;
-use tankcurve::{slices, BIWEIGHT_BANDWIDTH, MAX_SAMPLES, PARTING_WIDTH};
+use tankcurve::{slices, BIWEIGHT_BANDWIDTH, MAX_SAMPLES, PARTING_WIDTH, RANGE_ROW_WIDTH};
 
 pub struct Contestant {
     pub name: &'static str,
@@ -37,7 +37,7 @@ fn plain_read(read: Reader, input: &Input, lent: &mut Buffers) -> u64 {
 }
 
 /// Every contestant answers what the proved call returns: detail and number as one number.
-pub static CALLS: [Contestant; 32] = [
+pub static CALLS: [Contestant; 34] = [
     Contestant {
         name: "tankcurve_smooth",
         call: |input, lent| {
@@ -200,6 +200,34 @@ pub static CALLS: [Contestant; 32] = [
         call: |input, lent| by_neighbours(input, 608, lent),
     },
     Contestant {
+        name: "tankcurve_smooth, highs",
+        call: |input, lent| {
+            let rows = &mut lent.rows[..ROW_WIDTH * input.points.len()];
+            let highs = &FALLING[..input.minutes.len()];
+            slices::smooth(
+                &input.minutes,
+                highs,
+                &input.points,
+                &input.bandwidths,
+                rows,
+            )
+        },
+    },
+    Contestant {
+        name: "tankcurve_smooth_ranges",
+        call: |input, lent| {
+            let samples = input.minutes.len();
+            slices::smooth_ranges(
+                &input.minutes,
+                &LOW_ENDS[..samples],
+                &FALLING[..samples],
+                &input.points,
+                &input.bandwidths,
+                &mut lent.range_rows[..RANGE_ROW_WIDTH * input.points.len()],
+            )
+        },
+    },
+    Contestant {
         name: "tankcurve_biweight, none",
         call: |_, lent| biweight(lent, 0, 0),
     },
@@ -293,6 +321,17 @@ static FALLING: [u16; MAX_SAMPLES] = {
         i += 1;
     }
     values
+};
+
+/// The same from 0 up for each third reading.
+static LOW_ENDS: [u16; MAX_SAMPLES] = {
+    let mut lows = FALLING;
+    let mut i = 0;
+    while i < MAX_SAMPLES {
+        lows[i] = 0;
+        i += 3;
+    }
+    lows
 };
 
 /// The value of mark 255 with these and the half width of the figures.

@@ -20,6 +20,8 @@ pub struct Buffers {
     pub points: [u16; MAX_POINTS],
     pub bandwidths: [u32; MAX_POINTS],
     pub rows: [u64; ROW_WIDTH * MAX_POINTS],
+    /// Rows over ranges, seven numbers each.
+    pub range_rows: [u64; 7 * MAX_POINTS],
     pub counts: [u64; 2],
     pub out: [u8; MAX_OUTPUT],
 }
@@ -33,6 +35,7 @@ impl Buffers {
             points: [0xa5a5; MAX_POINTS],
             bandwidths: [0xa5a5_a5a5; MAX_POINTS],
             rows: [0xa5a5_a5a5_a5a5_a5a5; ROW_WIDTH * MAX_POINTS],
+            range_rows: [0xa5a5_a5a5_a5a5_a5a5; 7 * MAX_POINTS],
             counts: [0xa5a5_a5a5_a5a5_a5a5; 2],
             out: [0xa5; MAX_OUTPUT],
         })

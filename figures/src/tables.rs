@@ -255,6 +255,39 @@ fn biweight(full: &Input) -> Result<(), String> {
     Ok(())
 }
 
+/// The sweep over ranges, beside the sweep over their highs.
+fn ranges(full: &Input) -> Result<(), String> {
+    println!("\n### Ranges\n");
+    println!(
+        "The readings and marks above, with values that fall from reading to reading as highs, and each third reading from 0
+up, the others with equal ends; beside the sweep over the highs. Ratios are to that.
+"
+    );
+    println!("| half width | the sweep, instructions | `tankcurve_smooth_ranges`, instructions | ratio, instructions | goal | least times |");
+    println!("|---|---|---|---|---|---|");
+    let names = ["tankcurve_smooth, highs", "tankcurve_smooth_ranges"];
+    for bandwidth in [1440, BANDWIDTH, 65_536] {
+        let given = &input(1, bandwidth);
+        let given = if bandwidth == BANDWIDTH { full } else { given };
+        let timed = times(&names.map(|name| (called(name), given)));
+        let counts = [
+            instructions(names[0], 1, bandwidth)?,
+            instructions(names[1], 1, bandwidth)?,
+        ];
+        let ratio = counts[1] as f64 / counts[0] as f64;
+        println!(
+            "| {} | {} | {} | {ratio:.3} | at most 2: {} | {} and {} |",
+            grouped(u64::from(bandwidth)),
+            grouped(counts[0]),
+            grouped(counts[1]),
+            if ratio <= 2.0 { "met" } else { "not met" },
+            micros(least(&timed[0])),
+            micros(least(&timed[1])),
+        );
+    }
+    Ok(())
+}
+
 /// A turn beside one that is refused after the order check and has moved nothing.
 fn turn(full: &Input) -> Result<(), String> {
     let names = ["tankcurve_turn", "tankcurve_turn, refused with 9"];
@@ -498,6 +531,7 @@ all, the loader's too.
     two_tanks(full)?;
     neighbours()?;
     biweight(full)?;
+    ranges(full)?;
     growth(&parts)
 }
 

@@ -1,6 +1,6 @@
 /*
- * Every call once, as a panel would make them: reads a sheet from standard input, draws its curve by the sweep and, mark by mark, by a running
- * record; asks at one mark, whose weight and sum it has as doubles too, there once more with softer weights, and when the tank may move; sets the tank
+ * Every call once, as a panel would make them: reads a sheet from standard input, draws its curve by the sweep, with readings known only as ranges
+ * (traces.c has a sheet of them), and, mark by mark, by a running record; asks at one mark, whose weight and sum it has as doubles too, there once more with softer weights, and when the tank may move; sets the tank
  * against a twin; draws once more with half widths by neighbours and at marks of the filler; writes the text. Says each report by its number, word and place.
  */
 #include "tankcurve.h"
@@ -9,8 +9,9 @@
 #include <stdio.h>
 
 static uint16_t minutes[TANKCURVE_MAX_SAMPLES], values[TANKCURVE_MAX_SAMPLES], points[TANKCURVE_MAX_POINTS];
+static uint16_t lows[TANKCURVE_MAX_SAMPLES], highs[TANKCURVE_MAX_SAMPLES];
 static uint32_t bandwidths[TANKCURVE_MAX_POINTS];
-static uint64_t rows[TANKCURVE_MAX_POINTS * TANKCURVE_ROW_LEN];
+static uint64_t rows[TANKCURVE_MAX_POINTS * TANKCURVE_RANGE_ROW_LEN];
 static uint8_t out[TANKCURVE_MAX_OUTPUT];
 /* One byte more than a sheet may have decides that it is too long. */
 static uint8_t sheet[TANKCURVE_MAX_SHEET + 1];
@@ -45,6 +46,35 @@ static bool sweep(size_t samples, size_t marks)
     for (size_t k = 0; k < marks; k++)
         show("smooth", rows + k * TANKCURVE_ROW_LEN);
     printf("smooth: passes %" PRIu64 "\n", tankcurve_detail(answer));
+    return true;
+}
+
+/* The sheet once more by the reader of both kinds, and its curve where the detector tells nothing at or below a floor: exactly seven numbers a point. */
+static bool over_ranges(size_t sheet_len, uint16_t floor)
+{
+    uint64_t counts[TANKCURVE_RANGE_COUNTS_LEN];
+    if (!accepted("read_ranges", tankcurve_read_ranges(sheet, sheet_len, minutes, TANKCURVE_MAX_SAMPLES, lows, TANKCURVE_MAX_SAMPLES, highs,
+                                                       TANKCURVE_MAX_SAMPLES, points, TANKCURVE_MAX_POINTS, bandwidths, TANKCURVE_MAX_POINTS, counts,
+                                                       TANKCURVE_RANGE_COUNTS_LEN)))
+        return false;
+    size_t samples = counts[TANKCURVE_RANGE_COUNTS_SAMPLES], marks = counts[TANKCURVE_RANGE_COUNTS_POINTS];
+    printf("read_ranges: %s\n", counts[TANKCURVE_RANGE_COUNTS_KIND] == TANKCURVE_KIND_PLAIN ? "plain" : "ranges");
+    for (size_t k = 0; k < samples; k++)
+        if (highs[k] <= floor)
+            lows[k] = 0;
+    uint64_t answer = tankcurve_smooth_ranges(minutes, samples, lows, samples, highs, samples, points, marks, bandwidths, marks, rows,
+                                              marks * TANKCURVE_RANGE_ROW_LEN);
+    if (!accepted("smooth_ranges", answer))
+        return false;
+    for (size_t k = 0; k < marks; k++) {
+        const uint64_t *row = rows + k * TANKCURVE_RANGE_ROW_LEN;
+        printf("smooth_ranges: sum %" PRIu64 " to %" PRIu64 ", value ", row[TANKCURVE_RANGE_ROW_LOW_SUM], row[TANKCURVE_RANGE_ROW_HIGH_SUM]);
+        if (tankcurve_present(row))
+            printf("%" PRIu64 " to %" PRIu64 "\n", row[TANKCURVE_RANGE_ROW_LOW_VALUE], row[TANKCURVE_RANGE_ROW_HIGH_VALUE]);
+        else
+            printf("-\n");
+    }
+    printf("smooth_ranges: passes %" PRIu64 "\n", tankcurve_detail(answer));
     return true;
 }
 
@@ -217,7 +247,7 @@ int main(void)
     if (accepted("read", answer)) {
         size_t samples = counts[TANKCURVE_COUNTS_SAMPLES], marks = counts[TANKCURVE_COUNTS_POINTS];
         printf("read: %zu samples, %zu points\n", samples, marks);
-        well = well && sweep(samples, marks) && steps(samples, marks) && one_mark(samples, points[0], bandwidths[0]) &&
+        well = well && sweep(samples, marks) && over_ranges(sheet_len, 60) && steps(samples, marks) && one_mark(samples, points[0], bandwidths[0]) &&
                softer(samples, points[0]) && may_move(samples, marks, 58) && may_move(samples, marks, 57) &&
                repeat_which(samples, points[0], bandwidths[0], 60) && repeat_which(samples, points[0], bandwidths[0], 59) && twins(samples, marks) &&
                by_neighbours(samples, marks, 2) && by_neighbours(samples, marks, 5);

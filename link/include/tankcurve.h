@@ -9,15 +9,16 @@
  * names its section. Words in quotes are the trade's. A minute counts from pitching; a value is in tenths of a microgram per litre.
  *
  * Every call but tankcurve_version returns TANKCURVE_DETAIL_UNIT * detail + number. Number 0 means accepted; what the detail then is stands at
- * each call. Number 1 to 14, or 16, is a report and the detail its place; every list that was lent then holds what it held before: a row that is
+ * each call. Number 1 to 16 is a report and the detail its place; every list that was lent then holds what it held before: a row that is
  * still there is that of an earlier call. Each call gives the first of its reports whose condition holds, in the order that stands at it. A
  * place is 0 unless something else is said there.
  *
  * Report 8 is about the lengths of the lists that the caller lends, found before all else, at place 0. A list for the answer (row, bounds,
- * record, counts, position, doubles, out, and the reader's minutes, values, points and bandwidths) has exactly the length that is stated: a longer
- * one is refused too. rows has exactly TANKCURVE_ROW_LEN times as many elements as there are points: pass that product and not what the array
- * could hold. In tankcurve_read and tankcurve_text every other number is about the sheet, and its place a byte of the sheet, counted from 0;
- * in all other calls a place is a position in a list, from 0.
+ * record, counts, position, doubles, out, and the readers' minutes, values, lows, highs, points and bandwidths) has exactly the length that is
+ * stated: a longer one is refused too. rows has exactly TANKCURVE_ROW_LEN times as many elements as there are points, in tankcurve_smooth_ranges
+ * TANKCURVE_RANGE_ROW_LEN times: pass that product and not what the array could hold. In tankcurve_read, tankcurve_read_ranges and tankcurve_text
+ * every other number is about the sheet, and its place a byte of the sheet, counted from 0; in all other calls a place is a position in a list,
+ * from 0.
  *
  * An empty list has length 0 and a pointer that is neither null nor misaligned; nothing is read or written there. Pass that of any object of
  * the element's type, such as `uint16_t none;` and `&none, 0`.
@@ -28,6 +29,8 @@
  *   mark    = number "," number                   point and bandwidth, the point up to 65,535, the bandwidth 1 to 65,536
  *   reading = number "," number "," number        minute and value up to 65,535; between them the injection, 1 to 65,535
  *   number  = one to five digits, of which the first is not 0 unless it is the only one
+ * A sheet with ranges, which tankcurve_read_ranges and tankcurve_text take too [Ranges]: the second names line is "minute,inj,low,high", and
+ *   reading = number "," number "," number "," number        minute, injection, low and high; both ends up to 65,535, low at most high
  * A reading of injection 1 or 2 is checked as every other, and the next one against its minute, but it is not kept. A CR that is not
  * directly before an LF is a wrong byte, and so is the first of two there. Every CR counts in the sheet's length and in places.
  *
@@ -36,8 +39,8 @@
  *   - dangling or misaligned pointers, and lengths that do not belong to their pointers;
  *   - a list that is written and overlaps another; lists that are only read may overlap;
  *   - lists that someone else writes, or reads while they are written, during the call;
- *   - the stack: on the largest sheet tankcurve_text took 35 KB and tankcurve_read less than 8 KB; tankcurve_biweight takes less than 6 KB, most of
- *     it for its table, and the other calls under 1 KB;
+ *   - the stack: on sheets of 1,024 samples and 512 points tankcurve_text took up to 49 KB, tankcurve_read_ranges less than 10 KB and tankcurve_read
+ *     less than 8 KB; tankcurve_biweight takes less than 6 KB, most of it for its table, and the other calls under 1 KB;
  *   - the compiler's back end below the proof, memcpy and memset, which the archive takes from the host, the linker and the machine. The
  *     archive links only into programs for x86-64 Linux;
  *   - this header: nothing compares it with the Rattle source but the tests in link/tests and the examples in link/examples.
@@ -61,10 +64,10 @@ extern "C" {
 #endif
 
 /*
- * The version that this header belongs to, 2.6.0: major * 65536 + minor * 256 + patch. tankcurve_version gives that of the archive. What is
- * counted by it stands in link/abi-2.6.0.
+ * The version that this header belongs to, 3.0.0: major * 65536 + minor * 256 + patch. tankcurve_version gives that of the archive. What is
+ * counted by it stands in link/abi-3.0.0.
  */
-#define TANKCURVE_VERSION 0x020600
+#define TANKCURVE_VERSION 0x030000
 
 /* The lengths and limits. */
 #define TANKCURVE_MAX_SAMPLES 1024 /* samples ("readings") in a list, and the length of the reader's lists of them */
@@ -72,11 +75,13 @@ extern "C" {
 #define TANKCURVE_PREVIEW_MAX_SAMPLES 256 /* samples of a preview */
 #define TANKCURVE_PREVIEW_MAX_POINTS 64   /* points of a preview */
 #define TANKCURVE_MAX_SHEET 32768  /* bytes of a sheet, and the greatest place of a report */
-#define TANKCURVE_MAX_OUTPUT 31291 /* bytes of a text; the length of a text's out */
+#define TANKCURVE_MAX_OUTPUT 44113 /* bytes of a text; the length of a text's out */
 #define TANKCURVE_ROW_LEN 5        /* enum tankcurve_row_field: left, right, weight, sum, value */
+#define TANKCURVE_RANGE_ROW_LEN 7  /* enum tankcurve_range_row_field: left, right, weight, low sum, high sum, low value, high value */
 #define TANKCURVE_BOUNDS_LEN 2     /* left, right, as in a row */
 #define TANKCURVE_RECORD_LEN 9     /* enum tankcurve_record_field: left, right, s00, s10, s20, s01, s11, s21, passes */
 #define TANKCURVE_COUNTS_LEN 2     /* enum tankcurve_counts_field: samples, points */
+#define TANKCURVE_RANGE_COUNTS_LEN 3 /* enum tankcurve_range_counts_field: samples, points, kind */
 #define TANKCURVE_POSITION_LEN 1   /* a position, or TANKCURVE_NO_POSITION */
 #define TANKCURVE_PARTING_LEN 3    /* enum tankcurve_parting_field: point, left, right */
 #define TANKCURVE_DOUBLES_LEN 2    /* enum tankcurve_doubles_field: a high part, or all of a number, and a low part */
@@ -88,6 +93,16 @@ enum tankcurve_row_field {
     TANKCURVE_ROW_WEIGHT = 2,
     TANKCURVE_ROW_SUM = 3,
     TANKCURVE_ROW_VALUE = 4
+};
+/* Where a field of a row over ranges stands; that of row k of a sweep is rows[TANKCURVE_RANGE_ROW_LEN * k + TANKCURVE_RANGE_ROW_LOW_VALUE]. */
+enum tankcurve_range_row_field {
+    TANKCURVE_RANGE_ROW_LEFT = 0,
+    TANKCURVE_RANGE_ROW_RIGHT = 1,
+    TANKCURVE_RANGE_ROW_WEIGHT = 2,
+    TANKCURVE_RANGE_ROW_LOW_SUM = 3,
+    TANKCURVE_RANGE_ROW_HIGH_SUM = 4,
+    TANKCURVE_RANGE_ROW_LOW_VALUE = 5,
+    TANKCURVE_RANGE_ROW_HIGH_VALUE = 6
 };
 enum tankcurve_record_field {
     TANKCURVE_RECORD_LEFT = 0,
@@ -104,6 +119,11 @@ enum tankcurve_counts_field {
     TANKCURVE_COUNTS_SAMPLES = 0,
     TANKCURVE_COUNTS_POINTS = 1
 };
+enum tankcurve_range_counts_field {
+    TANKCURVE_RANGE_COUNTS_SAMPLES = 0,
+    TANKCURVE_RANGE_COUNTS_POINTS = 1,
+    TANKCURVE_RANGE_COUNTS_KIND = 2
+};
 enum tankcurve_parting_field {
     TANKCURVE_PARTING_POINT = 0,
     TANKCURVE_PARTING_LEFT = 1,
@@ -115,6 +135,11 @@ enum tankcurve_tank {
     TANKCURVE_ALIKE = 0,
     TANKCURVE_FIRST = 1,
     TANKCURVE_SECOND = 2
+};
+/* The kind of a sheet, which tankcurve_read_ranges counts: by its second names line alone. */
+enum tankcurve_kind {
+    TANKCURVE_KIND_PLAIN = 0, /* minute,inj,vdk */
+    TANKCURVE_KIND_RANGES = 1 /* minute,inj,low,high */
 };
 enum tankcurve_doubles_field {
     TANKCURVE_DOUBLES_HIGH = 0,
@@ -178,6 +203,7 @@ enum tankcurve_report TANKCURVE_REPORT_TYPE {
     TANKCURVE_UNKNOWN_PRESET = 12,        /* "knob": the preset is over 11 */
     TANKCURVE_GRID_OVERFLOW = 13,         /* "past the clock": the last point would be over 65,535 */
     TANKCURVE_TOO_FEW_SAMPLES = 14,       /* "too few": k is 0 or over the number of samples */
+    TANKCURVE_CROSSED_RANGE = 15,         /* "crossed range": a low is above its high */
     TANKCURVE_SECOND_SERIES = 16          /* "second tank": the second tank's lists have the condition of 8, 6 or 4 */
 };
 
@@ -212,12 +238,16 @@ static inline const char *tankcurve_word(enum tankcurve_report report)
     case TANKCURVE_UNKNOWN_PRESET: return "knob";
     case TANKCURVE_GRID_OVERFLOW: return "past the clock";
     case TANKCURVE_TOO_FEW_SAMPLES: return "too few";
+    case TANKCURVE_CROSSED_RANGE: return "crossed range";
     case TANKCURVE_SECOND_SERIES: return "second tank";
     }
     return "unknown";
 }
 
-/* Whether a row, TANKCURVE_ROW_LEN numbers, has a value: its weight is not 0. Of row k of a sweep pass rows + TANKCURVE_ROW_LEN * k. */
+/*
+ * Whether a row, TANKCURVE_ROW_LEN numbers, has a value: its weight is not 0. Of row k of a sweep pass rows + TANKCURVE_ROW_LEN * k. Of a row over
+ * ranges, whose weight stands at the same place, it says whether it has both values: pass rows + TANKCURVE_RANGE_ROW_LEN * k.
+ */
 static inline bool tankcurve_present(const uint64_t *row)
 {
     return row[TANKCURVE_ROW_WEIGHT] != 0;
@@ -226,7 +256,8 @@ static inline bool tankcurve_present(const uint64_t *row)
 /*
  * Whether the numbers of a row are within what a row of readings has: weight and sum up to their greatest, and a value of 16 bits if one is
  * present. False for many rows of tankcurve_row that are not of the record's last accepted step, since their weight or sum has wrapped around;
- * not for all: what a row must have come by stands there. Not for rows of tankcurve_biweight, whose numbers are greater.
+ * not for all: what a row must have come by stands there. Not for rows of tankcurve_biweight, whose numbers are greater, nor for rows over ranges,
+ * whose fields stand elsewhere.
  */
 static inline bool tankcurve_of_readings(const uint64_t *row)
 {
@@ -320,6 +351,18 @@ uint64_t tankcurve_smooth(const uint16_t *minutes, size_t minutes_len, const uin
                           size_t points_len, const uint32_t *bandwidths, size_t bandwidths_len, uint64_t *rows, size_t rows_len);
 
 /*
+ * The sweep over readings known as ranges, each a low and a high [Ranges]. rows: exactly TANKCURVE_RANGE_ROW_LEN numbers a point: left, right and
+ * weight, which no value moves, the sums of all lows and of all highs, and the value of each, TANKCURVE_MISSING for both if weight is 0: ask
+ * tankcurve_present. However the true values lie in their ranges, sum and value of their row of tankcurve_smooth lie between, and both ends are
+ * reached. Detail: the passes, last left plus last right. Reports: 8 (minutes with lows and with highs, points with bandwidths, or rows), 6, 7, 4,
+ * 15, 5, 9, 10; the places of the last five are the lowest position at which the condition holds, for 4, 5 and 10 that of the later one.
+ */
+TANKCURVE_ANSWER
+uint64_t tankcurve_smooth_ranges(const uint16_t *minutes, size_t minutes_len, const uint16_t *lows, size_t lows_len, const uint16_t *highs,
+                                 size_t highs_len, const uint16_t *points, size_t points_len, const uint32_t *bandwidths, size_t bandwidths_len,
+                                 uint64_t *rows, size_t rows_len);
+
+/*
  * The preview ("the preview on the panel") [The preview]: tankcurve_smooth for a small curve, TANKCURVE_PREVIEW_MAX_SAMPLES samples and
  * TANKCURVE_PREVIEW_MAX_POINTS points at most. More of either is 6, or 8 where tankcurve_smooth gives 8; otherwise it answers and writes what
  * tankcurve_smooth does, reports and places included.
@@ -343,7 +386,7 @@ uint64_t tankcurve_fill(uint16_t first, uint16_t spacing, uint32_t preset, uint1
  * what is behind them is untouched. Detail 0. Reports: 8 (any of the five lists has another length), 1 (place 32,768), then line by line that
  * of the first faulty line: 2, 7, or 3, 4 or 5, 9, 10, 6. Its place is the offset of the line's first byte, counted from 0, and the sheet's
  * length where the sheet ends in front of a names line or the empty line. An empty line that is missing in the midst of a sheet is 3 at the
- * first line that is no line of a point, as a rule the second names line.
+ * first line that is no line of a point, as a rule the second names line. A sheet with ranges is 2 at that line: tankcurve_read_ranges takes both.
  */
 TANKCURVE_ANSWER
 uint64_t tankcurve_read(const uint8_t *sheet, size_t sheet_len, uint16_t *minutes, size_t minutes_len, uint16_t *values, size_t values_len,
@@ -351,9 +394,21 @@ uint64_t tankcurve_read(const uint8_t *sheet, size_t sheet_len, uint16_t *minute
                         size_t counts_len);
 
 /*
- * Writes the curve of a sheet, as the program writes it, to the start of out, which has TANKCURVE_MAX_OUTPUT bytes; what is behind it is
- * untouched [Output]. Detail: the bytes written. Reports: 8 (out has another length), then what tankcurve_read reports of the sheet, at the
- * same place: 1 (place 32,768), or that of the first faulty line, 2, 7, or 3, 4 or 5, 9, 10, 6. out is then as it was;
+ * Reads a sheet of either kind, plain or with ranges [Ranges]. minutes, lows and highs: 1,024 each; points and bandwidths: 512 each; counts: 3
+ * numbers, how many samples are kept, how many points there are, and the kind, TANKCURVE_KIND_PLAIN or TANKCURVE_KIND_RANGES, which the second names
+ * line alone tells. A value of a plain sheet stands as low and high. The kept samples and the points stand at the front of their lists, and what is
+ * behind them is untouched. Detail 0. Reports and places as for tankcurve_read, with six lists for 8; within a line of a sample the order is 3, 4, 15,
+ * 6, and lines of injection 1 and 2 earn 15 too. What is accepted tankcurve_smooth_ranges accepts.
+ */
+TANKCURVE_ANSWER
+uint64_t tankcurve_read_ranges(const uint8_t *sheet, size_t sheet_len, uint16_t *minutes, size_t minutes_len, uint16_t *lows, size_t lows_len,
+                               uint16_t *highs, size_t highs_len, uint16_t *points, size_t points_len, uint32_t *bandwidths,
+                               size_t bandwidths_len, uint64_t *counts, size_t counts_len);
+
+/*
+ * Writes the curve of a sheet of either kind, as the program writes it, to the start of out, which has TANKCURVE_MAX_OUTPUT bytes; what is behind
+ * it is untouched [Output] [Ranges]. Detail: the bytes written. Reports: 8 (out has another length), then what tankcurve_read_ranges reports of the
+ * sheet, at the same place: 1 (place 32,768), or that of the first faulty line, 2, 7, or 3, 4 or 5, 15, 9, 10, 6. out is then as it was;
  * tankcurve_refusal_text writes what the program writes of that number and place.
  */
 TANKCURVE_ANSWER

@@ -10,7 +10,8 @@
 #include <string.h>
 
 /* Lists that are longer than any limit. */
-static uint16_t minutes[2 * TANKCURVE_MAX_SAMPLES], values[2 * TANKCURVE_MAX_SAMPLES], points[2 * TANKCURVE_MAX_POINTS];
+static uint16_t minutes[2 * TANKCURVE_MAX_SAMPLES], values[2 * TANKCURVE_MAX_SAMPLES], highs[2 * TANKCURVE_MAX_SAMPLES];
+static uint16_t points[2 * TANKCURVE_MAX_POINTS];
 static uint32_t bandwidths[2 * TANKCURVE_MAX_POINTS];
 static uint64_t numbers[16];
 static double doubles[4];
@@ -72,10 +73,22 @@ static uint64_t read_sheet(const char *text)
     return read_lists(text, strlen(text), TANKCURVE_MAX_SAMPLES, TANKCURVE_MAX_POINTS, TANKCURVE_COUNTS_LEN);
 }
 
-/* Both calls that read a sheet answer with this report and place. */
+static uint64_t read_range_lists(const char *text, size_t length, size_t samples_len, size_t points_len, size_t counts_len)
+{
+    return tankcurve_read_ranges((const uint8_t *)text, length, minutes, samples_len, values, samples_len, highs, samples_len, points, points_len,
+                                 bandwidths, points_len, numbers, counts_len);
+}
+
+static uint64_t read_either(const char *text)
+{
+    return read_range_lists(text, strlen(text), TANKCURVE_MAX_SAMPLES, TANKCURVE_MAX_POINTS, TANKCURVE_RANGE_COUNTS_LEN);
+}
+
+/* The calls that read a sheet answer with this report and place. */
 static void reads(const char *what, const char *text, enum tankcurve_report report, uint64_t place)
 {
     gives(what, read_sheet(text), report, place);
+    gives(what, read_either(text), report, place);
     gives(what, tankcurve_text((const uint8_t *)text, strlen(text), out, TANKCURVE_MAX_OUTPUT), report, place);
 }
 
@@ -138,6 +151,8 @@ static void lengths(void)
         size_t d = (size_t)by;
         gives("row", evaluate(1, 1, TANKCURVE_ROW_LEN + d), report, 0);
         gives("rows", tankcurve_smooth(minutes, 1, values, 1, points, 2, bandwidths, 2, numbers, 2 * TANKCURVE_ROW_LEN + d), report, 0);
+        gives("rows over ranges",
+              tankcurve_smooth_ranges(minutes, 1, values, 1, values, 1, points, 2, bandwidths, 2, numbers, 2 * TANKCURVE_RANGE_ROW_LEN + d), report, 0);
         gives("bandwidths by neighbours", by_neighbours(1, 2, 2 + d, 2 * TANKCURVE_ROW_LEN), report, 0);
         gives("rows by neighbours", by_neighbours(1, 2, 2, 2 * TANKCURVE_ROW_LEN + d), report, 0);
         gives("biweight row", tankcurve_biweight(minutes, 1, values, 1, 0, numbers, TANKCURVE_ROW_LEN + d), report, 0);
@@ -153,6 +168,11 @@ static void lengths(void)
         gives("samples", read_lists(text, strlen(text), TANKCURVE_MAX_SAMPLES + d, TANKCURVE_MAX_POINTS, TANKCURVE_COUNTS_LEN), report, 0);
         gives("points", read_lists(text, strlen(text), TANKCURVE_MAX_SAMPLES, TANKCURVE_MAX_POINTS + d, TANKCURVE_COUNTS_LEN), report, 0);
         gives("counts", read_lists(text, strlen(text), TANKCURVE_MAX_SAMPLES, TANKCURVE_MAX_POINTS, TANKCURVE_COUNTS_LEN + d), report, 0);
+        gives("ranges", read_range_lists(text, strlen(text), TANKCURVE_MAX_SAMPLES + d, TANKCURVE_MAX_POINTS, TANKCURVE_RANGE_COUNTS_LEN), report, 0);
+        gives("points of ranges", read_range_lists(text, strlen(text), TANKCURVE_MAX_SAMPLES, TANKCURVE_MAX_POINTS + d, TANKCURVE_RANGE_COUNTS_LEN),
+              report, 0);
+        gives("counts of ranges", read_range_lists(text, strlen(text), TANKCURVE_MAX_SAMPLES, TANKCURVE_MAX_POINTS, TANKCURVE_RANGE_COUNTS_LEN + d),
+              report, 0);
         gives("text", tankcurve_text((const uint8_t *)text, strlen(text), out, TANKCURVE_MAX_OUTPUT + d), report, 0);
         gives("text of a refusal", tankcurve_refusal_text(1, 2, out, TANKCURVE_MAX_OUTPUT + d), report, 0);
     }
@@ -189,6 +209,9 @@ static void reports(void)
     gives("too few samples", by_neighbours(2, 1, 1, TANKCURVE_ROW_LEN), TANKCURVE_TOO_FEW_SAMPLES, 0);
     const uint16_t falling[] = {7, 6};
     const uint32_t one[] = {1};
+    gives("crossed range", tankcurve_smooth_ranges(falling, 1, falling, 1, falling + 1, 1, falling, 1, one, 1, numbers, TANKCURVE_RANGE_ROW_LEN),
+          TANKCURVE_CROSSED_RANGE, 0);
+    gives("crossed range of a sheet", read_either("mark,half\n5,2\n\nminute,inj,low,high\n1,3,5,5\n1,1,6,5\n"), TANKCURVE_CROSSED_RANGE, 43);
     gives("second series", tankcurve_compare(falling, 1, falling, 1, falling, 2, falling, 2, falling, 1, one, 1, numbers, TANKCURVE_PARTING_LEN),
           TANKCURVE_SECOND_SERIES, 1);
 }
@@ -198,10 +221,10 @@ static void words(void)
 {
     static const char *const trade[] = {"accepted",   "overlong",   "heading",   "torn line",      "early reading", "early mark",
                                         "crowded",    "no marks",   "uneven",    "half width",     "edge back",     "foreign record",
-                                        "knob",       "past the clock", "too few"};
+                                        "knob",       "past the clock", "too few", "crossed range", "second tank"};
     for (unsigned number = 0; number < TANKCURVE_DETAIL_UNIT; number++) {
         const char *word = tankcurve_word(tankcurve_number(number));
-        const char *expected = number < sizeof trade / sizeof *trade ? trade[number] : number == 16 ? "second tank" : "unknown";
+        const char *expected = number < sizeof trade / sizeof *trade ? trade[number] : "unknown";
         same(expected, (uint64_t)strcmp(word, expected), 0);
     }
 }
@@ -249,6 +272,33 @@ static void fields(void)
     gives("fields of counts", read_sheet("mark,half\n5,2\n6,2\n\nminute,inj,vdk\n1,3,1\n2,1,1\n3,3,1\n4,3,1\n"), TANKCURVE_ACCEPTED, 0);
     same("samples", numbers[TANKCURVE_COUNTS_SAMPLES], 3);
     same("points", numbers[TANKCURVE_COUNTS_POINTS], 2);
+}
+
+/* The same of a row over ranges and of the counts of both kinds of sheet. */
+static void fields_of_ranges(void)
+{
+    const uint16_t at[] = {3, 8, 8, 15, 21, 40}, low[] = {4, 0, 10, 6, 13, 31}, high[] = {5, 7, 11, 13, 29, 31}, point[] = {14};
+    const uint32_t seven[] = {7};
+    uint64_t row[TANKCURVE_RANGE_ROW_LEN];
+    gives("fields over ranges", tankcurve_smooth_ranges(at, 6, low, 6, high, 6, point, 1, seven, 1, row, TANKCURVE_RANGE_ROW_LEN), TANKCURVE_ACCEPTED, 0);
+    same("left over ranges", row[TANKCURVE_RANGE_ROW_LEFT], 1);
+    same("right over ranges", row[TANKCURVE_RANGE_ROW_RIGHT], 5);
+    same("weight over ranges", row[TANKCURVE_RANGE_ROW_WEIGHT], 74);
+    same("low sum", row[TANKCURVE_RANGE_ROW_LOW_SUM], 418);
+    same("high sum", row[TANKCURVE_RANGE_ROW_HIGH_SUM], 858);
+    same("low value", row[TANKCURVE_RANGE_ROW_LOW_VALUE], 6);
+    same("high value", row[TANKCURVE_RANGE_ROW_HIGH_VALUE], 12);
+    same("it is present", tankcurve_present(row), 1);
+    gives("no ranges", tankcurve_smooth_ranges(at, 0, low, 0, high, 0, point, 1, seven, 1, row, TANKCURVE_RANGE_ROW_LEN), TANKCURVE_ACCEPTED, 0);
+    same("the low value of weight 0", row[TANKCURVE_RANGE_ROW_LOW_VALUE], TANKCURVE_MISSING);
+    same("the high value of weight 0", row[TANKCURVE_RANGE_ROW_HIGH_VALUE], TANKCURVE_MISSING);
+    same("missing values are present", tankcurve_present(row), 0);
+    gives("fields of ranges", read_either("mark,half\n5,2\n6,2\n\nminute,inj,low,high\n1,3,0,1\n2,1,1,1\n3,3,1,1\n4,3,1,1\n"), TANKCURVE_ACCEPTED, 0);
+    same("samples of ranges", numbers[TANKCURVE_RANGE_COUNTS_SAMPLES], 3);
+    same("points of ranges", numbers[TANKCURVE_RANGE_COUNTS_POINTS], 2);
+    same("kind of ranges", numbers[TANKCURVE_RANGE_COUNTS_KIND], TANKCURVE_KIND_RANGES);
+    gives("fields of a plain sheet", read_either("mark,half\n5,2\n\nminute,inj,vdk\n"), TANKCURVE_ACCEPTED, 0);
+    same("kind of a plain sheet", numbers[TANKCURVE_RANGE_COUNTS_KIND], TANKCURVE_KIND_PLAIN);
 }
 
 /* Readings reach the greatest weight and sum; a row with a number over them is none of readings. */
@@ -383,6 +433,7 @@ int main(void)
     tanks();
     parts();
     fields();
+    fields_of_ranges();
     bounds();
     biweight_bounds();
     rows_of_another_window();

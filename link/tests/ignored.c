@@ -25,5 +25,7 @@ void ignored(uint16_t *shorts, uint32_t *words, uint64_t *numbers, uint8_t *byte
     tankcurve_doubles(0, 0, doubles, TANKCURVE_DOUBLES_LEN);
     tankcurve_first_at_most(shorts, 1, shorts, 1, shorts, 1, words, 1, 0, numbers, TANKCURVE_POSITION_LEN);
     tankcurve_decisive(shorts, 1, shorts, 1, 0, 1, 0, numbers, TANKCURVE_POSITION_LEN);
+    tankcurve_smooth_ranges(shorts, 1, shorts, 1, shorts, 1, shorts, 1, words, 1, numbers, TANKCURVE_RANGE_ROW_LEN);
+    tankcurve_read_ranges(bytes, 1, shorts, 1, shorts, 1, shorts, 1, shorts, 1, words, 1, numbers, TANKCURVE_RANGE_COUNTS_LEN);
     tankcurve_neighbours(shorts, 1, shorts, 1, shorts, 1, 1, words, 1, numbers, TANKCURVE_ROW_LEN);
 }

@@ -28,6 +28,8 @@ pub fn ignored(
     tankcurve::slices::neighbours(&[], &[], &[0], 1, words, numbers);
     tankcurve::slices::biweight(&[], &[], 0, numbers);
     tankcurve::slices::doubles(0, 0, doubles);
+    tankcurve::slices::smooth_ranges(&[], &[], &[], &[0], &[1], numbers);
+    tankcurve::slices::read_ranges(&[], &mut [], &mut [], &mut [], shorts, words, numbers);
     // The other calls give a `Result`, of which the language says the same.
     tankcurve::RunningSums::default().row(0, 1);
 }

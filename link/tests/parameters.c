@@ -24,6 +24,15 @@ static const char office_sheet[] = "mark,half\r\n12,7\r\n14,9\n\r\nminute,inj,vd
 static const char curve[] = "mark,half,left,right,weight,sum,vdk\n12,7,0,2,96,2112,22\n14,9,0,2,152,3352,22\n\nkept,passes\n3,2\n";
 /* A sheet whose line at byte 52 has a minute below the one before. */
 static const char falling_sheet[] = "mark,half\n12,7\n14,9\n\nminute,inj,vdk\n11,3,21\n12,1,22\n11,4,23\n30,5,24\n";
+/* Lows and highs for the minutes above, and lows of which that at position 4 is above its high. */
+static const uint16_t lows[SAMPLES] = {4, 0, 10, 6, 13, 31};
+static const uint16_t highs[SAMPLES] = {5, 7, 11, 13, 29, 31};
+static const uint16_t crossed[SAMPLES] = {4, 0, 10, 6, 30, 31};
+static const char range_sheet[] = "mark,half\n12,7\n14,9\n\nminute,inj,low,high\n11,3,0,21\n12,1,22,22\n13,4,23,25\n30,5,20,24\n";
+static const char range_curve[] = "mark,half,left,right,weight,sumlow,sumhigh,vdklow,vdkhigh\n"
+                                  "12,7,0,2,96,1104,2208,12,23\n14,9,0,2,152,1840,3512,12,23\n\nkept,passes\n3,2\n";
+/* A sheet whose line at byte 51, which is not kept, has a low above its high. */
+static const char crossed_sheet[] = "mark,half\n12,7\n14,9\n\nminute,inj,low,high\n11,3,0,21\n12,1,23,22\n13,4,23,25\n30,5,20,24\n";
 static const char falling_text[] = "refused,place\n4,52\n";
 
 static int compared;
@@ -499,6 +508,111 @@ static void read(void)
     same_list("read, counts", counts, counts_after, sizeof counts_after);
 }
 
+/* Lists of one length, so that no exchange of lists shows in their lengths. */
+static void smooth_ranges(void)
+{
+    const uint16_t points[] = {9, 14, 22, 30, 31, 40}, falling_points[] = {9, 14, 22, 30, 40, 31};
+    const uint32_t bandwidths[] = {6, 7, 8, 9, 10, 11}, widening[] = {6, 7, 8, 9, 10, 30}, none[] = {6, 7, 8, 0, 10, 11};
+    const uint64_t after[] = {0, 4, 70, 350, 630, 5, 9, 1, 5, 74, 418, 858, 6, 12, 3, 5, 78, 909, 2022, 12, 26,
+                              4, 5, 0, 0, 0, TANKCURVE_MISSING, TANKCURVE_MISSING, 4, 6, 19, 589, 589, 31, 31, 5, 6, 121, 3751, 3751, 31, 31, 99};
+    uint64_t before[6 * TANKCURVE_RANGE_ROW_LEN + 1], rows[6 * TANKCURVE_RANGE_ROW_LEN + 1];
+    const size_t n = SAMPLES, len = 6 * TANKCURVE_RANGE_ROW_LEN;
+    for (size_t k = 0; k <= len; k++)
+        before[k] = rows[k] = 99;
+    for (int k = 0; k < 6; k++)
+        same("ranges, one element less in a list",
+             tankcurve_smooth_ranges(minutes, n - (k == 0), lows, n - (k == 1), highs, n - (k == 2), points, 6 - (k == 3), bandwidths, 6 - (k == 4),
+                                     rows, len - (k == 5)),
+             TANKCURVE_LENGTH_MISMATCH);
+    same("ranges, longer rows", tankcurve_smooth_ranges(minutes, n, lows, n, highs, n, points, 6, bandwidths, 6, rows, len + 1),
+         TANKCURVE_LENGTH_MISMATCH);
+    same("ranges, falling minutes and a crossed range", tankcurve_smooth_ranges(falling, n, crossed, n, highs, n, points, 6, bandwidths, 6, rows, len),
+         TANKCURVE_DETAIL_UNIT * 4 + TANKCURVE_SAMPLE_OUT_OF_ORDER);
+    same("ranges, a crossed range", tankcurve_smooth_ranges(minutes, n, crossed, n, highs, n, falling_points, 6, bandwidths, 6, rows, len),
+         TANKCURVE_DETAIL_UNIT * 4 + TANKCURVE_CROSSED_RANGE);
+    same("ranges, falling points", tankcurve_smooth_ranges(minutes, n, lows, n, highs, n, falling_points, 6, bandwidths, 6, rows, len),
+         TANKCURVE_DETAIL_UNIT * 5 + TANKCURVE_POINT_OUT_OF_ORDER);
+    same("ranges, a bandwidth of 0", tankcurve_smooth_ranges(minutes, n, lows, n, highs, n, points, 6, none, 6, rows, len),
+         TANKCURVE_DETAIL_UNIT * 3 + TANKCURVE_BANDWIDTH_OUT_OF_RANGE);
+    same("ranges, an edge decreases", tankcurve_smooth_ranges(minutes, n, lows, n, highs, n, points, 6, widening, 6, rows, len),
+         TANKCURVE_DETAIL_UNIT * 5 + TANKCURVE_EDGE_DECREASES);
+    same_list("ranges, rows of a refusal", rows, before, sizeof before);
+    same("ranges", tankcurve_smooth_ranges(minutes, n, lows, n, highs, n, points, 6, bandwidths, 6, rows, len), TANKCURVE_DETAIL_UNIT * 11);
+    same_list("ranges, rows", rows, after, sizeof after);
+}
+
+static void read_ranges(void)
+{
+    static uint16_t read_minutes[TANKCURVE_MAX_SAMPLES], read_lows[TANKCURVE_MAX_SAMPLES], read_highs[TANKCURVE_MAX_SAMPLES];
+    static uint16_t points[TANKCURVE_MAX_POINTS];
+    static uint32_t bandwidths[TANKCURVE_MAX_POINTS];
+    uint64_t counts[] = {94, 95, 96};
+    /* The expected lists: at first the lent ones, then with the used parts in front. */
+    static uint16_t all_minutes[TANKCURVE_MAX_SAMPLES], all_lows[TANKCURVE_MAX_SAMPLES], all_highs[TANKCURVE_MAX_SAMPLES];
+    static uint16_t all_points[TANKCURVE_MAX_POINTS];
+    static uint32_t all_bandwidths[TANKCURVE_MAX_POINTS];
+    const uint64_t counts_before[] = {94, 95, 96}, of_ranges[] = {3, 2, TANKCURVE_KIND_RANGES}, of_values[] = {3, 2, TANKCURVE_KIND_PLAIN};
+    const uint16_t used_minutes[] = {11, 13, 30}, used_lows[] = {0, 23, 20}, used_highs[] = {21, 25, 24}, used_points[] = {12, 14};
+    const uint16_t used_values[] = {21, 23, 24};
+    const uint32_t used_bandwidths[] = {7, 9};
+    const size_t n = TANKCURVE_MAX_SAMPLES, m = TANKCURVE_MAX_POINTS, len = TANKCURVE_RANGE_COUNTS_LEN;
+    for (size_t i = 0; i < n; i++) {
+        read_minutes[i] = all_minutes[i] = 90;
+        read_lows[i] = all_lows[i] = 91;
+        read_highs[i] = all_highs[i] = 92;
+    }
+    for (size_t i = 0; i < m; i++) {
+        points[i] = all_points[i] = 93;
+        bandwidths[i] = all_bandwidths[i] = 94;
+    }
+    same("read ranges, a crossed line",
+         tankcurve_read_ranges((const uint8_t *)crossed_sheet, strlen(crossed_sheet), read_minutes, n, read_lows, n, read_highs, n, points, m, bandwidths,
+                               m, counts, len),
+         TANKCURVE_DETAIL_UNIT * 51 + TANKCURVE_CROSSED_RANGE);
+    /* A list of another length, each in turn. */
+    for (int k = 0; k < 6; k++)
+        same("read ranges, a shorter list",
+             tankcurve_read_ranges((const uint8_t *)range_sheet, strlen(range_sheet), read_minutes, n - (k == 0), read_lows, n - (k == 1), read_highs,
+                                   n - (k == 2), points, m - (k == 3), bandwidths, m - (k == 4), counts, len - (k == 5)),
+             TANKCURVE_LENGTH_MISMATCH);
+    same_list("read ranges, minutes of a refusal", read_minutes, all_minutes, sizeof all_minutes);
+    same_list("read ranges, lows of a refusal", read_lows, all_lows, sizeof all_lows);
+    same_list("read ranges, highs of a refusal", read_highs, all_highs, sizeof all_highs);
+    same_list("read ranges, points of a refusal", points, all_points, sizeof all_points);
+    same_list("read ranges, bandwidths of a refusal", bandwidths, all_bandwidths, sizeof all_bandwidths);
+    same_list("read ranges, counts of a refusal", counts, counts_before, sizeof counts_before);
+
+    same("read ranges",
+         tankcurve_read_ranges((const uint8_t *)range_sheet, strlen(range_sheet), read_minutes, n, read_lows, n, read_highs, n, points, m, bandwidths, m,
+                               counts, len),
+         0);
+    memcpy(all_minutes, used_minutes, sizeof used_minutes);
+    memcpy(all_lows, used_lows, sizeof used_lows);
+    memcpy(all_highs, used_highs, sizeof used_highs);
+    memcpy(all_points, used_points, sizeof used_points);
+    memcpy(all_bandwidths, used_bandwidths, sizeof used_bandwidths);
+    same_list("read ranges, minutes", read_minutes, all_minutes, sizeof all_minutes);
+    same_list("read ranges, lows", read_lows, all_lows, sizeof all_lows);
+    same_list("read ranges, highs", read_highs, all_highs, sizeof all_highs);
+    same_list("read ranges, points", points, all_points, sizeof all_points);
+    same_list("read ranges, bandwidths", bandwidths, all_bandwidths, sizeof all_bandwidths);
+    same_list("read ranges, counts", counts, of_ranges, sizeof of_ranges);
+
+    same("read ranges, a plain sheet",
+         tankcurve_read_ranges((const uint8_t *)sheet, strlen(sheet), read_minutes, n, read_lows, n, read_highs, n, points, m, bandwidths, m, counts,
+                               len),
+         0);
+    memcpy(all_lows, used_values, sizeof used_values);
+    memcpy(all_highs, used_values, sizeof used_values);
+    same_list("read ranges, lows of a plain sheet", read_lows, all_lows, sizeof all_lows);
+    same_list("read ranges, highs of a plain sheet", read_highs, all_highs, sizeof all_highs);
+    same_list("read ranges, counts of a plain sheet", counts, of_values, sizeof of_values);
+    same("read, a sheet with ranges",
+         tankcurve_read((const uint8_t *)range_sheet, strlen(range_sheet), read_minutes, n, read_lows, n, points, m, bandwidths, m, counts,
+                        TANKCURVE_COUNTS_LEN),
+         TANKCURVE_DETAIL_UNIT * 21 + TANKCURVE_BAD_HEADER);
+}
+
 static void text(void)
 {
     static uint8_t out[TANKCURVE_MAX_OUTPUT + 1], all[TANKCURVE_MAX_OUTPUT + 1];
@@ -520,6 +634,13 @@ static void text(void)
     same("text, carriage returns", tankcurve_text((const uint8_t *)office_sheet, strlen(office_sheet), out, TANKCURVE_MAX_OUTPUT),
          TANKCURVE_DETAIL_UNIT * 94);
     same_list("text, buffer of carriage returns", out, all, sizeof all);
+    same("text, a crossed range", tankcurve_text((const uint8_t *)crossed_sheet, strlen(crossed_sheet), out, TANKCURVE_MAX_OUTPUT),
+         TANKCURVE_DETAIL_UNIT * 51 + TANKCURVE_CROSSED_RANGE);
+    same_list("text, buffer of a crossed range", out, all, sizeof all);
+    same("text, ranges", tankcurve_text((const uint8_t *)range_sheet, strlen(range_sheet), out, TANKCURVE_MAX_OUTPUT),
+         TANKCURVE_DETAIL_UNIT * strlen(range_curve));
+    memcpy(all, range_curve, strlen(range_curve));
+    same_list("text, buffer of ranges", out, all, sizeof all);
 }
 
 static void refusal_text(void)
@@ -595,6 +716,8 @@ int main(void)
     doubles();
     fill();
     read();
+    smooth_ranges();
+    read_ranges();
     text();
     refusal_text();
     compare();

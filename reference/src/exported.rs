@@ -19,6 +19,21 @@ pub const COUNTS: usize = 2;
 /// counts.
 pub const READER: [usize; 5] = [MOST_READINGS, MOST_READINGS, MOST_MARKS, MOST_MARKS, COUNTS];
 
+/// The numbers of the counts of a sheet of either kind: kept readings, marks
+/// and the kind, 0 plain and 1 with ranges.
+pub const RANGE_COUNTS: usize = 3;
+
+/// The lengths of that reader's lists: minutes, lows, highs, marks, half
+/// widths, counts.
+pub const RANGE_READER: [usize; 6] = [
+    MOST_READINGS,
+    MOST_READINGS,
+    MOST_READINGS,
+    MOST_MARKS,
+    MOST_MARKS,
+    RANGE_COUNTS,
+];
+
 /// The numbers of an answer that is a position or none.
 pub const ANSWER: usize = 1;
 

@@ -13,11 +13,13 @@ pub mod generators;
 mod limit;
 mod neighbours;
 pub mod pair;
+mod ranges;
 
 pub use biweight::{biweight, BIWEIGHT_HALF};
 pub use doubles::{cell, pattern, row_cells, whole, Cell, LOW_PART, ONE_DOUBLE};
 pub use limit::{decisive, first_at_most};
 pub use neighbours::neighbours;
+pub use ranges::{program, read_ranges, sweep_ranges, text, Kind, RANGE_ROW_WIDTH};
 
 /// The longest list of kept readings that is no fault [Readings and marks].
 pub const MOST_READINGS: usize = 1024;
@@ -34,10 +36,10 @@ pub const PREVIEW_MARKS: usize = 64;
 /// The longest sheet that is no fault [Reports].
 pub const MOST_BYTES: usize = 32_768;
 
-/// The length of a buffer for a text. No text is longer: 36 bytes of names, a
-/// line of at most 61 for each of 512 marks, 13 of names, 10 of two counts
-/// [Output].
-pub const MOST_OUTPUT: usize = 31_291;
+/// The length of a buffer for a text. No text is longer: over ranges 58 bytes
+/// of names, a line of at most 86 for each of 512 marks, 13 of names, 10 of two
+/// counts [Output].
+pub const MOST_OUTPUT: usize = 44_113;
 
 /// How many numbers a row has [The row].
 pub const ROW_WIDTH: usize = 5;
@@ -52,7 +54,7 @@ pub const KNOB: [u32; 12] = [30, 45, 60, 90, 120, 180, 240, 360, 480, 720, 1080,
 /// [Reports].
 #[derive(Clone, Copy, Debug, PartialEq, Eq)]
 pub struct Refusal {
-    /// The report's number, 1 to 14 or 16.
+    /// The report's number, 1 to 16.
     pub number: u8,
     /// A byte of the sheet, a position in a list, or 0.
     pub place: u64,
@@ -527,57 +529,63 @@ struct Sheet {
     halves: Vec<u32>,
 }
 
-/// The sheet from its first line to its last, up to a line with a fault: of one
-/// line's faults the first of 3, then 4 or 5, then 9, 10 and 6. A place is how
-/// many bytes stand before the line [The sheet; Reports].
-fn sheet_of(bytes: &[u8]) -> Result<Sheet, Refusal> {
-    if bytes.len() > MOST_BYTES {
-        return refuse(1, MOST_BYTES);
-    }
-    let lines = lines(bytes);
-    let mut sheet = Sheet {
-        minutes: Vec::new(),
-        values: Vec::new(),
-        marks: Vec::new(),
-        halves: Vec::new(),
-    };
-
-    names_line(lines.first(), b"mark,half", bytes.len())?;
+/// The front of a sheet, up to its second names line: the marks, and how many
+/// lines they and the empty line are with the first names line. Of one line's
+/// faults the first of 3, 5, 9, 10 and 6 counts. A place is how many bytes stand
+/// before the line [The sheet; Reports].
+fn front_of(lines: &[Line], length: usize) -> Result<(Vec<u16>, Vec<u32>, usize), Refusal> {
+    let (mut marks, mut halves) = (Vec::new(), Vec::new());
+    names_line(lines.first(), b"mark,half", length)?;
 
     let mut at = 1;
     loop {
         // The marks do not end: the place is behind the last byte.
         let Some(line) = lines.get(at) else {
-            return refuse(3, bytes.len());
+            return refuse(3, length);
         };
         at += 1;
         if line.text.is_empty() {
-            if sheet.marks.is_empty() {
+            if marks.is_empty() {
                 return refuse(7, line.start);
             }
-            break;
+            return Ok((marks, halves, at));
         }
         let Some((mark, half)) = mark_line(line) else {
             return refuse(3, line.start);
         };
-        if sheet.marks.last().is_some_and(|&before| mark < before) {
+        if marks.last().is_some_and(|&before| mark < before) {
             return refuse(5, line.start);
         }
         if half_is_bad(half) {
             return refuse(9, line.start);
         }
-        if let (Some(&mark_before), Some(&half_before)) = (sheet.marks.last(), sheet.halves.last())
-        {
+        if let (Some(&mark_before), Some(&half_before)) = (marks.last(), halves.last()) {
             if edge_falls(mark_before, half_before, mark, half) {
                 return refuse(10, line.start);
             }
         }
-        if sheet.marks.len() == MOST_MARKS {
+        if marks.len() == MOST_MARKS {
             return refuse(6, line.start);
         }
-        sheet.marks.push(mark);
-        sheet.halves.push(half);
+        marks.push(mark);
+        halves.push(half);
     }
+}
+
+/// The sheet from its first line to its last, up to a line with a fault: of one
+/// reading line's faults the first of 3, 4 and 6 [The sheet; Reports].
+fn sheet_of(bytes: &[u8]) -> Result<Sheet, Refusal> {
+    if bytes.len() > MOST_BYTES {
+        return refuse(1, MOST_BYTES);
+    }
+    let lines = lines(bytes);
+    let (marks, halves, at) = front_of(&lines, bytes.len())?;
+    let mut sheet = Sheet {
+        minutes: Vec::new(),
+        values: Vec::new(),
+        marks,
+        halves,
+    };
 
     names_line(lines.get(at), b"minute,inj,vdk", bytes.len())?;
 
@@ -684,8 +692,8 @@ fn refusal_lines(number: u64, place: u64) -> String {
     format!("refused,place\n{number},{place}\n")
 }
 
-/// The whole program: the bytes written for the bytes read [Output].
-pub fn program(input: &[u8]) -> Vec<u8> {
+/// What the program writes of a sheet without ranges [Output].
+pub fn plain_program(input: &[u8]) -> Vec<u8> {
     match written(input) {
         Ok(text) => text.into_bytes(),
         Err(refusal) => refusal_lines(refusal.number.into(), refusal.place).into_bytes(),
@@ -696,17 +704,6 @@ pub fn program(input: &[u8]) -> Vec<u8> {
 fn put_front(text: &str, out: &mut [u8]) -> usize {
     out[..text.len()].copy_from_slice(text.as_bytes());
     text.len()
-}
-
-/// The curve of a sheet at the front of `out`, and its length. A buffer that
-/// has not its length is report 8, and then the sheet's own report counts
-/// [Output].
-pub fn text(sheet: &[u8], out: &mut [u8]) -> Result<usize, Refusal> {
-    if out.len() != MOST_OUTPUT {
-        return refuse(8, 0);
-    }
-    let text = written(sheet)?;
-    Ok(put_front(&text, out))
 }
 
 /// The two lines of a refusal at the front of `out`, and their length, for

@@ -151,7 +151,7 @@ fn c12_edge_back_in_a_sheet() {
     assert_eq!(out, [90; MOST_OUTPUT]);
     assert_eq!(refusal_text(10, 16, &mut out), Ok(20));
     assert_eq!(out[..20], *b"refused,place\n10,16\n");
-    assert_eq!(out[20..], [90; 31271]);
+    assert_eq!(out[20..], [90; MOST_OUTPUT - 20]);
 }
 
 #[test]

@@ -507,7 +507,7 @@ fn refusal_texted(number: u64, place: u64, length: usize) -> Result<Vec<u8>, Ref
     size.map(|used| out[..used].to_vec())
 }
 
-const WRONG_LENGTHS: [usize; 5] = [0, 31290, 31292, 62582, 96827];
+const WRONG_LENGTHS: [usize; 6] = [0, 31_291, 44_112, 44_114, 88_226, 109_649];
 
 #[test]
 fn text_reports() {

@@ -6,33 +6,33 @@ use mathlib.Core.Option.{Option, none, some}
 use native.Mathlib.Omega.{arith}
 use lib.ListN.{length}
 use Rattle.meanings.specs.Limits.{full, max-sheet, max-output}
-use Rattle.meanings.specs.Reports.{Fault, given, refused, differ}
-use Rattle.meanings.specs.Reports.{buffer-checks}
-use Rattle.meanings.specs.Sheet.{Outcome, or-next, read-sheet}
-use Rattle.meanings.specs.Output.{curve-text, refusal-text}
+use Rattle.meanings.specs.Reports.{Fault, Answer, given, refused, differ, buffer-checks}
+use Rattle.meanings.specs.Sheet.{or-next}
+use Rattle.meanings.specs.Output.{refusal-text}
 use Rattle.meanings.specs.declared.Writing.{Writing}
 use Rattle.meanings.specs.declared.Writing.the-variants.{Written}
-use Rattle.meanings.specs.Calls.{writing-answer, buffer-refusal, curve-size}
-use Rattle.meanings.specs.Calls.{write, write-refusal-text}
+use Rattle.meanings.specs.Calls.{writing-answer, buffer-refusal, write-refusal-text}
 use Rattle.meanings.proofs.Checks.{given-accepted}
-use Rattle.laws_output.proofs.Refusals.{refusal-small, any-refusal-fits}
-use Rattle.laws_output.proofs.AcceptedSheet.{accepted-contents}
-use Rattle.laws_output.proofs.OutputFits.{curve-text-fits}
+use Rattle.laws_output.proofs.Refusals.{any-refusal-fits}
+use Rattle.meanings_ranges.specs.RangeSheet.{RangeContents, read-either}
+use Rattle.meanings_ranges.specs.RangeOutput.{contents-text, either-text, either-program, text-size, write-either}
+use Rattle.laws_ranges.proofs.RangePlaces.{either-refusal-small}
+use Rattle.laws_ranges.proofs.RangeText.{either-program-fits}
 use Rattle.abi_answers.proofs.Places.{each-refusal-small, refusal-place, fault-small, answer-small, at-start}
 
-sheet-place : (s : List ℕ) → refusal-place (read-sheet full s) ≤ max-sheet
-sheet-place s = each-refusal-small (read-sheet full s) (λ f e. refusal-small full s f e .place-small)
+sheet-place : (s : List ℕ) → refusal-place (read-either full s) ≤ max-sheet
+sheet-place s = each-refusal-small (read-either full s) (λ f e. either-refusal-small full s f e .place-small)
 
-curve-place : (o : Outcome) → refusal-place o ≤ max-sheet → refusal-place (curve-size o) ≤ max-sheet
-curve-place (given c) l = l
-curve-place (refused e) l = l
+text-place : (o : Answer RangeContents) → refusal-place o ≤ max-sheet → refusal-place (text-size o) ≤ max-sheet
+text-place (given c) l = l
+text-place (refused e) l = l
 
-pub write-place : (s out : List ℕ) → refusal-place (write s out) ≤ max-sheet
-unfolding write
+pub write-place : (s out : List ℕ) → refusal-place (write-either s out) ≤ max-sheet
+unfolding write-either
 write-place s out = by (buffer-refusal out) refl
   where
-    by : (f : Option Fault) → buffer-refusal out ≡ f → refusal-place (curve-size (or-next f (read-sheet full s))) ≤ max-sheet
-    by none q = curve-place (read-sheet full s) (sheet-place s)
+    by : (f : Option Fault) → buffer-refusal out ≡ f → refusal-place (text-size (or-next f (read-either full s))) ≤ max-sheet
+    by none q = text-place (read-either full s) (sheet-place s)
     by (some e) q = fault-small (buffer-checks (length out)) (at-start (differ (length out) max-output), λ even. tt) e q
 
 pub refusal-text-place : (n p : ℕ) (out : List ℕ) → refusal-place (write-refusal-text n p out) ≤ max-sheet
@@ -43,12 +43,17 @@ refusal-text-place n p out =
       λ even. tt,
     )
 
-pub size-small : (s out : List ℕ) (n : ℕ) → write s out ≡ given n → n ≤ max-output
-unfolding write
-size-small s out n q = by (buffer-refusal out) (read-sheet full s) refl q
+-- a curve is what the program writes
+program-of : (s : List ℕ) (c : RangeContents) → read-either full s ≡ given c → length (either-program s) ≡ length (contents-text c)
+unfolding either-program
+program-of s c r = ap (λ (o : Answer RangeContents). length (either-text o)) r
+
+pub size-small : (s out : List ℕ) (n : ℕ) → write-either s out ≡ given n → n ≤ max-output
+unfolding write-either
+size-small s out n q = by (buffer-refusal out) (read-either full s) refl q
   where
-    by : (f : Option Fault) (o : Outcome) → read-sheet full s ≡ o → curve-size (or-next f o) ≡ given n → n ≤ max-output
-    by none (given c) r q = let e : length (curve-text c) ≡ n = cc in omega (arith, e, curve-text-fits c (accepted-contents s c r))
+    by : (f : Option Fault) (o : Answer RangeContents) → read-either full s ≡ o → text-size (or-next f o) ≡ given n → n ≤ max-output
+    by none (given c) r q = let e : length (contents-text c) ≡ n = cc in omega (arith, e, program-of s c r, either-program-fits s)
     by none (refused e) r q = let z : _≡_ {A = ℕ} 0 1 = cc in absurd (omega arith)
     by (some e) o r q = let z : _≡_ {A = ℕ} 0 1 = cc in absurd (omega arith)
 
@@ -58,8 +63,8 @@ refusal-size-small n p out k l m q =
     let a = given-accepted (buffer-refusal out) (length (refusal-text (record { number = n; place = p }))) k q in
     omega (arith, a .1, any-refusal-fits n p l m)
 
-pub text-size : (s out : List ℕ) (r : Writing) (n : ℕ) → writing-answer r ≡ write s out → r ≡ Written n → n ≤ max-output
-text-size s out r n answer met = size-small s out n (sym answer ∙ ap writing-answer met)
+pub text-small : (s out : List ℕ) (r : Writing) (n : ℕ) → writing-answer r ≡ write-either s out → r ≡ Written n → n ≤ max-output
+text-small s out r n answer met = size-small s out n (sym answer ∙ ap writing-answer met)
 
 pub refusal-size : (n p : ℕ) (out : List ℕ) (r : Writing) (k : ℕ) → writing-answer r ≡ write-refusal-text n p out → r ≡ Written k
     → n < 2 ^ 64 → p < 2 ^ 64 → k ≤ 56

@@ -3,17 +3,18 @@
 use abi_answers::refusal_code;
 use meanings::DETAIL_UNIT;
 use meanings::Writing;
-use text::curve_text;
 use text_refusal::refusal_text;
+use text_sheet::curve_text;
 ghost use mathlib.Core.Path.{_≡_};
-ghost use Rattle.meanings.specs.Calls.{write, write-buffer, write-refusal-text, refusal-buffer};
+ghost use Rattle.meanings.specs.Calls.{write-refusal-text, refusal-buffer};
 ghost use Rattle.meanings.specs.Codes.{answered};
+ghost use Rattle.meanings_ranges.specs.RangeOutput.{write-either, write-either-buffer};
 
 // The curve of a sheet as bytes: out has MAX_OUTPUT bytes, and the detail is how many are written. A refused sheet's report is the answer.
 #[no_mangle]
 pub extern "C" fn tankcurve_text(sheet: &[u8], out: &mut [u8]) -> u64
-    ensures { λ r. ⌜ r ≡ answered (λ n. n) (write (now (sheet .entry)) (now (out .entry))) ⌝ }
-    ensures { λ _. ⌜ now (out .exit) ≡ write-buffer (now (sheet .entry)) (now (out .entry)) ⌝ }
+    ensures { λ r. ⌜ r ≡ answered (λ n. n) (write-either (now (sheet .entry)) (now (out .entry))) ⌝ }
+    ensures { λ _. ⌜ now (out .exit) ≡ write-either-buffer (now (sheet .entry)) (now (out .entry)) ⌝ }
 {
     match curve_text(sheet, out) {
         Writing::Refused(refusal) => refusal_code(refusal),

@@ -26,11 +26,14 @@ use Rattle.meanings.specs.Grid.{presets, grid}
 use Rattle.meanings.specs.Claim.{refusal}
 use Rattle.meanings.specs.Sheet.{or-next, read-sheet}
 use Rattle.meanings.specs.SheetForm.{Refused}
-use Rattle.meanings.specs.Output.{curve-text, refusal-text}
+use Rattle.meanings.specs.Output.{refusal-text}
 use Rattle.meanings.specs.Calls.{evaluation-answer, advance-answer, smoothing-answer, filling-answer, parsing-answer, writing-answer, evaluate, window}
 use Rattle.meanings.specs.Calls.{window-start, smooth, smooth-rows, fill, fill-points, fill-bandwidths, read, counts}
-use Rattle.meanings.specs.Calls.{write, write-buffer, write-refusal-text, refusal-buffer}
+use Rattle.meanings.specs.Calls.{write-refusal-text, refusal-buffer}
 use Rattle.meanings.specs.Codes.{answered, no-detail}
+use Rattle.meanings_ranges.specs.RangeSheet.{read-either}
+use Rattle.meanings_ranges.specs.RangeOutput.{write-either, write-either-buffer}
+use Rattle.laws_range_form.specs.RangeForm.{EitherRefused}
 use Rattle.abi_answers.specs.Answers.{sized, bounds, count-numbers, record-numbers, record-of, record-length}
 use Rattle.estimator.proofs.evaluate.Met as evaluate-met
 use Rattle.estimator.proofs.window.Met as window-met
@@ -40,7 +43,7 @@ use Rattle.sweep.proofs.smooth.Met as smooth-met
 use Rattle.sweep.proofs.preview.Met as preview-met
 use Rattle.grid.proofs.fill_grid.Met as fill-grid-met
 use Rattle.sheet.proofs.read_sheet.Met as read-sheet-met
-use Rattle.text.proofs.curve_text.Met as curve-text-met
+use Rattle.text_sheet.proofs.curve_text.Met as curve-text-met
 use Rattle.text_refusal.proofs.refusal_text.Met as refusal-text-met
 use Rattle.abi_point.proofs.tankcurve_evaluate.Met as exported-evaluate-met
 use Rattle.abi_point.proofs.tankcurve_window.Met as exported-window-met
@@ -65,7 +68,8 @@ use Rattle.demands.proofs.FirstFaults.{refused-exactly}
 use Rattle.demands.proofs.CallChecks.{evaluate-finds, advance-finds, smooth-finds, fill-finds, read-finds, buffer-finds}
 use Rattle.demands.proofs.Refusals.{decided-exactly, decided-stays, sheet-exactly, length-first-finds}
 use Rattle.demands.proofs.Refusals.{sized-is-checked, sized-sheet-is-checked, stored-stays, first-numbered, first-or-else-numbered}
-use Rattle.demands.proofs.Refusals.{record-row-exactly, exported-refusal, exported-stays, counts-refused, size-refused, front-stays}
+use Rattle.demands.proofs.Refusals.{record-row-exactly, exported-refusal, exported-stays, counts-refused, front-stays}
+use Rattle.demands.proofs.EitherSheets.{either-exactly, first-or-either-numbered, text-refusal, text-stays}
 
 pub every-input : EveryInputTaken
 every-input = record {
@@ -174,14 +178,14 @@ read-refused s ts vs zs hs a ts′ vs′ zs′ hs′ c =
     }
 
 pub text-refused : (s out : List ℕ) (a : Writing) (out′ : List ℕ) → TextCall s out a out′
-    → RefusedAndStays (refusal (writing-answer a)) (FirstOrElse (buffer-conditions out) (Refused full s)) (out′ ≡ out)
-unfolding write write-buffer
+    → RefusedAndStays (refusal (writing-answer a)) (FirstOrElse (buffer-conditions out) (EitherRefused full s)) (out′ ≡ out)
+unfolding write-either write-either-buffer
 text-refused s out a out′ c =
-    let o = or-next (first-of (buffer-checks (length out))) (read-sheet full s) in
-    let same : refusal (writing-answer a) ≡ refusal o = ap refusal (c .ensured .0) ∙ size-refused o in
+    let o = or-next (first-of (buffer-checks (length out))) (read-either full s) in
+    let same : refusal (writing-answer a) ≡ refusal o = ap refusal (c .ensured .0) ∙ text-refusal o in
     record {
-      exactly = rw same (sheet-exactly (buffer-finds out) s);
-      stays = λ e q. c .ensured .1 ∙ front-stays o curve-text out e (sym same ∙ q);
+      exactly = rw same (either-exactly (buffer-finds out) s);
+      stays = λ e q. c .ensured .1 ∙ text-stays o out e (sym same ∙ q);
     }
 
 pub refusal-text-refused : (n p : ℕ) (out : List ℕ) (a : Writing) (out′ : List ℕ) → RefusalTextCall n p out a out′
@@ -336,21 +340,21 @@ exported-read-refused s ts vs zs hs ns c ts′ vs′ zs′ hs′ ns′ k =
     ))
 
 module _ (s out : List ℕ) where
-  text-exactly : RefusedExactly (refusal (write s out)) (FirstOrElse (buffer-conditions out) (Refused full s))
-  unfolding write
+  text-exactly : RefusedExactly (refusal (write-either s out)) (FirstOrElse (buffer-conditions out) (EitherRefused full s))
+  unfolding write-either
   text-exactly =
-      rw (size-refused (or-next (first-of (buffer-checks (length out))) (read-sheet full s))) (sheet-exactly (buffer-finds out) s)
+      rw (text-refusal (or-next (first-of (buffer-checks (length out))) (read-either full s))) (either-exactly (buffer-finds out) s)
 
-  pub text-coded : (c : ℕ) → c ≡ answered (λ n. n) (write s out) → code-refusal c ≡ refusal (write s out)
-  text-coded c q = exported-refusal (λ n. n) (write s out) c _ q (first-or-else-numbered (buffer-conditions out) refl s) text-exactly
+  pub text-coded : (c : ℕ) → c ≡ answered (λ n. n) (write-either s out) → code-refusal c ≡ refusal (write-either s out)
+  text-coded c q = exported-refusal (λ n. n) (write-either s out) c _ q (first-or-either-numbered (buffer-conditions out) refl s) text-exactly
 
 pub exported-text-refused : (s out : List ℕ) (c : ℕ) (out′ : List ℕ) → ExportedText s out c out′
-    → RefusedAndStays (code-refusal c) (FirstOrElse (buffer-conditions out) (Refused full s)) (out′ ≡ out)
-unfolding write write-buffer
+    → RefusedAndStays (code-refusal c) (FirstOrElse (buffer-conditions out) (EitherRefused full s)) (out′ ≡ out)
+unfolding write-either write-either-buffer
 exported-text-refused s out c out′ k =
-    let o = or-next (first-of (buffer-checks (length out))) (read-sheet full s) in
-    exported-stays (write s out) c _ (text-coded s out c (k .ensured .0)) (text-exactly s out) (out′ ≡ out)
-    (λ e q. k .ensured .1 ∙ front-stays o curve-text out e (sym (size-refused o) ∙ q))
+    let o = or-next (first-of (buffer-checks (length out))) (read-either full s) in
+    exported-stays (write-either s out) c _ (text-coded s out c (k .ensured .0)) (text-exactly s out) (out′ ≡ out)
+    (λ e q. k .ensured .1 ∙ text-stays o out e (sym (text-refusal o) ∙ q))
 
 module _ (n p : ℕ) (out : List ℕ) where
   refusal-text-exactly : RefusedExactly (refusal (write-refusal-text n p out)) (FirstFault (buffer-conditions out))

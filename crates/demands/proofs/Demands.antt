@@ -2,6 +2,7 @@
 use Rattle.meanings.specs.Limits.{full}
 use Rattle.meanings.specs.Calls.{smoothing-answer}
 use Rattle.meanings.proofs.Cases.{document-cases-hold}
+use Rattle.meanings_ranges.proofs.Cases.{program-cases-hold}
 use Rattle.demands.specs.Demands.{Demands}
 use Rattle.demands.proofs.Crossing.{crossings}
 use Rattle.demands.proofs.Demand1.{every-input, evaluate-refused, window-refused, advance-refused, smooth-refused, fill-refused, read-refused}
@@ -47,4 +48,5 @@ demands = record {
   preview-holds = preview-holds;
   every-curve = every-curve;
   worked-cases = document-cases-hold;
+  printed-cases = program-cases-hold;
 }

@@ -74,9 +74,9 @@ every-curve = record {
       );
   sheets-alike = λ s s′ c vs′ r i j.
       let o = accepted-contents s c (printed-is-read full s c i) .minute-order in
-      program-holds s .each-sheet c i .text
+      program-holds s .plain-text c i
       ∙ same-curves (c .minutes) (c .values) vs′ r .texts o (c .points) (c .bandwidths)
-      ∙ sym (program-holds s′ .each-sheet _ j .text);
+      ∙ sym (program-holds s′ .plain-text _ j);
   exported-evaluate-alike = λ ts vs vs′ z h row c d row₁ row₂ r k l.
       let e = same-curves ts vs vs′ r .evaluations full z h in (
         k .ensured .0 ∙ ap (λ (t : Answer Estimate). answered no-detail (sized 5 row t)) e ∙ sym (l .ensured .0),

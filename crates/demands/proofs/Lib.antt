@@ -4,6 +4,7 @@ pub mod Demand1
 pub mod Demand2
 pub mod Demand3
 pub mod Demands
+pub mod EitherSheets
 pub mod EveryCurve
 pub use Rattle.demands_conditions.proofs.FirstFaults
 pub mod LineEndings

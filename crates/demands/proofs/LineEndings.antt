@@ -5,21 +5,27 @@ use mathlib.Core.Path.{_≡_, ap, _∙_}
 use mathlib.Core.List.{List}
 use lib.ListN.{length}
 use Rattle.meanings.specs.Limits.{full}
-use Rattle.meanings.specs.Reports.{Answer, given, first-of, read-checks}
-use Rattle.meanings.specs.Sheet.{Outcome, or-next, read-sheet}
+use Rattle.meanings.specs.Reports.{first-of, read-checks}
+use Rattle.meanings.specs.Sheet.{Outcome, or-next}
 use Rattle.meanings.specs.SheetForm.{print-sheet, contents-of}
 use Rattle.meanings.specs.FeedSheet.{read-feed-sheet, NoReturnFeed}
 use Rattle.meanings.specs.Output.{curve-text, outcome-text, program}
 use Rattle.meanings.specs.Calls.{read, filled-front, curve-size, buffer-refusal, write, write-buffer}
+use Rattle.laws_sheet.proofs.Outcomes.{read-is-printed}
 use Rattle.laws_sheet.proofs.LineEndings.{outcome-as-before, read-under-any-endings}
 use Rattle.demands.specs.LineEndings.{read-before, written-before, LineEndings}
-use Rattle.demands.proofs.Program.{program-goes-by}
+use Rattle.demands.proofs.EitherSheets.{plain-program, plain-write, plain-buffer}
+use Rattle.demands.proofs.Program.{program-holds}
 
 module _ (s : List ℕ) (n : NoReturnFeed s) where
   read-is : (ts vs zs hs : List ℕ) → read full s ts vs zs hs ≡ read-before s ts vs zs hs
   unfolding read
   read-is ts vs zs hs =
       ap (or-next (first-of (read-checks full (length ts) (length vs) (length zs) (length hs)))) (outcome-as-before full s n)
+
+  program-is : program s ≡ outcome-text (read-feed-sheet full s)
+  unfolding program
+  program-is = ap outcome-text (outcome-as-before full s n)
 
   size-is : (out : List ℕ) → write s out ≡ curve-size (written-before s out)
   unfolding write
@@ -32,8 +38,10 @@ module _ (s : List ℕ) (n : NoReturnFeed s) where
 pub line-endings : LineEndings
 line-endings = record {
   any-endings = λ ms js a b c e d f ns ks p q l.
-      program-goes-by (print-sheet e ns d f ks) (given (contents-of ms js)) (read-under-any-endings full ms js a b c e d f ns ks p q l);
-  program-as-before = λ s n. program-goes-by s (read-feed-sheet full s) (outcome-as-before full s n);
+      let t = print-sheet e ns d f ks in
+      let i = read-is-printed full t (contents-of ms js) (read-under-any-endings full ms js a b c e d f ns ks p q l) in
+      program-holds t .plain-text (contents-of ms js) i;
+  program-as-before = λ s n w. plain-program s w ∙ program-is s n;
   read-as-before = λ s ts vs zs hs a ts′ vs′ zs′ hs′ n k.
       let e = read-is s n ts vs zs hs in (
         rw e at (k .ensured .0),
@@ -44,7 +52,8 @@ line-endings = record {
           bandwidths = rw e at (k .ensured .1 .1 .1 .1);
         },
       );
-  text-as-before = λ s out a out′ n k. (k .ensured .0 ∙ size-is s n out, k .ensured .1 ∙ buffer-is s n out);
+  text-as-before = λ s out a out′ n w k.
+      (k .ensured .0 ∙ plain-write s w out ∙ size-is s n out, k .ensured .1 ∙ plain-buffer s w out ∙ buffer-is s n out);
   exported-read-as-before = λ s ts vs zs hs ns c ts′ vs′ zs′ hs′ ns′ n k.
       let e = read-is s n ts vs zs hs in (
         rw e at (k .ensured .0),
@@ -56,5 +65,6 @@ line-endings = record {
         },
         rw e at (k .ensured .1 .1 .1 .1 .1),
       );
-  exported-text-as-before = λ s out c out′ n k. (rw (size-is s n out) at (k .ensured .0), k .ensured .1 ∙ buffer-is s n out);
+  exported-text-as-before = λ s out c out′ n w k.
+      (rw (plain-write s w out, size-is s n out) at (k .ensured .0), k .ensured .1 ∙ plain-buffer s w out ∙ buffer-is s n out);
 }

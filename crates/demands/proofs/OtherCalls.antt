@@ -16,7 +16,8 @@ use Rattle.meanings.specs.Sheet.{Contents, Outcome, or-next, read-sheet}
 use Rattle.meanings.specs.SheetForm.{IsSheet}
 use Rattle.meanings.specs.Output.{refusal-text}
 use Rattle.meanings.specs.Calls.{Counts, fill-refusal, fill, fill-points, fill-bandwidths, read, counts}
-use Rattle.meanings.specs.Calls.{filled-front, write, buffer-refusal, write-refusal-text, refusal-buffer}
+use Rattle.meanings.specs.Calls.{filled-front, buffer-refusal, write-refusal-text, refusal-buffer}
+use Rattle.meanings_ranges.specs.RangeOutput.{write-either}
 use Rattle.meanings.proofs.Checks.{given-accepted}
 use Rattle.meanings.proofs.Grids.{fill-accepts, grid-length, grid-at}
 use Rattle.laws_sheet.proofs.Outcomes.{read-is-printed}
@@ -128,7 +129,7 @@ other-calls = record {
         ),
       );
   exported-text-writes = λ s out c out′ k q.
-      let g = accepted-given (write s out) (sym (text-coded s out c (k .ensured .0)) ∙ q) in
+      let g = accepted-given (write-either s out) (sym (text-coded s out c (k .ensured .0)) ∙ q) in
       let w = text-in-front s out (g .0) out′ (sym (g .1)) (k .ensured .1) in
       (k .ensured .0 ∙ ap (answered (λ n. n)) (g .1) ∙ ap (λ (n : ℕ). detail-unit * n) (w .0), w .1);
   exported-refusal-text-writes = λ n p out c out′ k q.

@@ -23,7 +23,7 @@ use Rattle.sweep.proofs.smooth.Reads as smooth
 use Rattle.sweep.proofs.preview.Reads as preview
 use Rattle.grid.proofs.fill_grid.Reads as fill-grid
 use Rattle.sheet.proofs.read_sheet.Reads as read-sheet
-use Rattle.text.proofs.curve_text.Reads as curve-text
+use Rattle.text_sheet.proofs.curve_text.Reads as curve-text
 use Rattle.text_refusal.proofs.refusal_text.Reads as refusal-text
 use Rattle.abi_point.proofs.tankcurve_evaluate.Reads as exported-evaluate
 use Rattle.abi_point.proofs.tankcurve_window.Reads as exported-window
@@ -52,8 +52,8 @@ use Rattle.grid.proofs.fill_grid.Kinds as fill-grid-kinds
 use Rattle.grid.proofs.fill_grid.Statement as fill-grid-code
 use Rattle.sheet.proofs.read_sheet.Kinds as read-sheet-kinds
 use Rattle.sheet.proofs.read_sheet.Statement as read-sheet-code
-use Rattle.text.proofs.curve_text.Kinds as curve-text-kinds
-use Rattle.text.proofs.curve_text.Statement as curve-text-code
+use Rattle.text_sheet.proofs.curve_text.Kinds as curve-text-kinds
+use Rattle.text_sheet.proofs.curve_text.Statement as curve-text-code
 use Rattle.text_refusal.proofs.refusal_text.Kinds as refusal-text-kinds
 use Rattle.text_refusal.proofs.refusal_text.Statement as refusal-text-code
 use Rattle.abi_point.proofs.tankcurve_evaluate.Kinds as exported-evaluate-kinds

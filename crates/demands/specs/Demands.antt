@@ -1,14 +1,15 @@
 -- What is promised: the three demands of docs/SPECIFICATION.md, "The three demands", about the program's bytes and about the calls that a
 -- program makes. The theorem is `demands` of the crate's proofs/Demands.antt.
 -- A call is known by its contract alone: Calls.antt. When a call is refused stands in Conditions.antt of crates/demands_conditions, for a sheet in
--- crates/meanings/specs/SheetForm.antt; what a published row is in PublishedRow.antt there, the step in Running.antt, the event log and the claim
--- about a list of steps in EventLog.antt and Claim.antt, the texts in Output.antt.
+-- crates/meanings/specs/SheetForm.antt, for one of either kind in RangeForm.antt of crates/laws_range_form; what a published row is in PublishedRow.antt of the
+-- meanings, the step in Running.antt, the event log and the claim about a list of steps in EventLog.antt and Claim.antt, the texts in Output.antt and in
+-- RangeOutput.antt of crates/meanings_ranges.
 -- ts are minutes, vs values, z a mark, h a half width, zs and hs lists of these, rs rows, s the bytes of a sheet; a list at exit has a prime.
 -- `AtMost max-u16` says that a list's numbers have 16 bits, as the type of the lent list has it; it stands where a bound is needed.
 use Prim.Native.Nat.{ℕ, suc, _+_, _-_, _*_, _%_, _^_, _≤_, _<_}
 use mathlib.Core.Path.{_≡_}
 use mathlib.Core.Logic.{_↔_, _⊎_}
-use mathlib.Core.List.{List, [], _∷_, _++_}
+use mathlib.Core.List.{List, [], _∷_, _++_, map}
 use mathlib.Core.Option.{Option, none, some}
 use denote.Ref.{RefT}
 use lib.ListN.{length, getD, take, drop, replicate}
@@ -39,6 +40,10 @@ use Rattle.meanings.specs.Grid.{presets}
 use Rattle.meanings.specs.Sheet.{Contents}
 use Rattle.meanings.specs.SheetForm.{IsSheet, Refused}
 use Rattle.meanings.specs.Output.{curve-text, refusal-text, program}
+use Rattle.meanings_ranges.specs.RangeSheet.{RangeContents}
+use Rattle.meanings_ranges.specs.RangeOutput.{range-curve-text, contents-text, either-program}
+use Rattle.meanings_ranges.specs.SheetCases.{ProgramCase, program-result, program-text, program-cases}
+use Rattle.laws_range_form.specs.RangeForm.{NamesRanges, IsRangeSheet, EitherSheet, EitherRefused}
 use Rattle.meanings.specs.Cases.{AllHold}
 use Rattle.meanings.specs.Document.{document-cases}
 use Rattle.meanings.specs.Calls.{evaluation-answer, advance-answer, smoothing-answer, filling-answer, parsing-answer, writing-answer}
@@ -68,51 +73,61 @@ log-passes ts vs ms =
 -- ---------------------------------------------------------------------------------------------------------------------------------------
 -- The program
 
--- the program draws the curve of the lists c
-pub record Draws (s : List ℕ) (c : Contents) : Type 0 where
+-- the program draws the curve of the lists c; of a plain sheet's lists each value stands as low and high
+pub record Draws (s : List ℕ) (c : RangeContents) : Type 0 where
   -- the bytes are a sheet of just these lists
-  pub sheet : IsSheet full s c
-  -- what it writes is their curve
-  pub text : program s ≡ curve-text c
-  -- in which each mark's row is the published one
-  pub rows : (k : ℕ) → k < length (c .points)
-      → PublishedRow (c .minutes) (c .values) (getD (c .points) k 0) (getD (c .bandwidths) k 0)
-      (estimate (c .minutes) (c .values) (getD (c .points) k 0) (getD (c .bandwidths) k 0))
+  pub sheet : EitherSheet full s c
+  -- what it writes is their curve, by the kind: rows with one sum and one value, or with the lowest and the highest of each
+  pub text : either-program s ≡ contents-text c
+  -- in which each mark's row is the published one of the lowest values and of the highest
+  pub low-rows : (k : ℕ) → k < length (c .points)
+      → PublishedRow (c .minutes) (c .lows) (getD (c .points) k 0) (getD (c .bandwidths) k 0)
+      (estimate (c .minutes) (c .lows) (getD (c .points) k 0) (getD (c .bandwidths) k 0))
+  pub high-rows : (k : ℕ) → k < length (c .points)
+      → PublishedRow (c .minutes) (c .highs) (getD (c .points) k 0) (getD (c .bandwidths) k 0)
+      (estimate (c .minutes) (c .highs) (getD (c .points) k 0) (getD (c .bandwidths) k 0))
   -- and the passes are the insertions plus evictions of an event log of the sheet's marks, at most two for each kept reading
-  pub passes-are : passes (c .minutes) (c .values) fresh (moves (c .points) (c .bandwidths))
-      ≡ log-passes (c .minutes) (c .values) (moves (c .points) (c .bandwidths))
-  pub passes-most : passes (c .minutes) (c .values) fresh (moves (c .points) (c .bandwidths)) ≤ 2 * length (c .minutes)
+  pub passes-are : passes (c .minutes) (c .lows) fresh (moves (c .points) (c .bandwidths))
+      ≡ log-passes (c .minutes) (c .lows) (moves (c .points) (c .bandwidths))
+  pub passes-most : passes (c .minutes) (c .lows) fresh (moves (c .points) (c .bandwidths)) ≤ 2 * length (c .minutes)
 
 -- the program refuses with report n at byte p
 pub record Refuses (s : List ℕ) (n p : ℕ) : Type 0 where
   -- the report's condition holds at that byte, and nothing that comes before it is at fault
-  pub condition : Refused full s n p
+  pub condition : EitherRefused full s n p
   -- what it writes is number and place
-  pub text : program s ≡ refusal-text (record { number = n; place = p })
+  pub text : either-program s ≡ refusal-text (record { number = n; place = p })
 
--- whatever bytes the program is given; `program s` is what it writes, which its function `answer` is proved to put into its buffer
+-- whatever bytes the program is given; `either-program s` is what it writes, which its function `answer` is proved to put into its buffer
 -- (crates/tankcurve/src/main.rt)
 pub record ProgramHolds (s : List ℕ) : Type 0 where
   -- it draws a curve or refuses
-  pub one-of-two : ((c : Contents) × Draws s c) ⊎ ((n : ℕ) × ((p : ℕ) × Refuses s n p))
+  pub one-of-two : ((c : RangeContents) × Draws s c) ⊎ ((n : ℕ) × ((p : ℕ) × Refuses s n p))
   -- the curve wherever the bytes are a sheet of some lists, the refusal wherever a report's condition is the first to hold
-  pub each-sheet : (c : Contents) → IsSheet full s c → Draws s c
-  pub each-report : (n p : ℕ) → Refused full s n p → Refuses s n p
-  -- they are never both, a sheet has one set of lists, and a refused one gets one report at one place
-  pub not-both : (c : Contents) (n p : ℕ) → IsSheet full s c → ¬ Refused full s n p
-  pub one-contents : (c d : Contents) → IsSheet full s c → IsSheet full s d → c ≡ d
-  pub one-report : (n p n′ p′ : ℕ) → Refused full s n p → Refused full s n′ p′ → (n ≡ n′) × (p ≡ p′)
+  pub each-sheet : (c : RangeContents) → EitherSheet full s c → Draws s c
+  pub each-report : (n p : ℕ) → EitherRefused full s n p → Refuses s n p
+  -- they are never both, a sheet has one set of lists and one kind, and a refused one gets one report at one place
+  pub not-both : (c : RangeContents) (n p : ℕ) → EitherSheet full s c → ¬ EitherRefused full s n p
+  pub one-contents : (c d : RangeContents) → EitherSheet full s c → EitherSheet full s d → c ≡ d
+  pub one-report : (n p n′ p′ : ℕ) → EitherRefused full s n p → EitherRefused full s n′ p′ → (n ≡ n′) × (p ≡ p′)
+  -- a plain sheet's text has the rows of its values; a sheet's text with ranges those of the lowest and the highest
+  pub plain-text : (c : Contents) → IsSheet full s c → either-program s ≡ curve-text c
+  pub range-text : (c : RangeContents) → IsRangeSheet full s c → either-program s ≡ range-curve-text c
+  -- unless the second header line is that of ranges, the text is the one that it was before there were sheets with ranges
+  pub as-before : ¬ NamesRanges full s → either-program s ≡ program s
   -- it depends on the first 32,769 bytes alone, so that it need read no more
-  pub front : program s ≡ program (take (suc max-sheet) s)
-  -- it fits a buffer of 31,291 bytes
-  pub fits : length (program s) ≤ max-output
+  pub front : either-program s ≡ either-program (take (suc max-sheet) s)
+  -- it fits a buffer of 44,113 bytes
+  pub fits : length (either-program s) ≤ max-output
+  -- and for a plain sheet in 31,291 of them
+  pub plain-fits : (c : Contents) → IsSheet full s c → length (either-program s) ≤ 31291
   -- two calls put just that in front of such a buffer: the first where there is a curve; else the second, with the report and place that the
   -- first has answered
   pub by-curve : (out out′ : List ℕ) (k : ℕ) → TextCall s out (Written k) out′
-      → (k ≡ length (program s)) × (out′ ≡ program s ++ drop (length (program s)) out)
+      → (k ≡ length (either-program s)) × (out′ ≡ either-program s ++ drop (length (either-program s)) out)
   pub by-refusal : (out out′ out″ : List ℕ) (f : Fault) (a b : Writing) → length out ≡ max-output → TextCall s out a out′
       → refusal (writing-answer a) ≡ some f → RefusalTextCall (f .number) (f .place) out′ b out″
-      → (writing-answer b ≡ given (length (program s))) × (out″ ≡ program s ++ drop (length (program s)) out)
+      → (writing-answer b ≡ given (length (either-program s))) × (out″ ≡ either-program s ++ drop (length (either-program s)) out)
 
 -- ---------------------------------------------------------------------------------------------------------------------------------------
 -- Demand 1
@@ -144,7 +159,7 @@ pub record Demand1 : Type 2 where
       ((ts′ ≡ ts) × (vs′ ≡ vs) × (zs′ ≡ zs) × (hs′ ≡ hs))
   -- a sheet's text: the buffer's length, then the sheet
   pub text-refused : (s out : List ℕ) (a : Writing) (out′ : List ℕ) → TextCall s out a out′
-      → RefusedAndStays (refusal (writing-answer a)) (FirstOrElse (buffer-conditions out) (Refused full s)) (out′ ≡ out)
+      → RefusedAndStays (refusal (writing-answer a)) (FirstOrElse (buffer-conditions out) (EitherRefused full s)) (out′ ≡ out)
   -- the text of a refusal: the buffer's length alone
   pub refusal-text-refused : (n p : ℕ) (out : List ℕ) (a : Writing) (out′ : List ℕ) → RefusalTextCall n p out a out′
       → RefusedAndStays (refusal (writing-answer a)) (FirstFault (buffer-conditions out)) (out′ ≡ out)
@@ -170,7 +185,7 @@ pub record Demand1 : Type 2 where
       → RefusedAndStays (code-refusal c) (FirstOrElse (length-first 2 ns (read-conditions ts vs zs hs)) (Refused full s))
       ((ts′ ≡ ts) × (vs′ ≡ vs) × (zs′ ≡ zs) × (hs′ ≡ hs) × (ns′ ≡ ns))
   pub exported-text-refused : (s out : List ℕ) (c : ℕ) (out′ : List ℕ) → ExportedText s out c out′
-      → RefusedAndStays (code-refusal c) (FirstOrElse (buffer-conditions out) (Refused full s)) (out′ ≡ out)
+      → RefusedAndStays (code-refusal c) (FirstOrElse (buffer-conditions out) (EitherRefused full s)) (out′ ≡ out)
   pub exported-refusal-text-refused : (n p : ℕ) (out : List ℕ) (c : ℕ) (out′ : List ℕ) → ExportedRefusalText n p out c out′
       → RefusedAndStays (code-refusal c) (FirstFault (buffer-conditions out)) (out′ ≡ out)
 
@@ -346,7 +361,7 @@ pub record OtherCalls : Type 0 where
       → ExportedRead s ts vs zs hs ns c ts′ vs′ zs′ hs′ ns′ → code-refusal c ≡ none
       → (c ≡ 0) × ((d : Contents) × ((ns′ ≡ length (d .minutes) ∷ length (d .points) ∷ []) × SheetRead s d ts vs zs hs ts′ vs′ zs′ hs′))
   pub exported-text-writes : (s out : List ℕ) (c : ℕ) (out′ : List ℕ) → ExportedText s out c out′ → code-refusal c ≡ none
-      → (c ≡ detail-unit * length (program s)) × (out′ ≡ program s ++ drop (length (program s)) out)
+      → (c ≡ detail-unit * length (either-program s)) × (out′ ≡ either-program s ++ drop (length (either-program s)) out)
   pub exported-refusal-text-writes : (n p : ℕ) (out : List ℕ) (c : ℕ) (out′ : List ℕ) → ExportedRefusalText n p out c out′ → code-refusal c ≡ none
       → (c ≡ detail-unit * length (refusal-text (record { number = n; place = p })))
       × (out′ ≡ refusal-text (record { number = n; place = p }) ++ drop (length (refusal-text (record { number = n; place = p }))) out)
@@ -409,7 +424,7 @@ pub record EveryCurve : Type 0 where
       → ¬ (stored-row rs′ k .value ≡ missing) → Among ts vs (getD zs k 0) (getD hs k 0) (stored-row rs′ k)
   pub preview-among : (ts vs zs hs rs : List ℕ) (n : ℕ) (rs′ : List ℕ) (k : ℕ) → PreviewCall ts vs zs hs rs (Passes n) rs′ → k < length zs
       → ¬ (stored-row rs′ k .value ≡ missing) → Among ts vs (getD zs k 0) (getD hs k 0) (stored-row rs′ k)
-  -- and in each row that the program writes
+  -- and in each row that the program writes for a plain sheet
   pub sheet-among : (s : List ℕ) (c : Contents) (k : ℕ) → IsSheet full s c → k < length (c .points)
       → ¬ (estimate (c .minutes) (c .values) (getD (c .points) k 0) (getD (c .bandwidths) k 0) .value ≡ missing)
       → Among (c .minutes) (c .values) (getD (c .points) k 0) (getD (c .bandwidths) k 0)
@@ -429,9 +444,9 @@ pub record EveryCurve : Type 0 where
       → SmoothCall ts vs′ zs hs rs b rs₂ → (smoothing-answer a ≡ smoothing-answer b) × (rs₁ ≡ rs₂)
   pub preview-alike : (ts vs vs′ zs hs rs : List ℕ) (a b : Smoothing) (rs₁ rs₂ : List ℕ) → Rearranged ts vs vs′ → PreviewCall ts vs zs hs rs a rs₁
       → PreviewCall ts vs′ zs hs rs b rs₂ → (smoothing-answer a ≡ smoothing-answer b) × (rs₁ ≡ rs₂)
-  -- two sheets that differ only so print alike
+  -- two plain sheets that differ only so print alike
   pub sheets-alike : (s s′ : List ℕ) (c : Contents) (vs′ : List ℕ) → Rearranged (c .minutes) (c .values) vs′ → IsSheet full s c
-      → IsSheet full s′ (record { minutes = c .minutes; values = vs′; points = c .points; bandwidths = c .bandwidths }) → program s ≡ program s′
+      → IsSheet full s′ (record { minutes = c .minutes; values = vs′; points = c .points; bandwidths = c .bandwidths }) → either-program s ≡ either-program s′
   -- the same of the calls for C and Rust
   pub exported-evaluate-alike : (ts vs vs′ : List ℕ) (z h : ℕ) (row : List ℕ) (c d : ℕ) (row₁ row₂ : List ℕ) → Rearranged ts vs vs′
       → ExportedEvaluate ts vs z h row c row₁ → ExportedEvaluate ts vs′ z h row d row₂ → (c ≡ d) × (row₁ ≡ row₂)
@@ -453,3 +468,5 @@ pub record Demands : Type 2 where
   pub preview-holds : Preview
   pub every-curve : EveryCurve
   pub worked-cases : AllHold document-cases
+  -- what the program writes for sheets of both kinds, accepted and refused, and for the empty input: SPECIFICATION 7.9, 18.14
+  pub printed-cases : map (λ (c : ProgramCase). program-result c) program-cases ≡ map (λ (c : ProgramCase). program-text c) program-cases

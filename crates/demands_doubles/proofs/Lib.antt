@@ -1,4 +1,5 @@
 pub mod Biweight
 pub mod Doubles
 pub mod Neighbours
+pub mod Ranges
 pub mod Rows

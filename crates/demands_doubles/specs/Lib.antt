@@ -1,3 +1,4 @@
 pub mod Biweight
 pub mod Doubles
 pub mod Neighbours
+pub mod Ranges

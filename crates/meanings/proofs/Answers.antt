@@ -92,8 +92,8 @@ pub program-limits : (s : List ℕ) → program s ≡ outcome-text (read-sheet (
 unfolding program
 program-limits s = refl
 
--- a buffer of another length than 31,291 is refused
-pub buffer-lengths : (first-of (buffer-checks 31290) ≡ some (record { number = 8; place = 0 }))
-    × (first-of (buffer-checks 31291) ≡ none)
-    × (first-of (buffer-checks 31292) ≡ some (record { number = 8; place = 0 }))
+-- a buffer of another length than 44,113 is refused
+pub buffer-lengths : (first-of (buffer-checks 44112) ≡ some (record { number = 8; place = 0 }))
+    × (first-of (buffer-checks 44113) ≡ none)
+    × (first-of (buffer-checks 44114) ≡ some (record { number = 8; place = 0 }))
 buffer-lengths = (refl, refl, refl)

@@ -31,6 +31,7 @@ row-width = 5
 abbrev pub max-sheet : ℕ
 max-sheet = 32768
 
--- the length of the buffer that a text is written into: none is longer, by the laws program-fits and any-refusal-fits of crates/laws_output
+-- the length of the buffer that a text is written into: none is longer, by the laws either-program-fits of
+-- crates/laws_ranges and any-refusal-fits of crates/laws_output
 abbrev pub max-output : ℕ
-max-output = 31291
+max-output = 44113

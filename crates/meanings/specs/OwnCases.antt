@@ -306,15 +306,15 @@ buffer = replicate max-output 7
 abbrev pub text-cases : List Case
 text-cases =
     -- the curve in front of the untouched rest
-    curve-into empty-sheet buffer ⇒ holds (given 67) (empty-curve ++ replicate 31224 7)
+    curve-into empty-sheet buffer ⇒ holds (given 67) (empty-curve ++ replicate 44046 7)
     -- a refused sheet: its own report, and the buffer as it was
     ∷ curve-into (ascii "mark,half\n20,10\n21,12\n") buffer ⇒ holds (is-report 10 16) buffer
     -- 8 of a buffer of another length, before every report of the sheet
     ∷ curve-into empty-sheet (7 ∷ buffer) ⇒ holds (is-report 8 0) (7 ∷ buffer)
     ∷ curve-into (ascii "mark,half\n20,10\n21,12\n") [] ⇒ holds (is-report 8 0) []
     -- the text of a refusal, also of no report
-    ∷ refusal-into 10 16 buffer ⇒ holds (given 20) (ascii "refused,place\n10,16\n" ++ replicate 31271 7)
-    ∷ refusal-into 0 (2 ^ 64 - 1) buffer ⇒ holds (given 37) (ascii "refused,place\n0,18446744073709551615\n" ++ replicate 31254 7)
+    ∷ refusal-into 10 16 buffer ⇒ holds (given 20) (ascii "refused,place\n10,16\n" ++ replicate 44093 7)
+    ∷ refusal-into 0 (2 ^ 64 - 1) buffer ⇒ holds (given 37) (ascii "refused,place\n0,18446744073709551615\n" ++ replicate 44076 7)
     ∷ refusal-into 10 16 (7 ∷ buffer) ⇒ holds (is-report 8 0) (7 ∷ buffer)
     ∷ refusal-into 10 16 sevens ⇒ holds (is-report 8 0) sevens
     ∷ []

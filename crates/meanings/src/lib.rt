@@ -2,7 +2,7 @@
 // What each value has to be is defined in specs/.
 
 // The length of the buffer that a text is written into: max-output of specs/Limits.antt.
-pub const MAX_OUTPUT: usize = 31291;
+pub const MAX_OUTPUT: usize = 44113;
 
 // How many numbers a row has: row-width of specs/Limits.antt.
 pub const ROW_WIDTH: usize = 5;

@@ -19,7 +19,9 @@ use Rattle.sheet.specs.declared.samples.SampleStored.{SampleStored}
 use Rattle.sheet.specs.declared.samples.SampleStored.the-variants.{Stored}
 use Rattle.sheet.specs.declared.samples.SamplesRead.{SamplesRead}
 use Rattle.sheet.specs.declared.samples.SamplesRead.the-variants.{Kept}
-use Rattle.sheet.specs.Stages.{HeaderTried, SampleTried, SamplesFound, SamplesFromHeader}
+use Rattle.sheet_front.specs.Stages.{HeaderTried}
+use Rattle.sheet_front.proofs.LineSteps.{header-goes-on, header-stops}
+use Rattle.sheet.specs.Stages.{SampleTried, SamplesFound, SamplesFromHeader}
 use Rattle.sheet.proofs.LineSteps.{samples-without-line, samples-at-line}
 use Rattle.sheet.proofs.LastMinutes.{first-minute, last-minute}
 
@@ -81,7 +83,7 @@ module _ {s : List ℕ} {from : ℕ} {ts₀ vs₀ ts vs : List ℕ} {p count las
 -- the names line before them
 module _ {s : List ℕ} {from : ℕ} {h : Found} (tried : HeaderTried sample-header s from h) where
   pub no-sample-header : {ts vs : List ℕ} → h ≡ Nothing → SamplesFromHeader s from (SamplesRead.Refused (record { report = BadHeader; place = from })) ts vs
-  no-sample-header e = record { outcome = λ zs hs. tried .goes-on _ ∙ rw e; within = tt }
+  no-sample-header e = record { outcome = λ zs hs. header-stops _ tried e; within = tt }
 
   pub samples-after-header : {p : ℕ} {r : SamplesRead} {ts vs : List ℕ} → h ≡ At p → SamplesFound s p r ts vs → SamplesFromHeader s from r ts vs
-  samples-after-header e g = record { outcome = λ zs hs. tried .goes-on _ ∙ rw e (g .outcome zs hs); within = g .within }
+  samples-after-header e g = record { outcome = λ zs hs. header-goes-on _ tried e ∙ g .outcome zs hs; within = g .within }

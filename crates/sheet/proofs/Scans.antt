@@ -1,62 +1,53 @@
 -- The whole sheet's meaning, stage by stage, and the reader's from it.
-use Prim.Native.Nat.{ℕ, _≤_, _<_}
-use mathlib.Core.Path.{_≡_, _∙_}
+use Prim.Native.Nat.{ℕ, _≤_}
+use mathlib.Core.Path.{_≡_, sym, ap, _∙_}
 use mathlib.Core.Bool.{true, false}
-use mathlib.Core.List.{List, [], _++_}
+use mathlib.Core.List.{List}
 use native.Mathlib.Omega.{arith}
-use borrow.Author.Tests.{lt-ltb, le-ltb}
-use lib.ListN.{length, take, drop}
+use lib.ListN.{length}
 use lib.Seq.{length-take-le}
-use Rattle.meanings.specs.declared.Report.the-variants.{TooLong, BadHeader}
 use Rattle.meanings.specs.declared.Refusal.{Refusal}
-use Rattle.meanings.specs.declared.Found.{Found}
-use Rattle.meanings.specs.declared.Found.the-variants.{At, Nothing}
 use Rattle.meanings.specs.declared.Parsing.{Parsing}
 use Rattle.meanings.specs.declared.Parsing.the-variants.{Used}
-use Rattle.meanings.specs.Limits.{full, max-sheet}
-use Rattle.meanings.specs.Bytes.{point-header}
+use Rattle.meanings.specs.Limits.{full}
 use Rattle.meanings.specs.Reports.{Answer, refused, fault-of}
-use Rattle.meanings.specs.Sheet.{lines, read-points, read-sheet}
+use Rattle.meanings.specs.Sheet.{read-sheet}
 use Rattle.meanings.specs.Calls.{Counts, parsing-answer, counts, read, read-minutes, read-values, read-evaluation-points, read-bandwidths}
 use Rattle.meanings.proofs.Checks.{or-false, differ-false}
 use Rattle.checks.specs.ReaderLists.{uneven-lists}
-use Rattle.sheet.specs.declared.points.PointsRead.{PointsRead}
-use Rattle.sheet.specs.declared.points.PointsRead.the-variants.{Points}
+use Rattle.list_fronts.specs.Copied.{copied}
+use Rattle.list_fronts.proofs.Copies.{copied-front}
+use Rattle.meanings_ranges.specs.RangeSheet.{Front}
+use Rattle.meanings_ranges.specs.EitherKind.{and-then}
+use Rattle.meanings_ranges.proofs.Fronts.{front-then, plain-from, plain-is-front}
+use Rattle.sheet_front.specs.declared.points.FrontRead.{FrontRead}
+use Rattle.sheet_front.specs.declared.points.FrontRead.the-variants.{Points}
+use Rattle.sheet_front.specs.Stages.{front-read, FrontTold}
+use Rattle.sheet_front.proofs.Fronts.{told-front}
 use Rattle.sheet.specs.declared.samples.SamplesRead.{SamplesRead}
 use Rattle.sheet.specs.declared.samples.SamplesRead.the-variants.{Kept}
-use Rattle.sheet.specs.Stages.{HeaderTried, PointsFound, SamplesFromHeader, sheet-read, Scanned, ReadInto}
+use Rattle.sheet.specs.Stages.{SamplesFromHeader, sheet-read, Scanned, ReadInto}
 
-pub too-long : {s ts vs zs hs : List ℕ} → max-sheet < length s → Scanned s (Parsing.Refused (record { report = TooLong; place = max-sheet })) ts vs zs hs
-unfolding read-sheet
-too-long {s} l = record { outcome = rw (lt-ltb max-sheet (length s) l); within = tt }
+-- the front of the sheet, read into lists of full length
+module _ {s zs hs : List ℕ} {m n : ℕ} {r : FrontRead} (told : FrontTold s m n r zs hs) (points : m ≡ 512) (bandwidths : n ≡ 512) where
+  after-front : read-sheet full s ≡ and-then (front-read r s zs hs) (plain-from full)
+  after-front =
+      plain-is-front full s ∙ sym (front-then full s (plain-from full))
+      ∙ ap (λ (a : Answer Front). and-then a (plain-from full)) (told-front told points bandwidths)
 
-pub points-end-within : {s : List ℕ} {p : ℕ} {r : PointsRead} {zs hs : List ℕ} {n q : ℕ} → PointsFound s p r zs hs → r ≡ Points n q → q ≤ length s
-points-end-within f e = (rw e at (f .within)) .1
+  pub front-refused : {ts vs : List ℕ} {x : Refusal} → r ≡ FrontRead.Refused x → Scanned s (Parsing.Refused x) ts vs zs hs
+  front-refused e = record { outcome = after-front ∙ rw e; within = tt }
 
-module _ {s : List ℕ} {f : Found} (short : length s ≤ max-sheet) (tried : HeaderTried point-header s 0 f) where
-  pub no-point-header : {ts vs zs hs : List ℕ} → f ≡ Nothing → Scanned s (Parsing.Refused (record { report = BadHeader; place = 0 })) ts vs zs hs
-  unfolding read-sheet
-  no-point-header e = record { outcome = rw (le-ltb max-sheet (length s) short) (tried .goes-on _ ∙ rw e); within = tt }
+  module _ {c q : ℕ} {k : SamplesRead} {ts vs : List ℕ} (counted : r ≡ Points c q) (samples : SamplesFromHeader s q k ts vs) where
+    pub samples-refused : {x : Refusal} → k ≡ SamplesRead.Refused x → Scanned s (Parsing.Refused x) ts vs zs hs
+    samples-refused e = record { outcome = after-front ∙ rw counted (samples .outcome _ _ ∙ rw e); within = tt }
 
-  after-point-header : {p : ℕ} → f ≡ At p → read-sheet full s ≡ read-points full p [] [] (lines (drop p s))
-  unfolding read-sheet
-  after-point-header e = rw (le-ltb max-sheet (length s) short) (tried .goes-on _ ∙ rw e)
-
-  module _ {p : ℕ} {r : PointsRead} {zs hs : List ℕ} (passed : f ≡ At p) (points : PointsFound s p r zs hs) where
-    pub points-refused : {ts vs : List ℕ} {x : Refusal} → r ≡ PointsRead.Refused x → Scanned s (Parsing.Refused x) ts vs zs hs
-    points-refused e = record { outcome = after-point-header passed ∙ points .outcome ∙ rw e; within = tt }
-
-    module _ {n q : ℕ} {k : SamplesRead} {ts vs : List ℕ} (counted : r ≡ Points n q) (samples : SamplesFromHeader s q k ts vs) where
-      pub samples-refused : {x : Refusal} → k ≡ SamplesRead.Refused x → Scanned s (Parsing.Refused x) ts vs zs hs
-      samples-refused e =
-          record { outcome = after-point-header passed ∙ points .outcome ∙ rw counted (samples .outcome _ _ ∙ rw e); within = tt }
-
-      pub sheet-used : {m : ℕ} → k ≡ Kept m → Scanned s (Used m n) ts vs zs hs
-      sheet-used e =
-          record {
-            outcome = after-point-header passed ∙ points .outcome ∙ rw counted (samples .outcome _ _ ∙ rw e);
-            within = (rw e at (samples .within), (rw counted at (points .within)) .0);
-          }
+    pub sheet-used : {i : ℕ} → k ≡ Kept i → Scanned s (Used i c) ts vs zs hs
+    sheet-used e =
+        record {
+          outcome = after-front ∙ rw counted (samples .outcome _ _ ∙ rw e);
+          within = (rw e at (samples .within), (rw counted at (told .within)) .0);
+        }
 
 -- the reader's own lists ts, vs, zs, hs, and the lent ones
 module _ {s ts vs zs hs : List ℕ} {r : Parsing} (scanned : Scanned s r ts vs zs hs) where
@@ -67,22 +58,28 @@ module _ {s ts vs zs hs : List ℕ} {r : Parsing} (scanned : Scanned s r ts vs z
       record { answer = rw o; minutes = rw o; values = rw o; points = rw o; bandwidths = rw o }
 
   module _ {n m : ℕ} (used : r ≡ Used n m) where
-    pub samples-fit : (xs : List ℕ) → length xs ≡ 1024 → n ≤ length xs
+    samples-fit : (xs : List ℕ) → length xs ≡ 1024 → n ≤ length xs
     samples-fit xs l = let u = rw used at (scanned .within) in omega arith
 
-    pub points-fit : (xs : List ℕ) → length xs ≡ 512 → m ≤ length xs
+    points-fit : (xs : List ℕ) → length xs ≡ 512 → m ≤ length xs
     points-fit xs l = let u = rw used at (scanned .within) in omega arith
 
-    pub reading-used : {ts₀ vs₀ zs₀ hs₀ ts₁ vs₁ zs₁ hs₁ : List ℕ} → length ts ≡ 1024 → length vs ≡ 1024 → length zs ≡ 512 → length hs ≡ 512
-        → ts₁ ≡ take n ts ++ drop n ts₀ → vs₁ ≡ take n vs ++ drop n vs₀ → zs₁ ≡ take m zs ++ drop m zs₀ → hs₁ ≡ take m hs ++ drop m hs₀
-        → ReadInto s ts₀ vs₀ zs₀ hs₀ (Used n m) ts₁ vs₁ zs₁ hs₁
-    reading-used lt lv lz lh ea eb ec ed =
+    pub reading-used : {ts₀ vs₀ zs₀ hs₀ ts₁ vs₁ zs₁ hs₁ : List ℕ}
+        → (length ts₀ ≡ 1024) × (length vs₀ ≡ 1024) × (length zs₀ ≡ 512) × (length hs₀ ≡ 512)
+        → length ts ≡ 1024 → length vs ≡ 1024 → length zs ≡ 512 → length hs ≡ 512
+        → ts₁ ≡ copied ts n ts₀ → vs₁ ≡ copied vs n vs₀
+        → zs₁ ≡ copied zs m zs₀ → hs₁ ≡ copied hs m hs₀ → ReadInto s ts₀ vs₀ zs₀ hs₀ (Used n m) ts₁ vs₁ zs₁ hs₁
+    reading-used {ts₀} {vs₀} {zs₀} {hs₀} lent lt lv lz lh ea eb ec ed =
+        let fa = ea ∙ copied-front ts n ts₀ (samples-fit ts lt) (samples-fit ts₀ (lent .0)) in
+        let fb = eb ∙ copied-front vs n vs₀ (samples-fit vs lv) (samples-fit vs₀ (lent .1)) in
+        let fc = ec ∙ copied-front zs m zs₀ (points-fit zs lz) (points-fit zs₀ (lent .2)) in
+        let fd = ed ∙ copied-front hs m hs₀ (points-fit hs lh) (points-fit hs₀ (lent .3)) in
         let o : read-sheet full s ≡ sheet-read (Used n m) ts vs zs hs = scanned .outcome ∙ rw used in
         let kt = length-take-le n ts (samples-fit ts lt) in
         let kv = length-take-le n vs (samples-fit vs lv) in
         let kz = length-take-le m zs (points-fit zs lz) in
         let kh = length-take-le m hs (points-fit hs lh) in
-        record { answer = rw (o, kt, kz); minutes = rw (o, kt) ea; values = rw (o, kv) eb; points = rw (o, kz) ec; bandwidths = rw (o, kh) ed }
+        record { answer = rw (o, kt, kz); minutes = rw (o, kt) fa; values = rw (o, kv) fb; points = rw (o, kz) fc; bandwidths = rw (o, kh) fd }
 
 -- the lengths of the lent lists, tested
 pub even-lengths : {a b c d : ℕ} → uneven-lists full a b c d ≡ false → (a ≡ 1024) × (b ≡ 1024) × (c ≡ 512) × (d ≡ 512)

@@ -1,72 +1,21 @@
 -- What each stage of the reader has found out, as what is left of the sheet's meaning: a stage's contract says that the meaning before it is
--- the meaning of what it gives. Each contract is one record; what goes on after a stage stands in it for every way to go on.
-use Prim.Native.Nat.{ℕ, _+_, _≤_}
+-- the meaning of what it gives. Each contract is one record; what goes on after a stage stands in it for every way to go on. The stages up to
+-- the second names line are those of crates/sheet_front.
+use Prim.Native.Nat.{ℕ, _≤_}
 use mathlib.Core.Path.{_≡_}
-use mathlib.Core.Bool.{Bool}
-use mathlib.Core.List.{List, [], _∷_, _++_}
+use mathlib.Core.List.{List, [], _∷_}
 use lib.ListN.{length, take, drop}
-use Rattle.meanings.specs.declared.Verdict.{Verdict}
-use Rattle.meanings.specs.declared.Verdict.the-variants.{Fit, Faulty}
-use Rattle.meanings.specs.declared.Found.{Found}
-use Rattle.meanings.specs.declared.Found.the-variants.{At, Nothing}
 use Rattle.meanings.specs.declared.Parsing.{Parsing}
 use Rattle.meanings.specs.declared.Parsing.the-variants.{Used}
 use Rattle.meanings.specs.Limits.{full}
 use Rattle.meanings.specs.Bytes.{sample-header}
-use Rattle.meanings.specs.Reports.{given, refused, fault-of, verdict-fault, first-of, decreases, edge-decreases}
-use Rattle.meanings.specs.Sheet.{Lines, lines, Outcome, refused-at, or-next, header, point-line, point-checks, with-point, read-points, sample-line}
-use Rattle.meanings.specs.Sheet.{with-sample, read-samples, read-sheet}
+use Rattle.meanings.specs.Reports.{given, refused, fault-of}
+use Rattle.meanings.specs.Sheet.{lines, Outcome, header, sample-line, with-sample, read-samples, read-sheet}
 use Rattle.meanings.specs.Calls.{parsing-answer, counts, read-minutes, read-values, read-evaluation-points, read-bandwidths}
-use Rattle.sheet.specs.declared.points.PointsRead.{PointsRead}
-use Rattle.sheet.specs.declared.points.PointsRead.the-variants.{Points}
 use Rattle.sheet.specs.declared.samples.SampleStored.{SampleStored}
 use Rattle.sheet.specs.declared.samples.SampleStored.the-variants.{Stored}
 use Rattle.sheet.specs.declared.samples.SamplesRead.{SamplesRead}
 use Rattle.sheet.specs.declared.samples.SamplesRead.the-variants.{Kept}
-
--- after the names line at byte p
-abbrev pub after-header : Found → List ℕ → ℕ → (ℕ → Lines → Outcome) → Outcome
-after-header (At q) s p next = next q (lines (drop q s))
-after-header Nothing s p next = refused-at p 2
-
-pub record HeaderTried (names s : List ℕ) (p : ℕ) (r : Found) : Type 0 where
-  pub goes-on : (next : ℕ → Lines → Outcome) → header names p (lines (drop p s)) next ≡ after-header r s p next
-
--- a mark against the last of the first n: the mark, and an edge of it
-unfoldable pub below-last : List ℕ → ℕ → ℕ → Bool
-below-last zs n z = decreases (take n zs ++ z ∷ []) (length (take n zs))
-
-unfoldable pub edge-below-last : List ℕ → List ℕ → ℕ → ℕ → ℕ → Bool
-edge-below-last zs hs n z h = edge-decreases (take n zs ++ z ∷ []) (take n hs ++ h ∷ []) (length (take n zs))
-
--- what a mark line at byte p earns after the first n marks
-pub record PointChecked (p : ℕ) (zs hs : List ℕ) (n z h : ℕ) (v : Verdict) : Type 0 where
-  pub found : verdict-fault v ≡ first-of (point-checks full p (take n zs) (take n hs) (record { point = z; bandwidth = h }))
-
--- a mark line that is stored leaves the count within its limit
-abbrev pub room-after : Verdict → ℕ → Type 0
-room-after Fit count = count + 1 ≤ 512
-room-after (Faulty r) count = Unit {0}
-
--- a mark line with text t at byte p, after the first n marks of zs and hs, which are zs′ and hs′ afterwards
-pub record PointTried (t : List ℕ) (p : ℕ) (zs hs : List ℕ) (n : ℕ) (v : Verdict) (zs′ hs′ : List ℕ) : Type 0 where
-  pub goes-on : (next : List ℕ → List ℕ → Outcome) → with-point full p (take n zs) (take n hs) (point-line t) next
-      ≡ or-next (verdict-fault v) (next (take (n + 1) zs′) (take (n + 1) hs′))
-  pub room : room-after v n
-
--- after the mark lines and the empty line: the second names line follows
-abbrev pub points-read : PointsRead → List ℕ → List ℕ → List ℕ → Outcome
-points-read (Points n q) s zs hs =
-    header sample-header q (lines (drop q s)) (λ p rest. read-samples full (take n zs) (take n hs) p [] [] [] rest)
-points-read (PointsRead.Refused r) s zs hs = refused (fault-of r)
-
-abbrev pub points-within : PointsRead → ℕ → Type 0
-points-within (Points n q) size = (n ≤ 512) × (q ≤ size)
-points-within (PointsRead.Refused r) size = Unit {0}
-
-pub record PointsFound (s : List ℕ) (from : ℕ) (r : PointsRead) (zs hs : List ℕ) : Type 0 where
-  pub outcome : read-points full from [] [] (lines (drop from s)) ≡ points-read r s zs hs
-  pub within : points-within r (length s)
 
 -- after a reading line; last is the minute of the line before it
 abbrev pub sample-stored : SampleStored → ℕ → List ℕ → List ℕ → (List ℕ → List ℕ → List ℕ → Outcome) → Outcome

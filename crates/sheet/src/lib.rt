@@ -1,36 +1,20 @@
 // The reader of the tank sheet: from any bytes to the kept readings and the marks, or the report.
-pub(crate) mod points;
 pub(crate) mod samples;
 
-use crate::points::PointsRead;
 use crate::samples::SamplesRead;
 use checks::uneven_lists;
-use meanings::Found;
+use list_fronts::copy_u16;
+use list_fronts::copy_u32;
 use meanings::Parsing;
 use meanings::Refusal;
 use meanings::Report;
-use sheet_lines::Line;
+use sheet_front::points::FrontRead;
+use sheet_front::read_front;
 ghost use mathlib.Core.Path.{_≡_};
-ghost use Prim.Native.Nat.{_≤_};
-ghost use mathlib.Core.List.{_++_};
-ghost use lib.ListN.{length, take, drop};
+ghost use lib.ListN.{length};
 ghost use Rattle.meanings.specs.Limits.{full};
 ghost use Rattle.meanings.specs.Calls.{parsing-answer, counts, read, read-minutes, read-values, read-evaluation-points, read-bandwidths};
-ghost use Rattle.sheet.specs.Stages.{HeaderTried, Scanned, ReadInto};
-
-// Passes the names line at byte `from`, if it is that.
-pub(crate) fn skip_header(sheet: &[u8], from: usize, names: &[u8]) -> Found
-    requires { ⌜ from ≤ length (now sheet) ⌝ }
-    ensures { λ r. ⌜ HeaderTried (now (names .entry)) (now (sheet .entry)) from r ⌝ }
-{
-    let Line::Ended { end, next } = sheet_lines::find_line(sheet, from) else {
-        return Found::Nothing;
-    };
-    if sheet_lines::same_text(&sheet[from..end], names) {
-        return Found::At(next);
-    }
-    Found::Nothing
-}
+ghost use Rattle.sheet.specs.Stages.{Scanned, ReadInto};
 
 // Reads the sheet into lists of full length. What they hold after a refusal is left open: they are the reader's own.
 pub(crate) fn scan(
@@ -43,21 +27,9 @@ pub(crate) fn scan(
     requires { ⌜ (length (now minutes) ≡ 1024) × (length (now values) ≡ 1024) × (length (now points) ≡ 512) × (length (now bandwidths) ≡ 512) ⌝ }
     ensures { λ r. ⌜ Scanned (now (sheet .entry)) r (now (minutes .exit)) (now (values .exit)) (now (points .exit)) (now (bandwidths .exit)) ⌝ }
 {
-    if 32768 < sheet.len() {
-        return Parsing::Refused(Refusal {
-            report: Report::TooLong,
-            place: 32768,
-        });
-    }
-    let Found::At(first) = skip_header(sheet, 0, b"mark,half") else {
-        return Parsing::Refused(Refusal {
-            report: Report::BadHeader,
-            place: 0,
-        });
-    };
-    match crate::points::read_points(sheet, first, points, bandwidths) {
-        PointsRead::Refused(refusal) => Parsing::Refused(refusal),
-        PointsRead::Points { count, next } => match crate::samples::read_from_header(
+    match read_front(sheet, points, bandwidths) {
+        FrontRead::Refused(refusal) => Parsing::Refused(refusal),
+        FrontRead::Points { count, next } => match crate::samples::read_from_header(
             sheet,
             next,
             minutes,
@@ -69,29 +41,6 @@ pub(crate) fn scan(
                 points: count,
             },
         },
-    }
-}
-
-// Stores the first n elements of one list at the front of another.
-pub(crate) fn put_front_u16(xs: &[u16], n: usize, out: &mut [u16])
-    requires { ⌜ (n ≤ length (now xs)) × (n ≤ length (now out)) ⌝ }
-    ensures { λ _. ⌜ now (out .exit) ≡ take n (now (xs .entry)) ++ drop n (now (out .entry)) ⌝ }
-{
-    let mut i = 0;
-    while i < n {
-        out[i] = xs[i];
-        i += 1;
-    }
-}
-
-pub(crate) fn put_front_u32(xs: &[u32], n: usize, out: &mut [u32])
-    requires { ⌜ (n ≤ length (now xs)) × (n ≤ length (now out)) ⌝ }
-    ensures { λ _. ⌜ now (out .exit) ≡ take n (now (xs .entry)) ++ drop n (now (out .entry)) ⌝ }
-{
-    let mut i = 0;
-    while i < n {
-        out[i] = xs[i];
-        i += 1;
     }
 }
 
@@ -116,10 +65,10 @@ pub(crate) fn read_into(
             samples: n,
             points: m,
         } => {
-            put_front_u16(&ts, n, minutes);
-            put_front_u16(&vs, n, values);
-            put_front_u16(&zs, m, points);
-            put_front_u32(&hs, m, bandwidths);
+            copy_u16(&ts, n, minutes);
+            copy_u16(&vs, n, values);
+            copy_u16(&zs, m, points);
+            copy_u32(&hs, m, bandwidths);
             Parsing::Used {
                 samples: n,
                 points: m,

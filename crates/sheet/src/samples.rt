@@ -1,8 +1,8 @@
 // The reading lines of the sheet.
-use crate::skip_header;
 use meanings::Found;
 use meanings::Refusal;
 use meanings::Report;
+use sheet_front::skip_header;
 use sheet_lines::Line;
 use sheet_values::SampleLine;
 ghost use mathlib.Core.Path.{_≡_};
@@ -108,7 +108,7 @@ pub(crate) fn read_from_header(
     minutes: &mut [u16],
     values: &mut [u16],
 ) -> SamplesRead
-    requires { ⌜ (length (now minutes) ≡ 1024) × (length (now values) ≡ 1024) × (from ≤ length (now sheet)) ⌝ }
+    requires { ⌜ (length (now minutes) ≡ 1024) × (length (now values) ≡ 1024) ⌝ }
     ensures { λ r. ⌜ SamplesFromHeader (now (sheet .entry)) from r (now (minutes .exit)) (now (values .exit)) ⌝ }
 {
     match skip_header(sheet, from, b"minute,inj,vdk") {

@@ -9,11 +9,12 @@ use Rattle.meanings.specs.declared.Refusal.{Refusal}
 use Rattle.meanings.specs.declared.Writing.{Writing}
 use Rattle.meanings.specs.declared.Writing.the-variants.{Written}
 use Rattle.meanings.specs.Limits.{full, max-output}
-use Rattle.meanings.specs.Reports.{given, refused, fault-of, number}
-use Rattle.meanings.specs.Sheet.{Outcome, read-sheet}
-use Rattle.meanings.specs.Output.{refusal-text, outcome-text, program}
-use Rattle.meanings.specs.Calls.{writing-answer, curve-size, filled-front, write, write-buffer, write-refusal-text, refusal-buffer}
+use Rattle.meanings.specs.Reports.{Answer, given, refused, fault-of, number}
+use Rattle.meanings.specs.Output.{refusal-text}
+use Rattle.meanings.specs.Calls.{writing-answer, write-refusal-text, refusal-buffer}
 use Rattle.meanings.proofs.Checks.{differ-same}
+use Rattle.meanings_ranges.specs.RangeSheet.{RangeContents, read-either}
+use Rattle.meanings_ranges.specs.RangeOutput.{either-text, either-program, text-size, text-front, write-either, write-either-buffer}
 
 -- a text at the front of a buffer
 front : (t rest now : List ℕ) (n : ℕ) → now ≡ t ++ rest → n ≡ length t → take n now ≡ t
@@ -40,43 +41,43 @@ module _ (out : List ℕ) (right : length out ≡ max-output) (r : Writing) (f :
         front t (drop (length t) out) now n (w ∙ rw (differ-same (length out) max-output right, numbered)) refusal-length
 
 -- the text of a sheet
-module _ (s out : List ℕ) (right : length out ≡ max-output) (r : Writing) (answer : writing-answer r ≡ write s out) where
-  of-outcome : writing-answer r ≡ curve-size (read-sheet full s)
-  unfolding write
+module _ (s out : List ℕ) (right : length out ≡ max-output) (r : Writing) (answer : writing-answer r ≡ write-either s out) where
+  of-outcome : writing-answer r ≡ text-size (read-either full s)
+  unfolding write-either
   of-outcome = answer ∙ rw (differ-same (length out) max-output right)
 
   -- refused
-  pub refusal-is-written : (f : Refusal) → r ≡ Writing.Refused f → refusal-text (fault-of f) ≡ program s
-  unfolding program
-  refusal-is-written f q = by (read-sheet full s) (sym (ap writing-answer q) ∙ of-outcome)
+  pub refusal-is-written : (f : Refusal) → r ≡ Writing.Refused f → refusal-text (fault-of f) ≡ either-program s
+  unfolding either-program
+  refusal-is-written f q = by (read-either full s) (sym (ap writing-answer q) ∙ of-outcome)
     where
-      by : (o : Outcome) → refused (fault-of f) ≡ curve-size o → refusal-text (fault-of f) ≡ outcome-text o
+      by : (o : Answer RangeContents) → refused (fault-of f) ≡ text-size o → refusal-text (fault-of f) ≡ either-text o
       by (given c) e = let z : _≡_ {A = ℕ} 0 1 = cc in absurd (omega arith)
       by (refused e′) e = let g : fault-of f ≡ e′ = cc in ap refusal-text g
 
   -- accepted
   module _ (n : ℕ) (q : r ≡ Written n) where
-    pub curve-length : n ≡ length (program s)
-    unfolding program
-    curve-length = by (read-sheet full s) (sym (ap writing-answer q) ∙ of-outcome)
+    pub curve-length : n ≡ length (either-program s)
+    unfolding either-program
+    curve-length = by (read-either full s) (sym (ap writing-answer q) ∙ of-outcome)
       where
-        by : (o : Outcome) → given n ≡ curve-size o → n ≡ length (outcome-text o)
+        by : (o : Answer RangeContents) → given n ≡ text-size o → n ≡ length (either-text o)
         by (given c) e = cc
         by (refused f) e = let z : _≡_ {A = ℕ} 0 1 = cc in absurd (omega arith)
 
-    pub curve-front : (now : List ℕ) → now ≡ write-buffer s out → take n now ≡ program s
-    unfolding program write-buffer
+    pub curve-front : (now : List ℕ) → now ≡ write-either-buffer s out → take n now ≡ either-program s
+    unfolding either-program write-either-buffer
     curve-front now w =
-        by (read-sheet full s) (sym (ap writing-answer q) ∙ of-outcome) (w ∙ rw (differ-same (length out) max-output right))
+        by (read-either full s) (sym (ap writing-answer q) ∙ of-outcome) (w ∙ rw (differ-same (length out) max-output right))
       where
-        by : (o : Outcome) → given n ≡ curve-size o → now ≡ filled-front o (λ c. outcome-text (given c)) out → take n now ≡ outcome-text o
-        by (given c) e w = front (outcome-text (given c)) _ now n w (cc)
+        by : (o : Answer RangeContents) → given n ≡ text-size o → now ≡ text-front o out → take n now ≡ either-text o
+        by (given c) e w = front (either-text (given c)) _ now n w (cc)
         by (refused f) e w = let z : _≡_ {A = ℕ} 0 1 = cc in absurd (omega arith)
 
 -- a text that the program writes, at the front of the buffer
-module _ (s t now : List ℕ) (n : ℕ) (first : take n now ≡ t) (written : t ≡ program s) where
-  pub program-front : take n now ≡ program s
+module _ (s t now : List ℕ) (n : ℕ) (first : take n now ≡ t) (written : t ≡ either-program s) where
+  pub program-front : take n now ≡ either-program s
   program-front = first ∙ written
 
-  pub program-length : n ≡ length t → n ≡ length (program s)
+  pub program-length : n ≡ length t → n ≡ length (either-program s)
   program-length e = e ∙ ap length written

@@ -6,8 +6,8 @@ use native.Mathlib.Omega.{arith}
 use lib.ListN.{length, take, drop, length-drop}
 use lib.Seq.{length-take-le}
 use Rattle.meanings.specs.Limits.{max-sheet, max-output}
-use Rattle.meanings.specs.Output.{program}
-use Rattle.laws_output.proofs.OutputFits.{program-fits}
+use Rattle.meanings_ranges.specs.RangeOutput.{either-program}
+use Rattle.laws_ranges.proofs.RangeText.{either-program-fits}
 use Rattle.tankcurve.specs.declared.Input.{Input}
 use Rattle.tankcurve.specs.declared.Input.the-variants.{Bytes}
 use Rattle.tankcurve.specs.Input.{InputWithin}
@@ -21,9 +21,9 @@ module _ (r : Input) (xs : List ℕ) (within : InputWithin r (length xs)) (n : �
   bytes-count = sym (length-take-le n xs bytes-within)
 
 -- the output of a sheet
-module _ (s out : List ℕ) (n : ℕ) (whole : n ≡ length (program s)) (size : length out ≡ max-output) where
+module _ (s out : List ℕ) (n : ℕ) (whole : n ≡ length (either-program s)) (size : length out ≡ max-output) where
   pub output-within : n ≤ length out
-  output-within = omega (arith, program-fits s)
+  output-within = omega (arith, either-program-fits s)
 
   pub output-count : n ≡ length (take n out)
   output-count = sym (length-take-le n out output-within)

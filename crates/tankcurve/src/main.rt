@@ -8,7 +8,8 @@ ghost use Prim.Native.Nat.{_+_};
 ghost use lib.ListN.{length, take};
 ghost use Rattle.meanings.specs.Limits.{max-sheet, max-output};
 ghost use Rattle.meanings.specs.Reports.{fault-of};
-ghost use Rattle.meanings.specs.Output.{refusal-text, program};
+ghost use Rattle.meanings.specs.Output.{refusal-text};
+ghost use Rattle.meanings_ranges.specs.RangeOutput.{either-program};
 ghost use Rattle.tankcurve.specs.Input.{InputWithin};
 
 const IN: i32 = 0;
@@ -70,10 +71,10 @@ fn refuse(refusal: Refusal, out: &mut [u8]) -> usize
 // Puts what the program writes for a sheet at the front of the buffer, and gives its length.
 fn answer(sheet: &[u8], out: &mut [u8]) -> usize
     requires { ⌜ length (now out) ≡ max-output ⌝ }
-    ensures { λ r. ⌜ take r (now (out .exit)) ≡ program (now (sheet .entry)) ⌝ }
-    ensures { λ r. ⌜ r ≡ length (program (now (sheet .entry))) ⌝ }
+    ensures { λ r. ⌜ take r (now (out .exit)) ≡ either-program (now (sheet .entry)) ⌝ }
+    ensures { λ r. ⌜ r ≡ length (either-program (now (sheet .entry))) ⌝ }
 {
-    match text::curve_text(sheet, out) {
+    match text_sheet::curve_text(sheet, out) {
         Writing::Written(n) => n,
         Writing::Refused(refusal) => refuse(refusal, out),
     }

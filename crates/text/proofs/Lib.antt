@@ -2,5 +2,4 @@ pub mod Lines
 pub mod Parts
 pub mod Swept
 pub mod Tables
-pub mod UsedParts
 pub mod Values

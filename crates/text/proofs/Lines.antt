@@ -107,7 +107,7 @@ module _ (w s v : ℕ) (p : ℕ) (out : List ℕ) (fits : p + length (sums-text 
 abbrev line-parts : ℕ → ℕ → Estimate → List (List ℕ)
 line-parts z h e = edges-text z h (e .left) (e .right) ∷ sums-text (e .weight) (e .sum) (e .value) ∷ (line-feed ∷ []) ∷ []
 
-joined-append : (xs ys : List (List ℕ)) → joined (xs ++ ys) ≡ joined xs ++ joined ys
+pub joined-append : (xs ys : List (List ℕ)) → joined (xs ++ ys) ≡ joined xs ++ joined ys
 joined-append [] ys = refl
 joined-append (x ∷ xs) ys = ap (λ (t : List ℕ). x ++ t) (joined-append xs ys) ∙ sym (append-assoc x (joined xs) (joined ys))
 

@@ -10,11 +10,11 @@ use Rattle.text_decimal.specs.Written.{joined, Stored}
 use Rattle.text.specs.Table.{table-lines, table-text}
 use Rattle.text_decimal.proofs.Writing.{Left, left-at-first, part-fits, left-behind, all-stored}
 
-regroup : (a b c d : List ℕ) (x : ℕ) → a ++ b ++ x ∷ c ++ d ≡ joined (a ∷ b ∷ (x ∷ c) ∷ d ∷ [])
+pub regroup : (a b c d : List ℕ) (x : ℕ) → a ++ b ++ x ∷ c ++ d ≡ joined (a ∷ b ∷ (x ∷ c) ∷ d ∷ [])
 regroup a b c d x = simp (append-assoc, append-nil)
 
 -- the line of two totals
-abbrev totals : ℕ → ℕ → List ℕ
+abbrev pub totals : ℕ → ℕ → List ℕ
 totals kept passes = text-line (decimal kept) (decimal passes ∷ [])
 
 -- the parts of the curve's text

@@ -1,14 +1,14 @@
 -- The curve's text from lists: marks, half widths and the flat list of rows. With the rows of a sweep it is the curve of the meanings, by the
 -- law table-is-curve.
 use Prim.Native.Nat.{ℕ, zero, suc, _+_, _*_}
-use mathlib.Core.Path.{_≡_}
 use mathlib.Core.List.{List, [], _∷_, _++_}
 use lib.ListN.{length, getD}
 use Rattle.meanings.specs.declared.Estimate.{Estimate}
 use Rattle.meanings.specs.Bytes.{line-feed, comma, curve-header, totals-header}
 use Rattle.meanings.specs.Limits.{full, row-width}
-use Rattle.meanings.specs.Reports.{given}
-use Rattle.meanings.specs.Sheet.{Contents, read-sheet}
+use Rattle.meanings.specs.Reports.{given, accepted-or}
+use Rattle.meanings.specs.Sheet.{Contents, Outcome, or-next}
+use Rattle.meanings.specs.Calls.{smooth-refusal, smooth-rows, buffer-refusal}
 use Rattle.meanings.specs.Output.{decimal, text-line, value-text, curve-line, curve-text}
 use Rattle.text_decimal.specs.Written.{joined}
 
@@ -51,7 +51,10 @@ contents-of ts vs zs hs = record { minutes = ts; values = vs; points = zs; bandw
 abbrev pub curve-of : List ℕ → List ℕ → List ℕ → List ℕ → List ℕ
 curve-of ts vs zs hs = curve-text (contents-of ts vs zs hs)
 
--- the four lists are those of an accepted sheet
-pub record SheetAccepted (ts vs zs hs : List ℕ) : Type 0 where
-  pub sheet : List ℕ
-  pub accepted : read-sheet full sheet ≡ given (contents-of ts vs zs hs)
+-- what the lists give, with rs lent for the rows and out for the text: the report of the buffer's length, else that of the sweep, else themselves
+unfoldable pub lists-swept : List ℕ → List ℕ → List ℕ → List ℕ → List ℕ → List ℕ → Outcome
+lists-swept ts vs zs hs rs out = or-next (buffer-refusal out) (or-next (smooth-refusal full ts vs zs hs rs) (given (contents-of ts vs zs hs)))
+
+-- and the rows at exit
+unfoldable pub lists-rows : List ℕ → List ℕ → List ℕ → List ℕ → List ℕ → List ℕ → List ℕ
+lists-rows ts vs zs hs rs out = accepted-or (buffer-refusal out) (smooth-rows full ts vs zs hs rs) rs

@@ -13,7 +13,7 @@ use vectors_io::number;
 use vectors_io::show_text;
 
 // The longest buffer of a case.
-const MOST_BUFFER: usize = 31300;
+const MOST_BUFFER: usize = 44200;
 
 fn text_with(sheet: &[u8], out: &mut [u8]) {
     show_text(tankcurve_text(sheet, out), out);

@@ -18,7 +18,7 @@ pub(crate) use smooth::value;
 pub const MAX_SAMPLES: usize = 1024;
 pub const MAX_POINTS: usize = 512;
 pub const MAX_SHEET: usize = 32_768;
-pub const MAX_OUTPUT: usize = 31_291;
+pub const MAX_OUTPUT: usize = 44_113;
 pub const ROW_WIDTH: usize = 5;
 pub const MISSING: u64 = 65_536;
 /// What one of a detail counts for in what the proved calls return.

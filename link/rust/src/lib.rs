@@ -27,11 +27,16 @@
 #![deny(missing_docs, unsafe_code)]
 
 mod pair;
+mod ranges;
 mod report;
 mod row;
 pub mod slices;
 
 pub use pair::{compare, Parting, Tank};
+pub use ranges::{
+    read_ranges, smooth_ranges, Kind, RangeCounts, RangeEstimate, RangeRows, RangesSmoothed,
+    RANGE_ROW_WIDTH,
+};
 pub use report::{Error, Refusal, Report};
 pub use row::{Estimate, NoEstimate, RecordRow, Rows};
 
@@ -39,9 +44,9 @@ pub use row::{Estimate, NoEstimate, RecordRow, Rows};
 /// of the linked archive.
 ///
 /// ```
-/// assert_eq!(tankcurve::VERSION, 0x02_06_00);
+/// assert_eq!(tankcurve::VERSION, 0x03_00_00);
 /// ```
-pub const VERSION: u32 = 0x02_06_00;
+pub const VERSION: u32 = 0x03_00_00;
 
 /// How many samples ("readings") there may be, and how many places the reader's lists of them have.
 ///
@@ -96,7 +101,7 @@ pub const MAX_SHEET: usize = 32_768;
 /// let mut out = [0; tankcurve::MAX_OUTPUT];
 /// assert!(tankcurve::text(b"mark,half\n20,10\n\nminute,inj,vdk\n", &mut out).is_ok());
 /// ```
-pub const MAX_OUTPUT: usize = 31_291;
+pub const MAX_OUTPUT: usize = 44_113;
 
 /// How many numbers a row has: left, right, weight, sum, value.
 ///
@@ -708,7 +713,7 @@ pub fn fill(
 
 /// Reads a sheet ("the reader of the tank sheet"): its kept samples and its points at the front of the
 /// lists, whose rest is untouched. Reports 1, then line by line 2, 7, or 3, 4 or 5, 9, 10, 6. A line ends in
-/// `"\n"` or in `"\r\n"`.
+/// `"\n"` or in `"\r\n"`. A sheet with ranges is report 2 at its second names line: [`read_ranges`] takes both.
 ///
 /// ```
 /// # fn main() -> Result<(), tankcurve::Error> {
@@ -743,8 +748,8 @@ pub fn read(
     Ok(Counts { samples, points })
 }
 
-/// The curve of a sheet, as the program writes it: the front part of `out`, whose rest is untouched.
-/// Reports and places are those of [`read`]; [`refusal_text`] says them as the program does.
+/// The curve of a sheet of either kind, as the program writes it: the front part of `out`, whose rest is untouched.
+/// Reports and places are those of [`read_ranges`]; [`refusal_text`] says them as the program does.
 ///
 /// ```
 /// # fn main() -> Result<(), tankcurve::Error> {

@@ -42,6 +42,8 @@ pub enum Report {
     GridOverflow = 13,
     /// "too few": k is 0 or over the number of samples.
     TooFewSamples = 14,
+    /// "crossed range": a low is above its high.
+    CrossedRange = 15,
     /// "second tank": the second tank's lists have the condition of 8, 6 or 4.
     SecondSeries = 16,
 }
@@ -52,7 +54,7 @@ impl Report {
     /// ```
     /// use tankcurve::Report;
     /// assert_eq!(Report::from_number(4), Some(Report::SampleOutOfOrder));
-    /// assert_eq!(Report::from_number(15), None);
+    /// assert_eq!(Report::from_number(17), None);
     /// ```
     #[must_use]
     pub fn from_number(number: u64) -> Option<Report> {
@@ -71,6 +73,7 @@ impl Report {
             12 => Report::UnknownPreset,
             13 => Report::GridOverflow,
             14 => Report::TooFewSamples,
+            15 => Report::CrossedRange,
             16 => Report::SecondSeries,
             _ => return None,
         })
@@ -108,6 +111,7 @@ impl Report {
             Report::UnknownPreset => "knob",
             Report::GridOverflow => "past the clock",
             Report::TooFewSamples => "too few",
+            Report::CrossedRange => "crossed range",
             Report::SecondSeries => "second tank",
         }
     }
@@ -213,11 +217,11 @@ mod tests {
                 let answer = DETAIL_UNIT * place + number;
                 match outcome(answer) {
                     Err(Error::Refused(refusal)) => {
-                        assert!(number <= 14 || number == 16);
+                        assert!(number <= 16);
                         assert_eq!((refusal.report.number(), refusal.place), (number, place));
                     }
                     Err(Error::Unknown(whole)) => {
-                        assert!(number > 14 && number != 16);
+                        assert!(number > 16);
                         assert_eq!(whole, answer);
                     }
                     Ok(_) => panic!("number {number} was accepted"),
@@ -228,7 +232,7 @@ mod tests {
 
     #[test]
     fn numbers_of_no_report() {
-        for number in [0, 15, 17, 255, DETAIL_UNIT, DETAIL_UNIT + 1, u64::MAX] {
+        for number in [0, 17, 255, DETAIL_UNIT, DETAIL_UNIT + 1, u64::MAX] {
             assert_eq!(Report::from_number(number), None);
         }
     }

@@ -1,6 +1,6 @@
 //! The proved calls over slices of any length, with the number that they return.
 //!
-//! Every call returns [`DETAIL_UNIT`] × detail + number. Number 0 means accepted; 1 to 14, or 16, is a report
+//! Every call returns [`DETAIL_UNIT`] × detail + number. Number 0 means accepted; 1 to 16 is a report
 //! and the detail its place. A slice for the answer of another length than stated gets report 8 at place 0,
 //! found before all else.
 //!
@@ -44,6 +44,32 @@ pub const DETAIL_UNIT: u64 = 256;
 /// assert_eq!(position, [NO_POSITION]);
 /// ```
 pub const NO_POSITION: u64 = u64::MAX;
+
+/// What [`read_ranges`] counts for the kind of a sheet without ranges.
+///
+/// ```
+/// use tankcurve::slices::{read_ranges, KIND_PLAIN};
+/// let mut counts = [7; 3];
+/// let sheet = b"mark,half\n5,2\n\nminute,inj,vdk\n";
+/// let (lists, marks) = (&mut [[0; 1024]; 3], &mut [0; 512]);
+/// let [minutes, lows, highs] = lists;
+/// assert_eq!(read_ranges(sheet, minutes, lows, highs, marks, &mut [0; 512], &mut counts), 0);
+/// assert_eq!(counts, [0, 1, KIND_PLAIN]);
+/// ```
+pub const KIND_PLAIN: u64 = 0;
+
+/// What [`read_ranges`] counts for the kind of a sheet with ranges.
+///
+/// ```
+/// use tankcurve::slices::{read_ranges, KIND_RANGES};
+/// let mut counts = [7; 3];
+/// let sheet = b"mark,half\n5,2\n\nminute,inj,low,high\n";
+/// let (lists, marks) = (&mut [[0; 1024]; 3], &mut [0; 512]);
+/// let [minutes, lows, highs] = lists;
+/// assert_eq!(read_ranges(sheet, minutes, lows, highs, marks, &mut [0; 512], &mut counts), 0);
+/// assert_eq!(counts, [0, 1, KIND_RANGES]);
+/// ```
+pub const KIND_RANGES: u64 = 1;
 
 /// The exports of libtankcurve_abi.a: a slice is a pointer and its number of elements.
 mod exports {
@@ -234,6 +260,38 @@ mod exports {
             number: u64,
             doubles: *mut f64,
             doubles_len: usize,
+        ) -> u64;
+
+        pub fn tankcurve_smooth_ranges(
+            minutes: *const u16,
+            minutes_len: usize,
+            lows: *const u16,
+            lows_len: usize,
+            highs: *const u16,
+            highs_len: usize,
+            points: *const u16,
+            points_len: usize,
+            bandwidths: *const u32,
+            bandwidths_len: usize,
+            rows: *mut u64,
+            rows_len: usize,
+        ) -> u64;
+
+        pub fn tankcurve_read_ranges(
+            sheet: *const u8,
+            sheet_len: usize,
+            minutes: *mut u16,
+            minutes_len: usize,
+            lows: *mut u16,
+            lows_len: usize,
+            highs: *mut u16,
+            highs_len: usize,
+            points: *mut u16,
+            points_len: usize,
+            bandwidths: *mut u32,
+            bandwidths_len: usize,
+            counts: *mut u64,
+            counts_len: usize,
         ) -> u64;
 
         pub fn tankcurve_version() -> u32;
@@ -569,7 +627,7 @@ pub fn read(
     }
 }
 
-/// The curve of a sheet, as the program writes it. `out`: [`crate::MAX_OUTPUT`] bytes. Detail: the bytes
+/// The curve of a sheet of either kind, as the program writes it. `out`: [`crate::MAX_OUTPUT`] bytes. Detail: the bytes
 /// written; of a refused sheet its number and place, and `out` is untouched.
 ///
 /// ```
@@ -748,6 +806,84 @@ pub fn neighbours(
 #[must_use]
 pub fn doubles(weight: u64, number: u64, doubles: &mut [f64]) -> u64 {
     unsafe { exports::tankcurve_doubles(weight, number, doubles.as_mut_ptr(), doubles.len()) }
+}
+
+/// The sweep over readings known as ranges. `rows`: [`crate::RANGE_ROW_WIDTH`] numbers a point: left, right, weight,
+/// low sum, high sum, low value, high value. Detail: the passes.
+///
+/// ```
+/// let mut rows = [0; 7];
+/// let answer = tankcurve::slices::smooth_ranges(&[0, 0], &[2, 1], &[2, 3], &[0], &[1], &mut rows);
+/// assert_eq!((answer, rows), (256 * 2, [0, 2, 2, 3, 5, 2, 2]));
+/// ```
+#[must_use]
+pub fn smooth_ranges(
+    minutes: &[u16],
+    lows: &[u16],
+    highs: &[u16],
+    points: &[u16],
+    bandwidths: &[u32],
+    rows: &mut [u64],
+) -> u64 {
+    unsafe {
+        exports::tankcurve_smooth_ranges(
+            minutes.as_ptr(),
+            minutes.len(),
+            lows.as_ptr(),
+            lows.len(),
+            highs.as_ptr(),
+            highs.len(),
+            points.as_ptr(),
+            points.len(),
+            bandwidths.as_ptr(),
+            bandwidths.len(),
+            rows.as_mut_ptr(),
+            rows.len(),
+        )
+    }
+}
+
+/// Reads a sheet of either kind. `minutes`, `lows` and `highs`: [`crate::MAX_SAMPLES`]; `points` and `bandwidths`:
+/// [`crate::MAX_POINTS`]; `counts`: 3 numbers: samples, points, and [`KIND_PLAIN`] or [`KIND_RANGES`]. Detail 0.
+///
+/// ```
+/// use tankcurve::slices::{read_ranges, KIND_RANGES};
+/// let (mut minutes, mut lows, mut highs) = ([0; 1024], [0; 1024], [0; 1024]);
+/// let (mut points, mut bandwidths, mut counts) = ([0; 512], [0; 512], [0; 3]);
+/// let sheet = b"mark,half\n5,2\n\nminute,inj,low,high\n10,3,0,40\n";
+/// let answer = read_ranges(
+///     sheet, &mut minutes, &mut lows, &mut highs, &mut points, &mut bandwidths, &mut counts,
+/// );
+/// assert_eq!((answer, counts), (0, [1, 1, KIND_RANGES]));
+/// ```
+#[must_use]
+pub fn read_ranges(
+    sheet: &[u8],
+    minutes: &mut [u16],
+    lows: &mut [u16],
+    highs: &mut [u16],
+    points: &mut [u16],
+    bandwidths: &mut [u32],
+    counts: &mut [u64],
+) -> u64 {
+    unsafe {
+        exports::tankcurve_read_ranges(
+            sheet.as_ptr(),
+            sheet.len(),
+            minutes.as_mut_ptr(),
+            minutes.len(),
+            lows.as_mut_ptr(),
+            lows.len(),
+            highs.as_mut_ptr(),
+            highs.len(),
+            points.as_mut_ptr(),
+            points.len(),
+            bandwidths.as_mut_ptr(),
+            bandwidths.len(),
+            counts.as_mut_ptr(),
+            counts.len(),
+        )
+    }
 }
 
 /// The version of the linked archive, which is no answer: it has neither number nor detail.

@@ -3,15 +3,29 @@
 
 use tankcurve::slices::{self, DETAIL_UNIT};
 use tankcurve::{
-    Error, Estimate, Refusal, Report, Rows, RunningSums, BIWEIGHT_BANDWIDTH, BIWEIGHT_MAX_SUM,
-    BIWEIGHT_MAX_WEIGHT, MAX_BANDWIDTH, MAX_OUTPUT, MAX_POINTS, MAX_SAMPLES, MAX_SHEET, MAX_SUM,
-    MAX_WEIGHT, MIN_BANDWIDTH, MISSING, PARTING_WIDTH, PREVIEW_MAX_POINTS, PREVIEW_MAX_SAMPLES,
-    RECORD_WIDTH, ROW_WIDTH,
+    Error, Estimate, Kind, RangeCounts, RangeEstimate, RangeRows, Refusal, Report, Rows,
+    RunningSums, BIWEIGHT_BANDWIDTH, BIWEIGHT_MAX_SUM, BIWEIGHT_MAX_WEIGHT, MAX_BANDWIDTH,
+    MAX_OUTPUT, MAX_POINTS, MAX_SAMPLES, MAX_SHEET, MAX_SUM, MAX_WEIGHT, MIN_BANDWIDTH, MISSING,
+    PARTING_WIDTH, PREVIEW_MAX_POINTS, PREVIEW_MAX_SAMPLES, RANGE_ROW_WIDTH, RECORD_WIDTH,
+    ROW_WIDTH,
 };
 
 const HEAD: &str = "mark,half\n5,2\n\nminute,inj,vdk\n";
 
-/// A sheet's refusal by both calls that read one.
+/// What a sheet of either kind holds, or its refusal.
+fn read_either(sheet: &[u8]) -> Result<RangeCounts, Error> {
+    let [mut minutes, mut lows, mut highs] = [[0; MAX_SAMPLES]; 3];
+    tankcurve::read_ranges(
+        sheet,
+        &mut minutes,
+        &mut lows,
+        &mut highs,
+        &mut [0; MAX_POINTS],
+        &mut [0; MAX_POINTS],
+    )
+}
+
+/// A sheet's refusal by the calls that read one.
 fn refusal(sheet: &[u8]) -> Result<(), Error> {
     let (mut minutes, mut values) = ([0; MAX_SAMPLES], [0; MAX_SAMPLES]);
     let (mut points, mut bandwidths) = ([0; MAX_POINTS], [0; MAX_POINTS]);
@@ -25,6 +39,7 @@ fn refusal(sheet: &[u8]) -> Result<(), Error> {
     .map(|_| ());
     let mut out = [0; MAX_OUTPUT];
     assert_eq!(tankcurve::text(sheet, &mut out).map(|_| ()), read);
+    assert_eq!(read_either(sheet).map(|_| ()), read);
     read
 }
 
@@ -101,6 +116,11 @@ fn lengths() {
         assert_eq!(slices::row(record, 0, 1, &mut [0; ROW_WIDTH]), answer);
         let rows = &mut vec![0; length(2 * ROW_WIDTH)];
         assert_eq!(slices::smooth(&[], &[], &[0, 0], &[1, 1], rows), answer);
+        let rows_of_ranges = &mut vec![0; length(2 * RANGE_ROW_WIDTH)];
+        assert_eq!(
+            slices::smooth_ranges(&[], &[], &[], &[0, 0], &[1, 1], rows_of_ranges),
+            answer
+        );
         let widths = &mut vec![0; length(2)];
         assert_eq!(
             slices::neighbours(&[0], &[0], &[0, 0], 1, widths, &mut [0; 2 * ROW_WIDTH]),
@@ -141,6 +161,20 @@ fn lengths() {
         assert_eq!(read(length(MAX_SAMPLES), MAX_POINTS, 2), answer);
         assert_eq!(read(MAX_SAMPLES, length(MAX_POINTS), 2), answer);
         assert_eq!(read(MAX_SAMPLES, MAX_POINTS, length(2)), answer);
+        let read_ranges = |samples, points, counts| {
+            slices::read_ranges(
+                HEAD.as_bytes(),
+                &mut vec![0; samples],
+                &mut vec![0; samples],
+                &mut vec![0; samples],
+                &mut vec![0; points],
+                &mut vec![0; points],
+                &mut vec![0; counts],
+            )
+        };
+        assert_eq!(read_ranges(length(MAX_SAMPLES), MAX_POINTS, 3), answer);
+        assert_eq!(read_ranges(MAX_SAMPLES, length(MAX_POINTS), 3), answer);
+        assert_eq!(read_ranges(MAX_SAMPLES, MAX_POINTS, length(3)), answer);
     }
     let mut out = [0; MAX_OUTPUT];
     // A text of 18 bytes, and a place.
@@ -205,6 +239,13 @@ fn reports() {
             refused(Report::TooFewSamples, 0)
         );
     }
+    let mut rows = [0; RANGE_ROW_WIDTH];
+    let crossed = tankcurve::smooth_ranges(&[7, 7], &[5, 6], &[5, 5], &[7], &[1], &mut rows);
+    assert_eq!(crossed.map(|_| ()), refused(Report::CrossedRange, 1));
+    assert_eq!(
+        read_either(b"mark,half\n5,2\n\nminute,inj,low,high\n1,3,5,5\n1,1,6,5\n"),
+        refused(Report::CrossedRange, 43)
+    );
     assert_eq!(
         tankcurve::compare(&[7], &[7], &[7, 6], &[7, 6], &[7], &[1]),
         refused(Report::SecondSeries, 1)
@@ -229,9 +270,10 @@ fn words() {
         "knob",
         "past the clock",
         "too few",
+        "crossed range",
+        "second tank",
     ];
-    let numbered = (1..).zip(trade).chain([(16, "second tank")]);
-    for (number, word) in numbered {
+    for (number, word) in (1..).zip(trade) {
         let report = Report::from_number(number).unwrap();
         assert_eq!((report.number(), report.word()), (number, word));
         assert_eq!(report.to_string(), word);
@@ -253,6 +295,32 @@ fn bounds() {
     assert!(estimate(MAX_WEIGHT, MAX_SUM).is_ok());
     assert!(estimate(MAX_WEIGHT + 1, MAX_SUM).is_err());
     assert!(estimate(MAX_WEIGHT, MAX_SUM + 1).is_err());
+}
+
+/// The kinds of sheets, by their names, and what is no row over ranges.
+#[test]
+fn ranges() {
+    let kind = |names| read_either(format!("mark,half\n5,2\n\n{names}\n").as_bytes());
+    for (names, kind_of) in [
+        ("minute,inj,vdk", Kind::Plain),
+        ("minute,inj,low,high", Kind::Ranges),
+    ] {
+        assert_eq!(kind(names).map(|used| used.kind), Ok(kind_of));
+    }
+    let row = [1, 5, 74, 418, 858, 6, 12];
+    let estimate = RangeEstimate::try_from(row).unwrap();
+    assert_eq!(<[u64; RANGE_ROW_WIDTH]>::from(estimate), row);
+    assert_eq!(RangeRows::try_from(&row[..]).unwrap().len(), 1);
+    assert!(RangeRows::try_from(&row[..6]).is_err());
+    // A number over what readings give, the two sums and the two values exchanged, and one value missing.
+    for (place, number) in [(2, MAX_WEIGHT + 1), (3, MAX_SUM + 1), (4, MAX_SUM + 1)] {
+        let mut wrong = row;
+        wrong[place] = number;
+        assert!(RangeEstimate::try_from(wrong).is_err());
+    }
+    assert!(RangeEstimate::try_from([1, 5, 74, 858, 418, 6, 12]).is_err());
+    assert!(RangeEstimate::try_from([1, 5, 74, 418, 858, 12, 6]).is_err());
+    assert!(RangeEstimate::try_from([1, 5, 74, 418, 858, 6, MISSING]).is_err());
 }
 
 /// The same of the biweight row, whose edges are those of its bandwidth.

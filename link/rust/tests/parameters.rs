@@ -5,8 +5,8 @@
 
 use tankcurve::slices::{self, DETAIL_UNIT};
 use tankcurve::{
-    Cell, Counts, Error, Parting, RecordRow, Refusal, Report, RunningSums, Tank, MAX_OUTPUT,
-    PREVIEW_MAX_SAMPLES, ROW_WIDTH,
+    Cell, Counts, Error, Kind, Parting, RangeCounts, RecordRow, Refusal, Report, RunningSums, Tank,
+    MAX_OUTPUT, PREVIEW_MAX_SAMPLES, RANGE_ROW_WIDTH, ROW_WIDTH,
 };
 
 const MINUTES: [u16; 6] = [3, 8, 8, 15, 21, 40];
@@ -24,6 +24,16 @@ const TEXT: &[u8] = b"mark,half,left,right,weight,sum,vdk\n12,7,0,2,96,2112,22\n
 /// A sheet whose line at byte 52 has a minute below the one before.
 const FALLING_SHEET: &[u8] =
     b"mark,half\n12,7\n14,9\n\nminute,inj,vdk\n11,3,21\n12,1,22\n11,4,23\n30,5,24\n";
+/// Lows and highs for the minutes above, and lows of which that at position 4 is above its high.
+const LOWS: [u16; 6] = [4, 0, 10, 6, 13, 31];
+const HIGHS: [u16; 6] = [5, 7, 11, 13, 29, 31];
+const CROSSED: [u16; 6] = [4, 0, 10, 6, 30, 31];
+const RANGE_SHEET: &[u8] =
+    b"mark,half\n12,7\n14,9\n\nminute,inj,low,high\n11,3,0,21\n12,1,22,22\n13,4,23,25\n30,5,20,24\n";
+const RANGE_TEXT: &[u8] = b"mark,half,left,right,weight,sumlow,sumhigh,vdklow,vdkhigh\n12,7,0,2,96,1104,2208,12,23\n14,9,0,2,152,1840,3512,12,23\n\nkept,passes\n3,2\n";
+/// A sheet whose line at byte 51, which is not kept, has a low above its high.
+const CROSSED_SHEET: &[u8] =
+    b"mark,half\n12,7\n14,9\n\nminute,inj,low,high\n11,3,0,21\n12,1,23,22\n13,4,23,25\n30,5,20,24\n";
 const FALLING_TEXT: &[u8] = b"refused,place\n4,52\n";
 
 fn refused<T>(report: Report, place: u64) -> Result<T, Error> {
@@ -492,6 +502,184 @@ fn read() {
     assert_eq!(typed, (minutes, values, points, bandwidths));
 }
 
+/// Lists of one length, so that no exchange of lists shows in their lengths.
+#[test]
+fn smooth_ranges() {
+    let (points, bandwidths) = ([9, 14, 22, 30, 31, 40], [6, 7, 8, 9, 10, 11]);
+    let before: [u64; 6 * RANGE_ROW_WIDTH] = std::array::from_fn(|i| 90 + i as u64);
+    let after = [
+        [0, 4, 70, 350, 630, 5, 9],
+        [1, 5, 74, 418, 858, 6, 12],
+        [3, 5, 78, 909, 2022, 12, 26],
+        [4, 5, 0, 0, 0, 65_536, 65_536],
+        [4, 6, 19, 589, 589, 31, 31],
+        [5, 6, 121, 3751, 3751, 31, 31],
+    ];
+    let mut rows = before;
+    let falling = [9, 14, 22, 30, 40, 31];
+    for (minutes, lows, points, report, place) in [
+        (&FALLING, &CROSSED, &falling, Report::SampleOutOfOrder, 4),
+        (&MINUTES, &CROSSED, &falling, Report::CrossedRange, 4),
+        (&MINUTES, &LOWS, &falling, Report::PointOutOfOrder, 5),
+    ] {
+        assert_eq!(
+            slices::smooth_ranges(minutes, lows, &HIGHS, points, &bandwidths, &mut rows),
+            DETAIL_UNIT * place + report.number()
+        );
+        assert_eq!(
+            tankcurve::smooth_ranges(minutes, lows, &HIGHS, points, &bandwidths, &mut rows)
+                .map(|curve| curve.passes),
+            refused(report, place)
+        );
+    }
+    // A list of another length, each in turn.
+    for place in 0..5 {
+        let length = |k| 6 - usize::from(k == place);
+        assert_eq!(
+            slices::smooth_ranges(
+                &MINUTES[..length(0)],
+                &LOWS[..length(1)],
+                &HIGHS[..length(2)],
+                &points[..length(3)],
+                &bandwidths[..length(4)],
+                &mut rows
+            ),
+            8
+        );
+    }
+    assert_eq!(
+        slices::smooth_ranges(
+            &MINUTES,
+            &LOWS,
+            &HIGHS,
+            &points,
+            &bandwidths,
+            &mut rows[1..]
+        ),
+        8
+    );
+    assert_eq!(rows, before);
+    assert_eq!(
+        slices::smooth_ranges(&MINUTES, &LOWS, &HIGHS, &points, &bandwidths, &mut rows),
+        DETAIL_UNIT * 11
+    );
+    assert_eq!(rows[..], after.concat());
+
+    let mut typed = before;
+    let curve = tankcurve::smooth_ranges(&MINUTES, &LOWS, &HIGHS, &points, &bandwidths, &mut typed)
+        .unwrap();
+    assert_eq!((curve.passes, curve.rows.len()), (11, 6));
+    let first = curve.rows.clone().next().unwrap();
+    assert_eq!((first.left(), first.right(), first.weight()), (0, 4, 70));
+    assert_eq!((first.sums(), first.values()), ((350, 630), Some((5, 9))));
+    let low = tankcurve::evaluate(&MINUTES, &LOWS, 9, 6).unwrap();
+    let high = tankcurve::evaluate(&MINUTES, &HIGHS, 9, 6).unwrap();
+    assert_eq!((first.low(), first.high()), (low, high));
+    assert_eq!(
+        curve.rows.clone().nth(3).map(|row| row.values()),
+        Some(None)
+    );
+    let rows: Vec<[u64; RANGE_ROW_WIDTH]> = curve.rows.map(Into::into).collect();
+    assert_eq!(rows, after);
+}
+
+#[test]
+fn read_ranges() {
+    let before = ([90; 1024], [91; 1024], [92; 1024], [93; 512], [94; 512]);
+    let counts_before = [95, 96, 97];
+    let (mut lists, mut counts) = (before, counts_before);
+    let read = |sheet,
+                lists: &mut (
+        [u16; 1024],
+        [u16; 1024],
+        [u16; 1024],
+        [u16; 512],
+        [u32; 512],
+    ),
+                counts: &mut [u64]| {
+        slices::read_ranges(
+            sheet,
+            &mut lists.0,
+            &mut lists.1,
+            &mut lists.2,
+            &mut lists.3,
+            &mut lists.4,
+            counts,
+        )
+    };
+    assert_eq!(
+        read(CROSSED_SHEET, &mut lists, &mut counts),
+        DETAIL_UNIT * 51 + 15
+    );
+    // A list of another length, each in turn.
+    for place in 0..6 {
+        let lengths: [usize; 6] =
+            std::array::from_fn(|i| [1024, 1024, 1024, 512, 512, 3][i] - usize::from(i == place));
+        assert_eq!(
+            slices::read_ranges(
+                RANGE_SHEET,
+                &mut lists.0[..lengths[0]],
+                &mut lists.1[..lengths[1]],
+                &mut lists.2[..lengths[2]],
+                &mut lists.3[..lengths[3]],
+                &mut lists.4[..lengths[4]],
+                &mut counts[..lengths[5]]
+            ),
+            8
+        );
+    }
+    assert_eq!((lists, counts), (before, counts_before));
+
+    let mut after = before;
+    after.0[..3].copy_from_slice(&[11, 13, 30]);
+    after.1[..3].copy_from_slice(&[0, 23, 20]);
+    after.2[..3].copy_from_slice(&[21, 25, 24]);
+    after.3[..2].copy_from_slice(&[12, 14]);
+    after.4[..2].copy_from_slice(&[7, 9]);
+    assert_eq!(read(RANGE_SHEET, &mut lists, &mut counts), 0);
+    assert_eq!((lists, counts), (after, [3, 2, slices::KIND_RANGES]));
+    after.1[..3].copy_from_slice(&[21, 23, 24]);
+    after.2[..3].copy_from_slice(&[21, 23, 24]);
+    assert_eq!(read(SHEET, &mut lists, &mut counts), 0);
+    assert_eq!((lists, counts), (after, [3, 2, slices::KIND_PLAIN]));
+
+    let mut typed = before;
+    for (sheet, used) in [
+        (CROSSED_SHEET, refused(Report::CrossedRange, 51)),
+        (RANGE_SHEET, Ok(Kind::Ranges)),
+        (SHEET, Ok(Kind::Plain)),
+    ] {
+        assert_eq!(
+            tankcurve::read_ranges(
+                sheet,
+                &mut typed.0,
+                &mut typed.1,
+                &mut typed.2,
+                &mut typed.3,
+                &mut typed.4
+            ),
+            used.map(|kind| RangeCounts {
+                samples: 3,
+                points: 2,
+                kind
+            })
+        );
+    }
+    assert_eq!(typed, after);
+    // The other reader takes no ranges.
+    assert_eq!(
+        tankcurve::read(
+            RANGE_SHEET,
+            &mut typed.0,
+            &mut typed.1,
+            &mut typed.3,
+            &mut typed.4
+        ),
+        refused(Report::BadHeader, 21)
+    );
+    assert_eq!(typed, after);
+}
+
 #[test]
 fn text() {
     let mut out = [90; MAX_OUTPUT];
@@ -517,6 +705,13 @@ fn text() {
     assert_eq!(typed, out);
     assert_eq!(tankcurve::text(OFFICE_SHEET, &mut typed), Ok(TEXT));
     assert_eq!(typed, out);
+    assert_eq!(
+        tankcurve::text(CROSSED_SHEET, &mut typed),
+        refused(Report::CrossedRange, 51)
+    );
+    assert_eq!(typed, out);
+    assert_eq!(tankcurve::text(RANGE_SHEET, &mut typed), Ok(RANGE_TEXT));
+    assert_eq!(typed[RANGE_TEXT.len()..], out[RANGE_TEXT.len()..]);
 }
 
 #[test]

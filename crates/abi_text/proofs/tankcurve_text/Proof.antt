@@ -3,7 +3,7 @@ use Prim.Native.Nat.{_≤_}
 use native.Mathlib.Omega.{arith}
 use Rattle.meanings.specs.Limits.{max-output}
 use Rattle.meanings.specs.Calls.{writing-answer}
-use Rattle.abi_text.proofs.Places.{write-place, text-size}
+use Rattle.abi_text.proofs.Places.{write-place, text-small}
 use Rattle.abi_answers.proofs.Answered.{refused-code, accepted-number}
 use borrow.Author.Needs.{needs}
 use Rattle.abi_text.proofs.tankcurve_text.Statement.{statement}
@@ -22,7 +22,7 @@ enum-known-size : tie.Need-enum-known-size
 enum-known-size c = search needs
 
 mul-result : tie.Need-mul-result
-mul-result c = let few : c .before .size .given .0 .0 ≤ max-output = search text-size in omega arith
+mul-result c = let few : c .before .size .given .0 .0 ≤ max-output = search text-small in omega arith
 
 same-length : tie.Need-same-length
 same-length c = search needs

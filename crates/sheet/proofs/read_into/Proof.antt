@@ -1,7 +1,6 @@
 -- The sheet is read into the reader's own lists, and the lent ones are written only once it is accepted: the used parts to their fronts.
 -- A refusal writes nothing, so the lent lists are then as they were.
-use native.Mathlib.Omega.{arith}
-use Rattle.sheet.proofs.Scans.{reading-refused, samples-fit, points-fit, reading-used}
+use Rattle.sheet.proofs.Scans.{reading-refused, reading-used}
 use borrow.Author.Needs.{needs}
 use Rattle.sheet.proofs.read_into.Statement.{statement}
 use Rattle.sheet.proofs.read_into.Tie as tie
@@ -27,29 +26,29 @@ enum-known-refusal c = search needs
 enum-known-n : tie.Need-enum-known-n
 enum-known-n c = search needs
 
-slice-aggregate-put-front-u16 : tie.Need-slice-aggregate-put-front-u16
-slice-aggregate-put-front-u16 c = search needs
+slice-aggregate-copy-u16 : tie.Need-slice-aggregate-copy-u16
+slice-aggregate-copy-u16 c = search needs
 
-put-front-u16-requires : tie.Need-put-front-u16-requires
-put-front-u16-requires c κs = (search (samples-fit, arith), search (samples-fit, arith))
+copy-u16-requires : tie.Need-copy-u16-requires
+copy-u16-requires c κs = search needs
 
-slice-aggregate-put-front-u16-2 : tie.Need-slice-aggregate-put-front-u16-2
-slice-aggregate-put-front-u16-2 c = search needs
+slice-aggregate-copy-u16-2 : tie.Need-slice-aggregate-copy-u16-2
+slice-aggregate-copy-u16-2 c = search needs
 
-put-front-u16-requires-2 : tie.Need-put-front-u16-requires-2
-put-front-u16-requires-2 c κs = (search (samples-fit, arith), search (samples-fit, arith))
+copy-u16-requires-2 : tie.Need-copy-u16-requires-2
+copy-u16-requires-2 c κs = search needs
 
-slice-aggregate-put-front-u16-3 : tie.Need-slice-aggregate-put-front-u16-3
-slice-aggregate-put-front-u16-3 c = search needs
+slice-aggregate-copy-u16-3 : tie.Need-slice-aggregate-copy-u16-3
+slice-aggregate-copy-u16-3 c = search needs
 
-put-front-u16-requires-3 : tie.Need-put-front-u16-requires-3
-put-front-u16-requires-3 c κs = (search (points-fit, arith), search (points-fit, arith))
+copy-u16-requires-3 : tie.Need-copy-u16-requires-3
+copy-u16-requires-3 c κs = search needs
 
-slice-aggregate-put-front-u32 : tie.Need-slice-aggregate-put-front-u32
-slice-aggregate-put-front-u32 c = search needs
+slice-aggregate-copy-u32 : tie.Need-slice-aggregate-copy-u32
+slice-aggregate-copy-u32 c = search needs
 
-put-front-u32-requires : tie.Need-put-front-u32-requires
-put-front-u32-requires c κs = (search (points-fit, arith), search (points-fit, arith))
+copy-u32-requires : tie.Need-copy-u32-requires
+copy-u32-requires c κs = search needs
 
 returns : tie.Need-returns
 returns c = search reading-refused
@@ -67,7 +66,15 @@ same-length-4 : tie.Need-same-length-4
 same-length-4 c = search needs
 
 returns-2 : tie.Need-returns-2
-returns-2 c = search reading-used
+returns-2 c =
+    reading-used (c .before .before .before .before .before .before .before .before .before .before .before .before .before .before
+    .before .before .before .before .before .before .before .before .before .before .before .before .before .scan .ensures)
+    (search needs)
+    (c .before .before .before .before .before .before .before .before .before .before .before .before .before .before
+    .before .before .before .before .before .before .before .before .before .before .before .before .before .before
+    .before .before .before .before .before .before .before .before .before .pre)
+    (search needs) (search needs) (search needs) (search needs)
+    (search needs) (search needs) (search needs) (search needs)
 
 pub read-into-spec : {M : Type 1} → statement M
 read-into-spec =
@@ -80,14 +87,14 @@ read-into-spec =
     scan-requires
     enum-known-refusal
     enum-known-n
-    slice-aggregate-put-front-u16
-    put-front-u16-requires
-    slice-aggregate-put-front-u16-2
-    put-front-u16-requires-2
-    slice-aggregate-put-front-u16-3
-    put-front-u16-requires-3
-    slice-aggregate-put-front-u32
-    put-front-u32-requires
+    slice-aggregate-copy-u16
+    copy-u16-requires
+    slice-aggregate-copy-u16-2
+    copy-u16-requires-2
+    slice-aggregate-copy-u16-3
+    copy-u16-requires-3
+    slice-aggregate-copy-u32
+    copy-u32-requires
     returns
     same-length
     same-length-2

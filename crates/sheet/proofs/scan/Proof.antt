@@ -1,30 +1,12 @@
 -- The sheet's parts in order: each stage's contract says what is left of the meaning after it.
 -- A stage that refuses gives the sheet's refusal, and after the last stage nothing is left.
-use Rattle.sheet.proofs.Scans.{too-long, points-end-within, no-point-header, points-refused, samples-refused, sheet-used}
+use Rattle.sheet.proofs.Scans.{front-refused, samples-refused, sheet-used}
 use borrow.Author.Needs.{needs}
 use Rattle.sheet.proofs.scan.Statement.{statement}
 use Rattle.sheet.proofs.scan.Tie as tie
 
-returns : tie.Need-returns
-returns c = search too-long
-
-slice-aggregate-skip-header : tie.Need-slice-aggregate-skip-header
-slice-aggregate-skip-header c = search needs
-
-skip-header-requires : tie.Need-skip-header-requires
-skip-header-requires c κs = search needs
-
-enum-known-first : tie.Need-enum-known-first
-enum-known-first c = search needs
-
-enum-told : tie.Need-enum-told
-enum-told c = search needs
-
-returns-2 : tie.Need-returns-2
-returns-2 c = search no-point-header
-
-read-points-requires : tie.Need-read-points-requires
-read-points-requires c κs = search needs
+read-front-requires : tie.Need-read-front-requires
+read-front-requires c κs = search needs
 
 enum-known-refusal : tie.Need-enum-known-refusal
 enum-known-refusal c = search needs
@@ -33,7 +15,7 @@ enum-known-count : tie.Need-enum-known-count
 enum-known-count c = search needs
 
 read-from-header-requires : tie.Need-read-from-header-requires
-read-from-header-requires c κs = search points-end-within
+read-from-header-requires c κs = search needs
 
 enum-known-refusal-2 : tie.Need-enum-known-refusal-2
 enum-known-refusal-2 c = search needs
@@ -47,8 +29,8 @@ same-length c = search needs
 same-length-2 : tie.Need-same-length-2
 same-length-2 c = search needs
 
-returns-3 : tie.Need-returns-3
-returns-3 c = search points-refused
+returns : tie.Need-returns
+returns c = search front-refused
 
 same-length-3 : tie.Need-same-length-3
 same-length-3 c = search needs
@@ -62,8 +44,8 @@ same-length-5 c = search needs
 same-length-6 : tie.Need-same-length-6
 same-length-6 c = search needs
 
-returns-4 : tie.Need-returns-4
-returns-4 c = search samples-refused
+returns-2 : tie.Need-returns-2
+returns-2 c = search samples-refused
 
 same-length-7 : tie.Need-same-length-7
 same-length-7 c = search needs
@@ -77,20 +59,14 @@ same-length-9 c = search needs
 same-length-10 : tie.Need-same-length-10
 same-length-10 c = search needs
 
-returns-5 : tie.Need-returns-5
-returns-5 c = search sheet-used
+returns-3 : tie.Need-returns-3
+returns-3 c = search sheet-used
 
 pub scan-spec : {M : Type 1} → statement M
 scan-spec =
     tie.close
     (tie.spec
-    returns
-    slice-aggregate-skip-header
-    skip-header-requires
-    enum-known-first
-    enum-told
-    returns-2
-    read-points-requires
+    read-front-requires
     enum-known-refusal
     enum-known-count
     read-from-header-requires
@@ -98,14 +74,14 @@ scan-spec =
     enum-known-kept
     same-length
     same-length-2
-    returns-3
+    returns
     same-length-3
     same-length-4
     same-length-5
     same-length-6
-    returns-4
+    returns-2
     same-length-7
     same-length-8
     same-length-9
     same-length-10
-    returns-5)
+    returns-3)

@@ -21,7 +21,7 @@ pub const MOST_NUMBERS: usize = 8;
 const MOST_RECORD: usize = 16;
 
 /// The most bytes of out.
-pub const MOST_OUT: usize = 31_300;
+pub const MOST_OUT: usize = 44_200;
 
 pub fn wide<T: Copy + Into<u64>>(list: &[T]) -> Vec<u64> {
     list.iter().map(|&x| x.into()).collect()

@@ -5,7 +5,7 @@ use reference::exported::RECORD;
 use reference::generators::lists::{Lists, SampleFault, Spread, Width};
 use reference::generators::random::Random;
 use reference::generators::sheets::{
-    damage_bytes, damage_lines, ended, lines_with, ByteFault, LineFault,
+    damage_bytes, damage_lines, ended, fields_of, lines_with, ByteFault, LineFault,
 };
 
 pub const LISTS: Lists = Lists {
@@ -138,13 +138,47 @@ fn lines(random: &mut Random) -> Vec<Vec<u8>> {
     lines_with(&points, &bandwidths, &minutes, &injections, &values)
 }
 
+/// The low end of a range: mostly none above the high one.
+pub fn low_of(random: &mut Random, high: u16) -> u16 {
+    match random.below(30) {
+        0..=5 => 0,
+        6..=11 => high,
+        12..=20 => high.saturating_sub(random.below(3) as u16),
+        21..=28 => random.below(usize::from(high) + 1) as u16,
+        _ => high.saturating_add(1),
+    }
+}
+
 /// A sheet: fit, with lines damaged, with bytes damaged too, or hardly a sheet.
 pub fn sheet(random: &mut Random) -> Vec<u8> {
     if random.chance(4) {
         let length = random.below(60);
         return (0..length).map(|_| random.number() as u8).collect();
     }
+    let lines = lines(random);
+    damaged(random, lines)
+}
+
+/// The same with ranges, and sometimes with readings of the other kind.
+pub fn range_sheet(random: &mut Random) -> Vec<u8> {
     let mut lines = lines(random);
+    let names = lines.iter().position(|line| line == b"minute,inj,vdk");
+    let names = names.expect("it has this line");
+    if !random.chance(5) {
+        lines[names] = b"minute,inj,low,high".to_vec();
+    }
+    for line in &mut lines[names + 1..] {
+        let mut fields = fields_of(line);
+        let high = String::from_utf8_lossy(&fields[2]).parse().unwrap_or(0);
+        if !random.chance(3) {
+            fields.insert(2, low_of(random, high).to_string().into_bytes());
+        }
+        *line = fields.join(&b',');
+    }
+    damaged(random, lines)
+}
+
+fn damaged(random: &mut Random, mut lines: Vec<Vec<u8>>) -> Vec<u8> {
     let style = random.below(10);
     while style >= 4 && random.chance(60) {
         damage_lines(random, &LINE_FAULTS, &mut lines);

@@ -29,9 +29,10 @@ pub enum Program {
     Pair,
     Biweight,
     Doubles,
+    Ranges,
 }
 
-const PROGRAMS: [(Program, &str); 9] = [
+const PROGRAMS: [(Program, &str); 10] = [
     (Program::Point, "vectors_point"),
     (Program::Sweep, "vectors_sweep"),
     (Program::Sheet, "vectors_sheet"),
@@ -41,10 +42,11 @@ const PROGRAMS: [(Program, &str); 9] = [
     (Program::Pair, "vectors_pair"),
     (Program::Biweight, "vectors_biweight"),
     (Program::Doubles, "vectors_doubles"),
+    (Program::Ranges, "vectors_ranges"),
 ];
 
 /// Each call, and what it can answer.
-const REPORTS: [(&str, &[u64]); 18] = [
+const REPORTS: [(&str, &[u64]); 20] = [
     ("evaluate", &[8, 6, 4, 9, 0]),
     ("window", &[8, 6, 4, 9, 0]),
     ("advance", &[8, 6, 11, 9, 0]),
@@ -54,7 +56,7 @@ const REPORTS: [(&str, &[u64]); 18] = [
     ("preview", &[8, 6, 7, 4, 5, 9, 10, 0]),
     ("fill", &[8, 7, 6, 12, 13, 0]),
     ("read", &[8, 1, 2, 3, 4, 5, 9, 10, 6, 7, 0]),
-    ("text", &[8, 1, 2, 3, 4, 5, 9, 10, 6, 7, 0]),
+    ("text", &[8, 1, 2, 3, 4, 15, 5, 9, 10, 6, 7, 0]),
     ("refusal_text", &[8, 0]),
     ("first_at_most", &[8, 6, 7, 4, 5, 9, 10, 0]),
     ("decisive", &[8, 6, 4, 9, 0]),
@@ -63,6 +65,8 @@ const REPORTS: [(&str, &[u64]); 18] = [
     ("biweight", &[8, 6, 4, 0]),
     ("doubles", &[8, 0]),
     ("row_cells", &[0]),
+    ("smooth_ranges", &[8, 6, 7, 4, 15, 5, 9, 10, 0]),
+    ("read_ranges", &[8, 1, 2, 3, 4, 15, 5, 9, 10, 6, 7, 0]),
 ];
 
 /// What a call gave: its answer and its lent lists.

@@ -1,6 +1,6 @@
 //! The cases of the gate's programs `vectors_point`, `vectors_sweep`,
 //! `vectors_sheet`, `vectors_text`, `vectors_limit`, `vectors_neighbours`, `vectors_pair`,
-//! `vectors_biweight` and `vectors_doubles`, and what each has to write for them.
+//! `vectors_biweight`, `vectors_doubles` and `vectors_ranges`, and what each has to write for them.
 //!
 //! `gate_vectors crates` writes stdin and stdout of each program into its
 //! folder below `crates`, always the same. The answers are the second
@@ -50,14 +50,18 @@
 //! vectors_doubles
 //! 1 doubles(weight, number, doubles*)                      a weight or a sum as doubles
 //! 2 row_cells(row)                                         both of a row, by the call that takes a row
+//!
+//! vectors_ranges
+//! 1 smooth_ranges(minutes, lows, highs, points, bandwidths, rows*)                         the sweep over ranges
+//! 2 read_ranges(sheet, minutes*, lows*, highs*, points*, bandwidths*, counts*)             the reader of both kinds
 //! ```
 //!
 //! An answer is a number and a detail. Number 0 is accepted, with the passes
 //! of a sweep or a preview or up to the mark that answers, the bytes of a text, the
-//! higher of two tanks, how many doubles are used, else 0 as detail; 1 to 14, or 16, is
+//! higher of two tanks, how many doubles are used, else 0 as detail; 1 to 16 is
 //! a report, with its place. The lists for a row, bounds, a record, counts, a position, a
 //! parting and doubles have one length only (`ROW_WIDTH`, `BOUNDS`, `RECORD`, `COUNTS`,
-//! `ANSWER`, `PARTING`, `DOUBLES`), and out has `MOST_OUTPUT` bytes.
+//! `RANGE_COUNTS`, `ANSWER`, `PARTING`, `DOUBLES`), and out has `MOST_OUTPUT` bytes.
 //! Another length of these is report 8 at place 0, before any other. A refused
 //! sheet has no curve: text then answers with the sheet's report, and
 //! refusal_text writes the text of any number and place.
@@ -91,11 +95,13 @@
 //! vectors_biweight   1 MINUTES VALUES point length-of-row
 //! vectors_doubles 1 weight number length-of-doubles
 //!                 2 left right weight sum value
+//! vectors_ranges  1 MINUTES LOWS HIGHS POINTS BANDWIDTHS length-of-rows
+//!                 2 length-of-minutes -lows -highs -points -bandwidths -counts SHEET
 //! ```
 //!
 //! The bytes of a sheet stand as they are, up to the end of the case. There are
-//! at most 1,100 minutes, values, points or bandwidths, 2,600 rows, 16 numbers
-//! of a record, 8 of a row, bounds, counts, a position, a parting or doubles, 31,300 bytes of
+//! at most 1,100 minutes, values, points or bandwidths, 2,600 rows, 3,600 over ranges, 16 numbers
+//! of a record, 8 of a row, bounds, counts, a position, a parting or doubles, 44,200 bytes of
 //! out, 40,000 bytes of a case and 100,000 cases.
 //!
 //! # Standard output
@@ -119,6 +125,7 @@ mod limit;
 mod neighbours;
 mod pair;
 mod point;
+mod ranges;
 mod sheet;
 mod sweep;
 mod text;
@@ -139,6 +146,7 @@ fn all() -> Cases {
     pair::cases(&mut cases);
     biweight::cases(&mut cases);
     doubles::cases(&mut cases);
+    ranges::cases(&mut cases);
     let random = &mut Random(1);
     point::random_cases(random, &mut cases);
     sweep::random_cases(random, &mut cases);
@@ -149,6 +157,7 @@ fn all() -> Cases {
     pair::random_cases(&mut Random(12), &mut cases);
     biweight::random_cases(&mut cases);
     doubles::random_cases(&mut Random(11), &mut cases);
+    ranges::random_cases(&mut cases);
     cases
 }
 

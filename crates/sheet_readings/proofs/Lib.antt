@@ -1,0 +1,3 @@
+pub mod LastMinutes
+pub mod ReadingLoop
+pub mod Stores

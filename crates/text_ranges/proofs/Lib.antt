@@ -1,0 +1,4 @@
+pub mod Lines
+pub mod Parts
+pub mod Swept
+pub mod Tables
