@@ -24,7 +24,7 @@ pub type Answer = (u8, u64);
 pub const WRONG_LENGTH: Answer = (8, 0);
 
 /// Every report, for the typed call that takes one.
-const REPORTS: [Report; 16] = [
+const REPORTS: [Report; 17] = [
     Report::TooLong,
     Report::BadHeader,
     Report::MalformedLine,
@@ -41,6 +41,7 @@ const REPORTS: [Report; 16] = [
     Report::TooFewSamples,
     Report::CrossedRange,
     Report::SecondSeries,
+    Report::TemperatureOutOfOrder,
 ];
 
 /// The calls, with their tallies.

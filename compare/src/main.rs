@@ -6,6 +6,7 @@
 //! give and that never came.
 
 mod biweight;
+mod boxes;
 mod calls;
 mod cases;
 mod doubles;
@@ -19,6 +20,7 @@ mod sheets;
 mod tally;
 
 use biweight::Biweights;
+use boxes::InBoxes;
 use calls::Calls;
 use doubles::Cells;
 use limit::Questions;
@@ -60,6 +62,7 @@ fn compare(
     biweights: &mut Biweights,
     cells: &mut Cells,
     by_ranges: &mut Ranges,
+    in_boxes: &mut InBoxes,
     examples: &Path,
 ) -> Result<(), String> {
     published(calls, examples)?;
@@ -81,6 +84,7 @@ fn compare(
     biweight::biweight(biweights)?;
     doubles::doubles(cells)?;
     ranges::ranges(by_ranges, calls)?;
+    boxes::boxes(in_boxes)?;
     let tallies = || {
         let calls = calls.tallies().into_iter();
         calls
@@ -90,6 +94,7 @@ fn compare(
             .chain(biweights.tallies())
             .chain(cells.tallies())
             .chain(by_ranges.tallies())
+            .chain(in_boxes.tallies())
     };
     tallies().for_each(|tally| println!("{}", tally.line()));
     tallies().try_for_each(Tally::complete)
@@ -108,6 +113,7 @@ fn main() -> ExitCode {
     let mut biweights = Biweights::new();
     let mut cells = Cells::new();
     let mut by_ranges = Ranges::new();
+    let mut in_boxes = InBoxes::new();
     let compared = compare(
         &mut calls,
         &mut questions,
@@ -116,6 +122,7 @@ fn main() -> ExitCode {
         &mut biweights,
         &mut cells,
         &mut by_ranges,
+        &mut in_boxes,
         examples,
     );
     if let Err(difference) = compared {
@@ -129,7 +136,8 @@ fn main() -> ExitCode {
         .chain(pairs.tallies())
         .chain(biweights.tallies())
         .chain(cells.tallies())
-        .chain(by_ranges.tallies());
+        .chain(by_ranges.tallies())
+        .chain(in_boxes.tallies());
     let total: u64 = tallies.map(Tally::cases).sum();
     println!("compare: {total} cases agree");
     ExitCode::SUCCESS

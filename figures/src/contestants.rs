@@ -1,6 +1,7 @@
 //! The calls that are measured, over one input and one set of buffers.
 
-use figures::inputs::{Buffers, Input};
+use figures::inputs::{in_boxes, Buffers, Input};
+use figures::plain::boxes::{Question, BOX_WIDTH};
 use figures::plain::{DETAIL_UNIT, ROW_WIDTH};
 use figures::{direct, plain};
 use std::sync::OnceLock;
@@ -37,7 +38,7 @@ fn plain_read(read: Reader, input: &Input, lent: &mut Buffers) -> u64 {
 }
 
 /// Every contestant answers what the proved call returns: detail and number as one number.
-pub static CALLS: [Contestant; 34] = [
+pub static CALLS: [Contestant; 41] = [
     Contestant {
         name: "tankcurve_smooth",
         call: |input, lent| {
@@ -251,7 +252,73 @@ pub static CALLS: [Contestant; 34] = [
         name: "tankcurve_evaluate, 1024",
         call: |_, lent| evaluate(lent, 20_511, 1024),
     },
+    Contestant {
+        name: "tankcurve_boxes",
+        call: |_, lent| boxes(&FULL_BOXES, 1024, 32, lent),
+    },
+    Contestant {
+        name: "plain::boxes",
+        call: |_, lent| rust_boxes(plain::boxes, lent),
+    },
+    Contestant {
+        name: "direct::boxes",
+        call: |_, lent| rust_boxes(direct::boxes, lent),
+    },
+    Contestant {
+        name: "tankcurve_boxes, 512 readings",
+        call: |_, lent| boxes(&BOXES_OF_512, 512, 32, lent),
+    },
+    Contestant {
+        name: "tankcurve_boxes, no readings",
+        call: |_, lent| boxes(&BOXES_OF_NONE, 0, 32, lent),
+    },
+    Contestant {
+        name: "tankcurve_boxes, 16 marks",
+        call: |_, lent| boxes(&BOXES_OF_16_MARKS, 1024, 16, lent),
+    },
+    Contestant {
+        name: "tankcurve_boxes, 1 mark",
+        call: |_, lent| boxes(&BOXES_OF_1_MARK, 1024, 1, lent),
+    },
 ];
+
+static FULL_BOXES: OnceLock<Question> = OnceLock::new();
+static BOXES_OF_512: OnceLock<Question> = OnceLock::new();
+static BOXES_OF_NONE: OnceLock<Question> = OnceLock::new();
+static BOXES_OF_16_MARKS: OnceLock<Question> = OnceLock::new();
+static BOXES_OF_1_MARK: OnceLock<Question> = OnceLock::new();
+
+/// Minute and temperature together, of so many readings and so many marks of each direction, which are drawn once.
+fn boxes(asked: &OnceLock<Question>, readings: usize, marks: usize, lent: &mut Buffers) -> u64 {
+    let asked = asked.get_or_init(|| in_boxes(readings, marks));
+    slices::boxes(
+        &asked.minutes,
+        &asked.temperatures,
+        &asked.values,
+        &asked.points,
+        &asked.bandwidths,
+        &asked.temperature_points,
+        &asked.temperature_bandwidths,
+        &mut lent.boxes[..BOX_WIDTH * marks * marks],
+        &mut lent.cell_counts,
+        &mut lent.cell_sums,
+    )
+}
+
+/// The same of all readings and marks in Rust.
+fn rust_boxes(
+    call: fn(&Question, &mut [u64], &mut [u32], &mut [u32]) -> Result<(), plain::Refusal>,
+    lent: &mut Buffers,
+) -> u64 {
+    let asked = FULL_BOXES.get_or_init(|| in_boxes(1024, 32));
+    let answer = call(
+        asked,
+        &mut lent.boxes,
+        &mut lent.cell_counts,
+        &mut lent.cell_sums,
+    );
+    answer.map_or_else(|refusal| refusal.code(), |()| 0)
+}
 
 /// A reading each minute, as many as there may be, from 20,000 on.
 static EACH_MINUTE: [u16; MAX_SAMPLES] = {

@@ -1,5 +1,6 @@
 //! What every contestant gets: the same lists or sheet, and the same buffers.
 
+use crate::plain::boxes::{Question, BOX_MAX_POINTS, BOX_WIDTH, CELLS};
 use crate::plain::{MAX_OUTPUT, MAX_POINTS, MAX_SAMPLES, MAX_SHEET, ROW_WIDTH};
 
 /// The lists of a grid and its samples, and the sheet that has them.
@@ -24,6 +25,9 @@ pub struct Buffers {
     pub range_rows: [u64; 7 * MAX_POINTS],
     pub counts: [u64; 2],
     pub out: [u8; MAX_OUTPUT],
+    pub boxes: [u64; BOX_WIDTH * BOX_MAX_POINTS * BOX_MAX_POINTS],
+    pub cell_counts: [u32; CELLS],
+    pub cell_sums: [u32; CELLS],
 }
 
 impl Buffers {
@@ -38,6 +42,9 @@ impl Buffers {
             range_rows: [0xa5a5_a5a5_a5a5_a5a5; 7 * MAX_POINTS],
             counts: [0xa5a5_a5a5_a5a5_a5a5; 2],
             out: [0xa5; MAX_OUTPUT],
+            boxes: [0xa5a5_a5a5_a5a5_a5a5; BOX_WIDTH * BOX_MAX_POINTS * BOX_MAX_POINTS],
+            cell_counts: [0xa5a5_a5a5; CELLS],
+            cell_sums: [0xa5a5_a5a5; CELLS],
         })
     }
 }
@@ -73,6 +80,25 @@ pub fn input(part: usize, bandwidth: u32) -> Input {
         points,
         bandwidths,
         sheet,
+    }
+}
+
+/// So many readings in no order, over all minutes and temperatures, and so many marks of each direction, which with 32
+/// cut each in 65 strips.
+pub fn in_boxes(readings: usize, marks: usize) -> Question {
+    let spread = |i: usize, step: usize, end: usize| i * step % end;
+    Question {
+        minutes: (0..readings)
+            .map(|i| spread(i, 40_503, 65_536) as u16)
+            .collect(),
+        temperatures: (0..readings).map(|i| spread(i, 167, 256) as u8).collect(),
+        values: (0..readings)
+            .map(|i| spread(i, 30_011, 65_536) as u16)
+            .collect(),
+        points: (0..marks).map(|k| (1_000 + 2_048 * k) as u16).collect(),
+        bandwidths: (0..marks).map(|k| 5_000 + 3 * k as u32).collect(),
+        temperature_points: (0..marks).map(|k| (3 + 8 * k) as u8).collect(),
+        temperature_bandwidths: vec![18; marks],
     }
 }
 

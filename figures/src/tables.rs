@@ -288,6 +288,68 @@ up, the others with equal ends; beside the sweep over the highs. Ratios are to t
     Ok(())
 }
 
+/// Minute and temperature together, beside the same algorithm in plain Rust and beside readings × pairs, and by the number of
+/// readings and of marks.
+fn in_boxes(full: &Input) -> Result<(), String> {
+    let names = ["tankcurve_boxes", "plain::boxes", "direct::boxes"];
+    agree(&names, full)?;
+    let timed = times(&names.map(|name| (called(name), full)));
+    println!("\n### Minute and temperature together\n");
+    println!(
+        "1,024 readings in no order, 32 marks of each direction, which cut it in 65 strips: 1,024 pairs. `plain::boxes` is the same algorithm in
+plain Rust; `direct::boxes` looks at every reading for every pair, in 32 bits, in a loop that
+the compiler makes of vector instructions. Ratios are to `tankcurve_boxes`.
+"
+    );
+    println!("| what | least time | ratio, median | ratio, least | instructions | ratio, instructions | goal |");
+    println!("|---|---|---|---|---|---|---|");
+    let proved = instructions(names[0], 1, BANDWIDTH)?;
+    for (name, times) in names.iter().zip(&timed) {
+        let count = instructions(name, 1, BANDWIDTH)?;
+        let ratios = [
+            median_ratio(times, &timed[0]),
+            least(times) / least(&timed[0]),
+            count as f64 / proved as f64,
+        ];
+        let goal = match *name {
+            "plain::boxes" => format!(
+                "`tankcurve_boxes` at most 1.1 of it: {}",
+                verdict(ratios, |r| 1.0 / r <= 1.1)
+            ),
+            "direct::boxes" => format!("at least 20: {}", verdict(ratios, |r| 20.0 <= r)),
+            _ => String::new(),
+        };
+        println!(
+            "| `{name}` | {} | {:.2} | {:.2} | {} | {:.2} | {goal} |",
+            micros(least(times)),
+            ratios[0],
+            ratios[1],
+            grouped(count),
+            ratios[2],
+        );
+    }
+    println!("\nBy the number of readings and of marks of each direction:\n");
+    println!("| readings | marks | instructions | ratio, instructions |");
+    println!("|---|---|---|---|");
+    let sizes = [
+        ("tankcurve_boxes, no readings", 0, 32),
+        ("tankcurve_boxes, 512 readings", 512, 32),
+        ("tankcurve_boxes, 1 mark", 1024, 1),
+        ("tankcurve_boxes, 16 marks", 1024, 16),
+        (names[0], 1024, 32),
+    ];
+    for (name, readings, marks) in sizes {
+        let count = instructions(name, 1, BANDWIDTH)?;
+        println!(
+            "| {} | {marks} | {} | {:.3} |",
+            grouped(readings),
+            grouped(count),
+            count as f64 / proved as f64
+        );
+    }
+    Ok(())
+}
+
 /// A turn beside one that is refused after the order check and has moved nothing.
 fn turn(full: &Input) -> Result<(), String> {
     let names = ["tankcurve_turn", "tankcurve_turn, refused with 9"];
@@ -532,6 +594,7 @@ all, the loader's too.
     neighbours()?;
     biweight(full)?;
     ranges(full)?;
+    in_boxes(full)?;
     growth(&parts)
 }
 

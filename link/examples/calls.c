@@ -1,7 +1,8 @@
 /*
  * Every call once, as a panel would make them: reads a sheet from standard input, draws its curve by the sweep, with readings known only as ranges
  * (traces.c has a sheet of them), and, mark by mark, by a running record; asks at one mark, whose weight and sum it has as doubles too, there once more with softer weights, and when the tank may move; sets the tank
- * against a twin; draws once more with half widths by neighbours and at marks of the filler; writes the text. Says each report by its number, word and place.
+ * against a twin; draws once more with half widths by neighbours and at marks of the filler; counts readings by minute and temperature; writes the text.
+ * Says each report by its number, word and place.
  */
 #include "tankcurve.h"
 
@@ -219,6 +220,28 @@ static bool softer(size_t samples, uint16_t point)
     return true;
 }
 
+/* Readings by minute and temperature: a sheet has no temperatures, so all of them are those of a cellar at 12.0 degrees. Of the sheet's marks as many
+   are taken as this call may have; boxes.c has more. */
+static bool by_temperature(size_t samples, size_t marks)
+{
+    static uint8_t temperatures[TANKCURVE_MAX_SAMPLES];
+    static uint64_t boxes[TANKCURVE_BOX_LEN * TANKCURVE_BOX_MAX_POINTS];
+    static uint32_t counts[TANKCURVE_CELLS_LEN], sums[TANKCURVE_CELLS_LEN];
+    const uint8_t degrees[] = {120};
+    const uint32_t widths[] = {5};
+    if (marks > TANKCURVE_BOX_MAX_POINTS)
+        marks = TANKCURVE_BOX_MAX_POINTS;
+    for (size_t k = 0; k < samples; k++)
+        temperatures[k] = 120;
+    if (!accepted("boxes", tankcurve_boxes(minutes, samples, temperatures, samples, values, samples, points, marks, bandwidths, marks, degrees, 1, widths,
+                                           1, boxes, TANKCURVE_BOX_LEN * marks, counts, TANKCURVE_CELLS_LEN, sums, TANKCURVE_CELLS_LEN)))
+        return false;
+    for (size_t j = 0; j < marks; j++)
+        printf("boxes: count %" PRIu64 ", sum %" PRIu64 "\n", boxes[TANKCURVE_BOX_LEN * j + TANKCURVE_BOX_COUNT],
+               boxes[TANKCURVE_BOX_LEN * j + TANKCURVE_BOX_SUM]);
+    return true;
+}
+
 /* What the program writes of the sheet: its curve, or its refusal. */
 static bool text(size_t sheet_len)
 {
@@ -250,6 +273,7 @@ int main(void)
         well = well && sweep(samples, marks) && over_ranges(sheet_len, 60) && steps(samples, marks) && one_mark(samples, points[0], bandwidths[0]) &&
                softer(samples, points[0]) && may_move(samples, marks, 58) && may_move(samples, marks, 57) &&
                repeat_which(samples, points[0], bandwidths[0], 60) && repeat_which(samples, points[0], bandwidths[0], 59) && twins(samples, marks) &&
+               by_temperature(samples, marks) &&
                by_neighbours(samples, marks, 2) && by_neighbours(samples, marks, 5);
         /* Four marks from minute 10, one every 15 minutes, with the half width of the knob's position 0. */
         well = well && accepted("fill", tankcurve_fill(10, 15, 0, points, 4, bandwidths, 4)) && preview(samples, 4) && sweep(samples, 4);

@@ -1,7 +1,7 @@
 /*
- * The tank curve for C: kernel regression in exact whole numbers, with the Epanechnikov kernel and, in tankcurve_biweight, the biweight one, proved in
- * Rattle. Link libtankcurve_abi.a, which `link/archive` writes to target/staticlib; `link/install PREFIX` puts both with a pkg-config file under a
- * prefix.
+ * The tank curve for C: kernel regression in exact whole numbers, with the Epanechnikov kernel and, in tankcurve_biweight, the biweight one, and counts
+ * and sums with the uniform kernel over minute and temperature, in tankcurve_boxes, proved in Rattle. Link libtankcurve_abi.a, which `link/archive`
+ * writes to target/staticlib; `link/install PREFIX` puts both with a pkg-config file under a prefix.
  *
  * A list is a pointer and its number of elements. Every call ends, whatever its lists contain and however long they are, so that nothing
  * has to be tested before it. The calls use no heap and no global memory and keep nothing from call to call, so that they may run in several
@@ -9,16 +9,16 @@
  * names its section. Words in quotes are the trade's. A minute counts from pitching; a value is in tenths of a microgram per litre.
  *
  * Every call but tankcurve_version returns TANKCURVE_DETAIL_UNIT * detail + number. Number 0 means accepted; what the detail then is stands at
- * each call. Number 1 to 16 is a report and the detail its place; every list that was lent then holds what it held before: a row that is
+ * each call. Number 1 to 17 is a report and the detail its place; every list that was lent then holds what it held before: a row that is
  * still there is that of an earlier call. Each call gives the first of its reports whose condition holds, in the order that stands at it. A
  * place is 0 unless something else is said there.
  *
  * Report 8 is about the lengths of the lists that the caller lends, found before all else, at place 0. A list for the answer (row, bounds,
- * record, counts, position, doubles, out, and the readers' minutes, values, lows, highs, points and bandwidths) has exactly the length that is
- * stated: a longer one is refused too. rows has exactly TANKCURVE_ROW_LEN times as many elements as there are points, in tankcurve_smooth_ranges
- * TANKCURVE_RANGE_ROW_LEN times: pass that product and not what the array could hold. In tankcurve_read, tankcurve_read_ranges and tankcurve_text
- * every other number is about the sheet, and its place a byte of the sheet, counted from 0; in all other calls a place is a position in a list,
- * from 0.
+ * record, counts, position, doubles, boxes, sums, out, and the readers' minutes, values, lows, highs, points and bandwidths) has exactly the length
+ * that is stated: a longer one is refused too. rows has exactly TANKCURVE_ROW_LEN times as many elements as there are points, in
+ * tankcurve_smooth_ranges TANKCURVE_RANGE_ROW_LEN times: pass that product and not what the array could hold. In tankcurve_read,
+ * tankcurve_read_ranges and tankcurve_text every other number is about the sheet, and its place a byte of the sheet, counted from 0; in all other
+ * calls a place is a position in a list, from 0.
  *
  * An empty list has length 0 and a pointer that is neither null nor misaligned; nothing is read or written there. Pass that of any object of
  * the element's type, such as `uint16_t none;` and `&none, 0`.
@@ -40,7 +40,8 @@
  *   - a list that is written and overlaps another; lists that are only read may overlap;
  *   - lists that someone else writes, or reads while they are written, during the call;
  *   - the stack: on sheets of 1,024 samples and 512 points tankcurve_text took up to 49 KB, tankcurve_read_ranges less than 10 KB and tankcurve_read
- *     less than 8 KB; tankcurve_biweight takes less than 6 KB, most of it for its table, and the other calls under 1 KB;
+ *     less than 8 KB; tankcurve_biweight takes less than 6 KB, most of it for its table; tankcurve_boxes took 72,008 bytes on lists of the greatest
+ *     lengths, most of them for two tables of 66 times 66 numbers; every other call takes under 1 KB;
  *   - the compiler's back end below the proof, memcpy and memset, which the archive takes from the host, the linker and the machine. The
  *     archive links only into programs for x86-64 Linux;
  *   - this header: nothing compares it with the Rattle source but the tests in link/tests and the examples in link/examples.
@@ -64,10 +65,10 @@ extern "C" {
 #endif
 
 /*
- * The version that this header belongs to, 3.0.0: major * 65536 + minor * 256 + patch. tankcurve_version gives that of the archive. What is
- * counted by it stands in link/abi-3.0.0.
+ * The version that this header belongs to, 3.1.0: major * 65536 + minor * 256 + patch. tankcurve_version gives that of the archive. What is
+ * counted by it stands in link/abi-3.1.0.
  */
-#define TANKCURVE_VERSION 0x030000
+#define TANKCURVE_VERSION 0x030100
 
 /* The lengths and limits. */
 #define TANKCURVE_MAX_SAMPLES 1024 /* samples ("readings") in a list, and the length of the reader's lists of them */
@@ -85,6 +86,10 @@ extern "C" {
 #define TANKCURVE_POSITION_LEN 1   /* a position, or TANKCURVE_NO_POSITION */
 #define TANKCURVE_PARTING_LEN 3    /* enum tankcurve_parting_field: point, left, right */
 #define TANKCURVE_DOUBLES_LEN 2    /* enum tankcurve_doubles_field: a high part, or all of a number, and a low part */
+#define TANKCURVE_BOX_MAX_POINTS 32 /* points of a direction of tankcurve_boxes */
+#define TANKCURVE_BOX_LEN 2        /* enum tankcurve_box_field: count, sum */
+#define TANKCURVE_STRIPS 65        /* the cells of a minute strip in a list of cells */
+#define TANKCURVE_CELLS_LEN 4225   /* a list of cells: TANKCURVE_STRIPS for each of TANKCURVE_STRIPS minute strips */
 
 /* Where a field stands in its list: row[TANKCURVE_ROW_VALUE]; that of row k of a sweep is rows[TANKCURVE_ROW_LEN * k + TANKCURVE_ROW_VALUE]. */
 enum tankcurve_row_field {
@@ -145,6 +150,10 @@ enum tankcurve_doubles_field {
     TANKCURVE_DOUBLES_HIGH = 0,
     TANKCURVE_DOUBLES_LOW = 1
 };
+enum tankcurve_box_field {
+    TANKCURVE_BOX_COUNT = 0,
+    TANKCURVE_BOX_SUM = 1
+};
 
 /*
  * What stands for no position in the answer of a question with a limit. It is no position of any list: ask whether an answer is this number
@@ -170,6 +179,10 @@ enum tankcurve_doubles_field {
 #define TANKCURVE_MIN_BANDWIDTH 1
 #define TANKCURVE_MAX_BANDWIDTH 65536
 
+/* The greatest bandwidth of a temperature, and the greatest sum of a cell of tankcurve_boxes: 1,024 samples, and each value 65,535. */
+#define TANKCURVE_MAX_TEMPERATURE_BANDWIDTH 256
+#define TANKCURVE_MAX_CELL_SUM 67107840
+
 /* The bandwidth of tankcurve_biweight, and the greatest weight and sum of its row: 1,024 samples at the point, and each value 65,535. */
 #define TANKCURVE_BIWEIGHT_BANDWIDTH 720
 #define TANKCURVE_BIWEIGHT_MAX_WEIGHT UINT64_C(275188285440000)
@@ -194,17 +207,19 @@ enum tankcurve_report TANKCURVE_REPORT_TYPE {
     TANKCURVE_SAMPLE_OUT_OF_ORDER = 4,    /* "early reading": a minute is below the one before */
     TANKCURVE_POINT_OUT_OF_ORDER = 5,     /* "early mark": a point is below the one before */
     TANKCURVE_TOO_MANY = 6,               /* "crowded": more than 1,024 samples, on a sheet kept ones, or more than 512 points; in
-                                             tankcurve_preview more than 256 samples or 64 points */
+                                             tankcurve_preview more than 256 samples or 64 points, in tankcurve_boxes more than 32 points
+                                             of a direction */
     TANKCURVE_NO_POINTS = 7,              /* "no marks": there is no point */
     TANKCURVE_LENGTH_MISMATCH = 8,        /* "uneven": lists that belong together, or a list for the answer, have other lengths */
-    TANKCURVE_BANDWIDTH_OUT_OF_RANGE = 9, /* "half width": a bandwidth is 0 or over 65,536 */
+    TANKCURVE_BANDWIDTH_OUT_OF_RANGE = 9, /* "half width": a bandwidth is 0 or over 65,536, that of a temperature over 256 */
     TANKCURVE_EDGE_DECREASES = 10,        /* "edge back": point - bandwidth or point + bandwidth is below that of the point before */
     TANKCURVE_INVALID_RECORD = 11,        /* "foreign record": left is over right, or right over the number of samples */
     TANKCURVE_UNKNOWN_PRESET = 12,        /* "knob": the preset is over 11 */
     TANKCURVE_GRID_OVERFLOW = 13,         /* "past the clock": the last point would be over 65,535 */
     TANKCURVE_TOO_FEW_SAMPLES = 14,       /* "too few": k is 0 or over the number of samples */
     TANKCURVE_CROSSED_RANGE = 15,         /* "crossed range": a low is above its high */
-    TANKCURVE_SECOND_SERIES = 16          /* "second tank": the second tank's lists have the condition of 8, 6 or 4 */
+    TANKCURVE_SECOND_SERIES = 16,         /* "second tank": the second tank's lists have the condition of 8, 6 or 4 */
+    TANKCURVE_TEMPERATURE_OUT_OF_ORDER = 17 /* "early temperature mark": a point of the temperatures is below the one before */
 };
 
 /* The number of what a call returned: 0 or a report. */
@@ -240,6 +255,7 @@ static inline const char *tankcurve_word(enum tankcurve_report report)
     case TANKCURVE_TOO_FEW_SAMPLES: return "too few";
     case TANKCURVE_CROSSED_RANGE: return "crossed range";
     case TANKCURVE_SECOND_SERIES: return "second tank";
+    case TANKCURVE_TEMPERATURE_OUT_OF_ORDER: return "early temperature mark";
     }
     return "unknown";
 }
@@ -484,6 +500,30 @@ uint64_t tankcurve_neighbours(const uint16_t *minutes, size_t minutes_len, const
  */
 TANKCURVE_ANSWER
 uint64_t tankcurve_doubles(uint64_t weight, uint64_t number, double *doubles, size_t doubles_len);
+
+/*
+ * Minute and temperature together [Minute and temperature together]: how many samples lie in the box of each pair of points, and the sum of their
+ * values, with the uniform kernel. A sample has a minute, a temperature in tenths of a degree and a value; it lies in a box if its minute is no
+ * further from the pair's point than that point's bandwidth, and its temperature likewise. points and bandwidths are those of the minutes, up to 32;
+ * temperature_points and temperature_bandwidths those of the temperatures, up to 32 too, the bandwidths 1 to 256. Samples stand in any order, and
+ * edges may go back; points of each direction may not.
+ * boxes, written: exactly TANKCURVE_BOX_LEN numbers for each pair, all pairs of the first point of the minutes first:
+ * the count of points j and k stands at TANKCURVE_BOX_LEN * (j * temperature_points_len + k) + TANKCURVE_BOX_COUNT.
+ * counts and sums, written: TANKCURVE_CELLS_LEN each. The cuts of a direction are point - bandwidth and point + bandwidth + 1 of each of its points,
+ * equal ones once; a cut may be negative, so compute it in signed numbers, as int64_t. A sample's strip is how many cuts lie at or below it, 0 to 64,
+ * and its cell TANKCURVE_STRIPS * strip of the minute + strip of the temperature. counts has how many samples are in each cell, at most 1,024, sums
+ * their values, at most TANKCURVE_MAX_CELL_SUM; cells without samples have 0. Every sample is in one cell, and a box is the sum of the cells of its
+ * strips.
+ * Detail 0. Reports: 8 (minutes with temperatures and values, points with bandwidths of each direction, boxes, counts or sums), 6, 7, 5, 17, 9; the
+ * places of 5, 17 and 9 are the lowest position at which the condition holds. 9 is looked for in the bandwidths of the minutes first, and does
+ * not tell which direction it is.
+ */
+TANKCURVE_ANSWER
+uint64_t tankcurve_boxes(const uint16_t *minutes, size_t minutes_len, const uint8_t *temperatures, size_t temperatures_len,
+                         const uint16_t *values, size_t values_len, const uint16_t *points, size_t points_len, const uint32_t *bandwidths,
+                         size_t bandwidths_len, const uint8_t *temperature_points, size_t temperature_points_len,
+                         const uint32_t *temperature_bandwidths, size_t temperature_bandwidths_len, uint64_t *boxes, size_t boxes_len,
+                         uint32_t *counts, size_t counts_len, uint32_t *sums, size_t sums_len);
 
 #ifdef __cplusplus
 }

@@ -15,6 +15,9 @@ static uint16_t points[2 * TANKCURVE_MAX_POINTS];
 static uint32_t bandwidths[2 * TANKCURVE_MAX_POINTS];
 static uint64_t numbers[16];
 static double doubles[4];
+static uint8_t degrees[2 * TANKCURVE_MAX_SAMPLES];
+static uint64_t boxes[4 * TANKCURVE_BOX_LEN * TANKCURVE_BOX_MAX_POINTS * TANKCURVE_BOX_MAX_POINTS];
+static uint32_t cell_counts[2 * TANKCURVE_CELLS_LEN], cell_sums[2 * TANKCURVE_CELLS_LEN];
 static uint8_t out[2 * TANKCURVE_MAX_OUTPUT];
 static char sheet[2 * TANKCURVE_MAX_SHEET];
 
@@ -60,6 +63,26 @@ static uint64_t by_neighbours(size_t k, size_t marks, size_t bandwidths_len, siz
 {
     static uint32_t widths[4];
     return tankcurve_neighbours(minutes, 1, values, 1, points, marks, k, widths, bandwidths_len, numbers, rows_len);
+}
+
+/* Points that are all 0, and bandwidths of 1 but for the first of the temperatures. */
+static uint64_t in_boxes(size_t samples, size_t minute_points, size_t temperature_points, uint32_t first, size_t boxes_len, size_t counts_len,
+                         size_t sums_len)
+{
+    static const uint16_t at[2 * TANKCURVE_BOX_MAX_POINTS];
+    static uint32_t wide[2 * TANKCURVE_BOX_MAX_POINTS], high[2 * TANKCURVE_BOX_MAX_POINTS];
+    for (size_t k = 0; k < 2 * TANKCURVE_BOX_MAX_POINTS; k++)
+        wide[k] = high[k] = 1;
+    high[0] = first;
+    return tankcurve_boxes(minutes, samples, degrees, samples, values, samples, at, minute_points, wide, minute_points, degrees, temperature_points, high,
+                           temperature_points, boxes, boxes_len, cell_counts, counts_len, cell_sums, sums_len);
+}
+
+/* The same with lists of the lengths that belong to them. */
+static uint64_t fit_boxes(size_t samples, size_t minute_points, size_t temperature_points, uint32_t first)
+{
+    return in_boxes(samples, minute_points, temperature_points, first, TANKCURVE_BOX_LEN * minute_points * temperature_points, TANKCURVE_CELLS_LEN,
+                    TANKCURVE_CELLS_LEN);
 }
 
 static uint64_t read_lists(const char *text, size_t length, size_t samples_len, size_t points_len, size_t counts_len)
@@ -135,6 +158,13 @@ static void limits(void)
     gives("a bandwidth less", evaluate(1, TANKCURVE_MIN_BANDWIDTH - 1, TANKCURVE_ROW_LEN), TANKCURVE_BANDWIDTH_OUT_OF_RANGE, 0);
     gives("the greatest bandwidth", evaluate(1, TANKCURVE_MAX_BANDWIDTH, TANKCURVE_ROW_LEN), TANKCURVE_ACCEPTED, 0);
     gives("a bandwidth more", evaluate(1, TANKCURVE_MAX_BANDWIDTH + 1, TANKCURVE_ROW_LEN), TANKCURVE_BANDWIDTH_OUT_OF_RANGE, 0);
+    gives("the most points of both directions", fit_boxes(TANKCURVE_MAX_SAMPLES, TANKCURVE_BOX_MAX_POINTS, TANKCURVE_BOX_MAX_POINTS, 1),
+          TANKCURVE_ACCEPTED, 0);
+    gives("a point of the minutes more", fit_boxes(1, TANKCURVE_BOX_MAX_POINTS + 1, 1, 1), TANKCURVE_TOO_MANY, 0);
+    gives("a point of the temperatures more", fit_boxes(1, 1, TANKCURVE_BOX_MAX_POINTS + 1, 1), TANKCURVE_TOO_MANY, 0);
+    gives("a sample more in boxes", fit_boxes(TANKCURVE_MAX_SAMPLES + 1, 1, 1, 1), TANKCURVE_TOO_MANY, 0);
+    gives("the greatest bandwidth of a temperature", fit_boxes(1, 1, 1, TANKCURVE_MAX_TEMPERATURE_BANDWIDTH), TANKCURVE_ACCEPTED, 0);
+    gives("a bandwidth of a temperature more", fit_boxes(1, 1, 1, TANKCURVE_MAX_TEMPERATURE_BANDWIDTH + 1), TANKCURVE_BANDWIDTH_OUT_OF_RANGE, 0);
     fill_sheet(TANKCURVE_MAX_SHEET);
     gives("the longest sheet", tankcurve_text((const uint8_t *)sheet, TANKCURVE_MAX_SHEET, out, TANKCURVE_MAX_OUTPUT), TANKCURVE_ACCEPTED, 0);
     fill_sheet(TANKCURVE_MAX_SHEET + 1);
@@ -161,6 +191,9 @@ static void lengths(void)
         gives("position", tankcurve_first_at_most(minutes, 1, values, 1, points, 2, bandwidths, 2, 0, numbers, TANKCURVE_POSITION_LEN + d), report, 0);
         gives("position of a sample", tankcurve_decisive(minutes, 1, values, 1, 0, 1, 0, numbers, TANKCURVE_POSITION_LEN + d), report, 0);
         gives("parting", tankcurve_compare(minutes, 1, values, 1, minutes, 1, values, 1, points, 2, bandwidths, 2, numbers, TANKCURVE_PARTING_LEN + d), report, 0);
+        gives("boxes", in_boxes(1, 2, 3, 1, TANKCURVE_BOX_LEN * 6 + d, TANKCURVE_CELLS_LEN, TANKCURVE_CELLS_LEN), report, 0);
+        gives("counts of cells", in_boxes(1, 2, 3, 1, TANKCURVE_BOX_LEN * 6, TANKCURVE_CELLS_LEN + d, TANKCURVE_CELLS_LEN), report, 0);
+        gives("sums of cells", in_boxes(1, 2, 3, 1, TANKCURVE_BOX_LEN * 6, TANKCURVE_CELLS_LEN, TANKCURVE_CELLS_LEN + d), report, 0);
         memset(numbers, 0, sizeof numbers);
         gives("record", tankcurve_advance(numbers, TANKCURVE_RECORD_LEN + d, minutes, 1, values, 1, 0, 1), report, 0);
         gives("record of a row", tankcurve_row(numbers, TANKCURVE_RECORD_LEN + d, 0, 1, numbers + 10, TANKCURVE_ROW_LEN), report, 0);
@@ -214,6 +247,12 @@ static void reports(void)
     gives("crossed range of a sheet", read_either("mark,half\n5,2\n\nminute,inj,low,high\n1,3,5,5\n1,1,6,5\n"), TANKCURVE_CROSSED_RANGE, 43);
     gives("second series", tankcurve_compare(falling, 1, falling, 1, falling, 2, falling, 2, falling, 1, one, 1, numbers, TANKCURVE_PARTING_LEN),
           TANKCURVE_SECOND_SERIES, 1);
+    const uint8_t cold[] = {7, 6};
+    const uint32_t ones[] = {1, 1};
+    gives("temperature out of order",
+          tankcurve_boxes(minutes, 1, cold, 1, values, 1, points, 1, ones, 1, cold, 2, ones, 2, boxes, 2 * TANKCURVE_BOX_LEN, cell_counts,
+                          TANKCURVE_CELLS_LEN, cell_sums, TANKCURVE_CELLS_LEN),
+          TANKCURVE_TEMPERATURE_OUT_OF_ORDER, 1);
 }
 
 /* The trade's words, in the order of the numbers. */
@@ -221,7 +260,7 @@ static void words(void)
 {
     static const char *const trade[] = {"accepted",   "overlong",   "heading",   "torn line",      "early reading", "early mark",
                                         "crowded",    "no marks",   "uneven",    "half width",     "edge back",     "foreign record",
-                                        "knob",       "past the clock", "too few", "crossed range", "second tank"};
+                                        "knob",       "past the clock", "too few", "crossed range", "second tank",   "early temperature mark"};
     for (unsigned number = 0; number < TANKCURVE_DETAIL_UNIT; number++) {
         const char *word = tankcurve_word(tankcurve_number(number));
         const char *expected = number < sizeof trade / sizeof *trade ? trade[number] : "unknown";
@@ -419,6 +458,30 @@ static void parts(void)
     same("low", (uint64_t)doubles[TANKCURVE_DOUBLES_LOW], 1);
 }
 
+/* Where count and sum of a pair stand, that the last cell is the last, and the greatest sum of a cell. */
+static void cells(void)
+{
+    static const uint16_t at[] = {5, 9};
+    static const uint32_t wide[] = {1, 1};
+    static const uint8_t warm[] = {3, 8};
+    for (size_t k = 0; k < TANKCURVE_MAX_SAMPLES; k++) {
+        minutes[k] = 9;
+        values[k] = 65535;
+        degrees[k] = 3;
+    }
+    const size_t n = TANKCURVE_MAX_SAMPLES;
+    gives("the fullest cell", tankcurve_boxes(minutes, n, degrees, n, values, n, at, 2, wide, 2, warm, 2, wide, 2, boxes, 8, cell_counts, TANKCURVE_CELLS_LEN,
+                                              cell_sums, TANKCURVE_CELLS_LEN),
+          TANKCURVE_ACCEPTED, 0);
+    same("its count", boxes[TANKCURVE_BOX_LEN * (1 * 2 + 0) + TANKCURVE_BOX_COUNT], n);
+    same("its sum", boxes[TANKCURVE_BOX_LEN * (1 * 2 + 0) + TANKCURVE_BOX_SUM], TANKCURVE_MAX_CELL_SUM);
+    /* Cuts 4, 7, 8, 11 and 2, 5, 7, 10. */
+    same("the count of its cell", cell_counts[TANKCURVE_STRIPS * 3 + 1], n);
+    same("the sum of its cell", cell_sums[TANKCURVE_STRIPS * 3 + 1], TANKCURVE_MAX_CELL_SUM);
+    same("all strips", TANKCURVE_STRIPS * TANKCURVE_STRIPS, TANKCURVE_CELLS_LEN);
+    same("strips of 32 points", TANKCURVE_STRIPS, 2 * TANKCURVE_BOX_MAX_POINTS + 1);
+}
+
 int main(void)
 {
     same("the version", tankcurve_version(), TANKCURVE_VERSION);
@@ -432,6 +495,7 @@ int main(void)
     no_position();
     tanks();
     parts();
+    cells();
     fields();
     fields_of_ranges();
     bounds();

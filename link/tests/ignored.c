@@ -28,4 +28,5 @@ void ignored(uint16_t *shorts, uint32_t *words, uint64_t *numbers, uint8_t *byte
     tankcurve_smooth_ranges(shorts, 1, shorts, 1, shorts, 1, shorts, 1, words, 1, numbers, TANKCURVE_RANGE_ROW_LEN);
     tankcurve_read_ranges(bytes, 1, shorts, 1, shorts, 1, shorts, 1, shorts, 1, words, 1, numbers, TANKCURVE_RANGE_COUNTS_LEN);
     tankcurve_neighbours(shorts, 1, shorts, 1, shorts, 1, 1, words, 1, numbers, TANKCURVE_ROW_LEN);
+    tankcurve_boxes(shorts, 1, bytes, 1, shorts, 1, shorts, 1, words, 1, bytes, 1, words, 1, numbers, 2, words, 1, words, 1);
 }

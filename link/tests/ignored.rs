@@ -30,6 +30,7 @@ pub fn ignored(
     tankcurve::slices::doubles(0, 0, doubles);
     tankcurve::slices::smooth_ranges(&[], &[], &[], &[0], &[1], numbers);
     tankcurve::slices::read_ranges(&[], &mut [], &mut [], &mut [], shorts, words, numbers);
+    tankcurve::slices::boxes(&[], &[], &[], &[0], &[1], &[0], &[1], numbers, words, &mut []);
     // The other calls give a `Result`, of which the language says the same.
     tankcurve::RunningSums::default().row(0, 1);
 }

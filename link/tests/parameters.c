@@ -696,6 +696,79 @@ static void compare(void)
     same_list("compare, out of the first", out, after, sizeof after);
 }
 
+/* Count and sum of each pair, 90 behind them; a list of cells of 70s, and what a call leaves in it. */
+static void boxes(void)
+{
+    enum { PAIRS = 8, CELLS = TANKCURVE_CELLS_LEN };
+    static const uint8_t temperatures[SAMPLES] = {60, 10, 200, 61, 62, 9};
+    const uint16_t points[] = {8, 20}, falling_points[] = {20, 8};
+    const uint32_t bandwidths[] = {5, 12}, no_bandwidth[] = {5, 0};
+    const uint8_t degrees[] = {10, 61}, falling_degrees[] = {61, 10};
+    const uint32_t widths[] = {1, 2}, too_wide[] = {257, 2};
+    const uint64_t boxes_before[] = {90, 91, 92, 93, 94, 95, 96, 97, 98}, boxes_after[] = {1, 7, 1, 5, 1, 7, 2, 42, 98};
+    static const struct {
+        size_t cell;
+        uint32_t count, sum;
+    } used[] = {{68, 1, 5}, {131, 1, 7}, {134, 1, 11}, {198, 2, 42}, {261, 1, 31}};
+    static uint32_t counts[CELLS + 1], sums[CELLS + 1], before[CELLS + 1], counts_after[CELLS + 1], sums_after[CELLS + 1];
+    uint64_t list[PAIRS + 1];
+    memcpy(list, boxes_before, sizeof list);
+    for (size_t i = 0; i <= CELLS; i++)
+        counts[i] = sums[i] = before[i] = 70;
+    counts_after[CELLS] = sums_after[CELLS] = 70;
+    for (size_t k = 0; k < sizeof used / sizeof *used; k++) {
+        counts_after[used[k].cell] = used[k].count;
+        sums_after[used[k].cell] = used[k].sum;
+    }
+    /* Each length by itself one more. */
+    for (size_t which = 0; which < 10; which++) {
+        const size_t fit[10] = {SAMPLES - 1, SAMPLES - 1, SAMPLES - 1, 1, 1, 1, 1, 2, CELLS, CELLS};
+        size_t len[10];
+        memcpy(len, fit, sizeof len);
+        len[which]++;
+        same("boxes, a list of one more",
+             tankcurve_boxes(minutes, len[0], temperatures, len[1], values, len[2], points, len[3], bandwidths, len[4], degrees, len[5], widths, len[6],
+                             list, len[7], counts, len[8], sums, len[9]),
+             TANKCURVE_LENGTH_MISMATCH);
+    }
+    same("boxes, falling points",
+         tankcurve_boxes(minutes, SAMPLES, temperatures, SAMPLES, values, SAMPLES, falling_points, 2, no_bandwidth, 2, falling_degrees, 2, widths, 2, list,
+                         PAIRS, counts, CELLS, sums, CELLS),
+         TANKCURVE_DETAIL_UNIT + TANKCURVE_POINT_OUT_OF_ORDER);
+    same("boxes, falling degrees",
+         tankcurve_boxes(minutes, SAMPLES, temperatures, SAMPLES, values, SAMPLES, points, 2, no_bandwidth, 2, falling_degrees, 2, widths, 2, list, PAIRS,
+                         counts, CELLS, sums, CELLS),
+         TANKCURVE_DETAIL_UNIT + TANKCURVE_TEMPERATURE_OUT_OF_ORDER);
+    same("boxes, a bandwidth of 0",
+         tankcurve_boxes(minutes, SAMPLES, temperatures, SAMPLES, values, SAMPLES, points, 2, no_bandwidth, 2, degrees, 2, too_wide, 2, list, PAIRS, counts,
+                         CELLS, sums, CELLS),
+         TANKCURVE_DETAIL_UNIT + TANKCURVE_BANDWIDTH_OUT_OF_RANGE);
+    same("boxes, a bandwidth of 257",
+         tankcurve_boxes(minutes, SAMPLES, temperatures, SAMPLES, values, SAMPLES, points, 2, bandwidths, 2, degrees, 2, too_wide, 2, list, PAIRS, counts,
+                         CELLS, sums, CELLS),
+         TANKCURVE_BANDWIDTH_OUT_OF_RANGE);
+    same_list("boxes of a refusal", list, boxes_before, sizeof boxes_before);
+    same_list("counts of a refusal", counts, before, sizeof before);
+    same_list("sums of a refusal", sums, before, sizeof before);
+    same("boxes",
+         tankcurve_boxes(minutes, SAMPLES, temperatures, SAMPLES, values, SAMPLES, points, 2, bandwidths, 2, degrees, 2, widths, 2, list, PAIRS, counts,
+                         CELLS, sums, CELLS),
+         TANKCURVE_ACCEPTED);
+    same_list("boxes, the list of boxes", list, boxes_after, sizeof boxes_after);
+    same_list("boxes, counts", counts, counts_after, sizeof counts_after);
+    same_list("boxes, sums", sums, sums_after, sizeof sums_after);
+    /* The same minutes in another order. */
+    const uint16_t turned[] = {40, 21, 15, 8, 8, 3}, turned_values[] = {31, 29, 13, 11, 7, 5};
+    static const uint8_t turned_temperatures[] = {9, 62, 61, 200, 10, 60};
+    same("boxes, readings in another order",
+         tankcurve_boxes(turned, SAMPLES, turned_temperatures, SAMPLES, turned_values, SAMPLES, points, 2, bandwidths, 2, degrees, 2, widths, 2, list, PAIRS,
+                         counts, CELLS, sums, CELLS),
+         TANKCURVE_ACCEPTED);
+    same_list("boxes of another order", list, boxes_after, sizeof boxes_after);
+    same_list("counts of another order", counts, counts_after, sizeof counts_after);
+    same_list("sums of another order", sums, sums_after, sizeof sums_after);
+}
+
 int main(void)
 {
     answers();
@@ -714,6 +787,7 @@ int main(void)
     decisive();
     neighbours();
     doubles();
+    boxes();
     fill();
     read();
     smooth_ranges();

@@ -7,6 +7,7 @@
 //! docs/SPECIFICATION.md that its code follows.
 
 mod biweight;
+pub mod boxes;
 mod doubles;
 pub mod exported;
 pub mod generators;
@@ -54,7 +55,7 @@ pub const KNOB: [u32; 12] = [30, 45, 60, 90, 120, 180, 240, 360, 480, 720, 1080,
 /// [Reports].
 #[derive(Clone, Copy, Debug, PartialEq, Eq)]
 pub struct Refusal {
-    /// The report's number, 1 to 16.
+    /// The report's number, 1 to 17.
     pub number: u8,
     /// A byte of the sheet, a position in a list, or 0.
     pub place: u64,

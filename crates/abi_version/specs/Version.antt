@@ -5,6 +5,6 @@ use Prim.Native.Nat.{ℕ, _+_, _*_}
 abbrev pub version-number : ℕ → ℕ → ℕ → ℕ
 version-number major minor patch = major * 65536 + minor * 256 + patch
 
--- 3.0.0
+-- 3.1.0
 abbrev pub version : ℕ
-version = version-number 3 0 0
+version = version-number 3 1 0

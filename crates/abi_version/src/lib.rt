@@ -4,7 +4,7 @@ ghost use mathlib.Core.Path.{_≡_};
 ghost use Rattle.abi_version.specs.Version.{version};
 
 // Which build this is: version of specs/Version.antt.
-pub const VERSION: u32 = 196608;
+pub const VERSION: u32 = 196864;
 
 // Which build this is.
 #[no_mangle]

@@ -29,19 +29,19 @@ pub record Decides (b : Bool) (C : Type 0) : Type 0 where
   pub holds : b ≡ true → C
   pub fails : b ≡ false → ¬ C
 
-above : (m n : ℕ) → Decides (ltb m n) (m < n)
+pub above : (m n : ℕ) → Decides (ltb m n) (m < n)
 above m n = record { holds = ltb-true m n; fails = λ e l. omega (arith, ltb-false m n e) }
 
 at-least : (m n : ℕ) → Decides (leb m n) (m ≤ n)
 at-least m n = record { holds = leb-true m n; fails = λ e l. omega (arith, leb-false m n e) }
 
-equal : (m n : ℕ) → Decides (eqb m n) (m ≡ n)
+pub equal : (m n : ℕ) → Decides (eqb m n) (m ≡ n)
 equal m n = record { holds = eqb-true m n; fails = eqb-false m n }
 
-unequal : (m n : ℕ) → Decides (differ m n) (¬ (m ≡ n))
+pub unequal : (m n : ℕ) → Decides (differ m n) (¬ (m ≡ n))
 unequal m n = record { holds = λ e q. true≢false (sym e ∙ differ-same m n q); fails = λ e k. k (differ-false m n e) }
 
-either : (a b : Bool) (A B : Type 0) → Decides a A → Decides b B → Decides (a || b) (A ⊎ B)
+pub either : (a b : Bool) (A B : Type 0) → Decides a A → Decides b B → Decides (a || b) (A ⊎ B)
 either true b A B d f = record { holds = λ e. inl (d .holds refl); fails = λ e. absurd (true≢false e) }
 either false b A B d f = record { holds = λ e. inr (f .holds e); fails = λ e. neither e }
   where
@@ -50,11 +50,11 @@ either false b A B d f = record { holds = λ e. inr (f .holds e); fails = λ e. 
     neither e (inr c) = f .fails e c
 
 -- not both: one of the two does not hold
-either-not : (a b : Bool) (A B : Type 0) → Decides a (¬ A) → Decides b (¬ B) → Decides (a || b) (¬ (A × B))
+pub either-not : (a b : Bool) (A B : Type 0) → Decides a (¬ A) → Decides b (¬ B) → Decides (a || b) (¬ (A × B))
 either-not true b A B d f = record { holds = λ e k. d .holds refl (k .0); fails = λ e. absurd (true≢false e) }
 either-not false b A B d f = record { holds = λ e k. f .holds e (k .1); fails = λ e k. d .fails refl (λ a. f .fails e (λ c. k (a, c))) }
 
-same-condition : (b : Bool) (A B : Type 0) → (A → B) → (B → A) → Decides b A → Decides b B
+pub same-condition : (b : Bool) (A B : Type 0) → (A → B) → (B → A) → Decides b A → Decides b B
 same-condition b A B to from d = record { holds = λ e. to (d .holds e); fails = λ e c. d .fails e (from c) }
 
 -- where the condition holds the test is not false
@@ -66,7 +66,7 @@ out-of-range : (most h : ℕ) → Decides (outside most h) (OutOfRange most h)
 out-of-range most h = either _ _ _ _ (equal h 0) (above most h)
 
 -- a condition of the whole call
-finds : (n : ℕ) {b : Bool} {C : Type 0} → Decides b C → Finds (reports.check n (at 0 b)) n (AtZero C)
+pub finds : (n : ℕ) {b : Bool} {C : Type 0} → Decides b C → Finds (reports.check n (at 0 b)) n (AtZero C)
 finds n {b} {C} d = at-finds n b C (d .holds) (d .fails)
 
 -- a condition at the positions of a list
@@ -82,7 +82,7 @@ falls xs (suc i) l =
     (λ f. let n : f .before ≡ i = omega (arith, f .next) in rw n at (f .falls))
     (above (getD xs (suc i) 0) (getD xs i 0))
 
-finds-fall : (n : ℕ) (xs : List ℕ) → Finds (reports.check n (lowest (decreases xs) (length xs))) n (FallsAt xs)
+pub finds-fall : (n : ℕ) (xs : List ℕ) → Finds (reports.check n (lowest (decreases xs) (length xs))) n (FallsAt xs)
 finds-fall n xs = finds-lowest n (decreases xs) (length xs) (FallsAt xs) (λ i f. f .within) (falls xs)
 
 edge-falls : (zs hs : List ℕ) (i : ℕ) → i < length zs → Decides (edge-decreases zs hs i) (EdgeFallsAt zs hs i)

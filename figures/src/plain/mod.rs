@@ -1,5 +1,6 @@
 //! The proved calls' algorithms in safe Rust: the same steps and checks in the same order, over slices.
 
+pub mod boxes;
 mod checks;
 mod feed;
 mod lines;
@@ -8,6 +9,7 @@ mod smooth;
 mod text;
 pub mod with_memchr;
 
+pub use boxes::boxes;
 pub use read::read;
 pub use smooth::smooth;
 pub use text::{refusal_text, text};
@@ -37,6 +39,7 @@ pub enum Report {
     LengthMismatch = 8,
     BandwidthOutOfRange = 9,
     EdgeDecreases = 10,
+    TemperatureOutOfOrder = 17,
 }
 
 /// A report with its place.

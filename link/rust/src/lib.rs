@@ -1,5 +1,6 @@
 //! The tank curve for Rust: kernel regression in exact whole numbers, with the Epanechnikov kernel and, in
-//! [`biweight`], the biweight one, proved in Rattle.
+//! [`biweight`], the biweight one, and counts and sums with the uniform kernel over minute and temperature, in
+//! [`boxes()`], proved in Rattle.
 //!
 //! Every call takes every content and every length of its lists and answers with what was asked for
 //! or with a [`Refusal`]; on a refusal every lent list holds what it held before. Nothing here changes
@@ -26,12 +27,14 @@
 #![no_std]
 #![deny(missing_docs, unsafe_code)]
 
+mod boxes;
 mod pair;
 mod ranges;
 mod report;
 mod row;
 pub mod slices;
 
+pub use boxes::{boxes, BoxTotals, Boxes};
 pub use pair::{compare, Parting, Tank};
 pub use ranges::{
     read_ranges, smooth_ranges, Kind, RangeCounts, RangeEstimate, RangeRows, RangesSmoothed,
@@ -44,9 +47,9 @@ pub use row::{Estimate, NoEstimate, RecordRow, Rows};
 /// of the linked archive.
 ///
 /// ```
-/// assert_eq!(tankcurve::VERSION, 0x03_00_00);
+/// assert_eq!(tankcurve::VERSION, 0x03_01_00);
 /// ```
-pub const VERSION: u32 = 0x03_00_00;
+pub const VERSION: u32 = 0x03_01_00;
 
 /// How many samples ("readings") there may be, and how many places the reader's lists of them have.
 ///
@@ -177,6 +180,66 @@ pub const MIN_BANDWIDTH: u32 = 1;
 /// assert!(evaluate(&[], &[], 0, MAX_BANDWIDTH + 1).is_err());
 /// ```
 pub const MAX_BANDWIDTH: u32 = 65_536;
+
+/// How many points ("marks") of a direction [`boxes()`] may have.
+///
+/// ```
+/// use tankcurve::{boxes, BOX_MAX_POINTS, BOX_WIDTH, CELLS};
+/// let (points, bandwidths) = ([0; BOX_MAX_POINTS], [1; BOX_MAX_POINTS]);
+/// let (mut counts, mut sums) = ([0; CELLS], [0; CELLS]);
+/// let mut lent = [0; BOX_MAX_POINTS * BOX_WIDTH];
+/// assert!(boxes(&[], &[], &[], &points, &bandwidths, &[0], &[1], &mut lent, &mut counts, &mut sums).is_ok());
+/// ```
+pub const BOX_MAX_POINTS: usize = 32;
+
+/// How many numbers a box has: count, sum.
+///
+/// ```
+/// assert_eq!(tankcurve::BOX_WIDTH, 2);
+/// ```
+pub const BOX_WIDTH: usize = 2;
+
+/// How many cells a minute strip has in a list of cells of [`boxes()`].
+///
+/// ```
+/// assert_eq!(tankcurve::STRIPS * tankcurve::STRIPS, tankcurve::CELLS);
+/// ```
+pub const STRIPS: usize = 65;
+
+/// The length of a list of cells of [`boxes()`].
+///
+/// ```
+/// use tankcurve::{boxes, CELLS};
+/// let (mut counts, mut sums) = ([7; CELLS], [7; CELLS]);
+/// boxes(&[], &[], &[], &[0], &[1], &[0], &[1], &mut [0; 2], &mut counts, &mut sums).unwrap();
+/// assert_eq!((counts, sums), ([0; CELLS], [0; CELLS]));
+/// ```
+pub const CELLS: usize = 4225;
+
+/// The greatest bandwidth ("half width") of a temperature.
+///
+/// ```
+/// use tankcurve::{slices, CELLS, MAX_TEMPERATURE_BANDWIDTH};
+/// let (mut counts, mut sums) = ([7; CELLS], [7; CELLS]);
+/// let mut answer = |bandwidth| {
+///     slices::boxes(&[], &[], &[], &[0], &[1], &[0], &[bandwidth], &mut [0; 2], &mut counts, &mut sums)
+/// };
+/// assert_eq!(answer(MAX_TEMPERATURE_BANDWIDTH), 0);
+/// assert_eq!(answer(MAX_TEMPERATURE_BANDWIDTH + 1), 9);
+/// ```
+pub const MAX_TEMPERATURE_BANDWIDTH: u32 = 256;
+
+/// The greatest sum that a cell of [`boxes()`] has: that of as many samples as there may be, each of the
+/// greatest value.
+///
+/// ```
+/// use tankcurve::{boxes, CELLS, MAX_CELL_SUM, MAX_SAMPLES, STRIPS};
+/// let (mut counts, mut sums) = ([7; CELLS], [7; CELLS]);
+/// let (minutes, temperatures, values) = ([5; MAX_SAMPLES], [5; MAX_SAMPLES], [65_535; MAX_SAMPLES]);
+/// boxes(&minutes, &temperatures, &values, &[5], &[1], &[5], &[1], &mut [0; 2], &mut counts, &mut sums).unwrap();
+/// assert_eq!(sums[STRIPS + 1], MAX_CELL_SUM);
+/// ```
+pub const MAX_CELL_SUM: u32 = 67_107_840;
 
 /// The bandwidth of [`biweight`]: so many minutes on each side of the point.
 ///

@@ -24,13 +24,14 @@ pub enum Report {
     SampleOutOfOrder = 4,
     /// "early mark": a point is below the one before.
     PointOutOfOrder = 5,
-    /// "crowded": more than 1,024 samples, on a sheet kept ones, or more than 512 points.
+    /// "crowded": more than 1,024 samples, on a sheet kept ones, or more than 512 points; in
+    /// [`crate::boxes()`] more than 32 points of a direction.
     TooMany = 6,
     /// "no marks": there is no point.
     NoPoints = 7,
     /// "uneven": lists that belong together, or a list for the answer, have other lengths.
     LengthMismatch = 8,
-    /// "half width": a bandwidth is 0 or over 65,536.
+    /// "half width": a bandwidth is 0 or over 65,536, that of a temperature over 256.
     BandwidthOutOfRange = 9,
     /// "edge back": point − bandwidth or point + bandwidth is below that of the point before.
     EdgeDecreases = 10,
@@ -46,6 +47,8 @@ pub enum Report {
     CrossedRange = 15,
     /// "second tank": the second tank's lists have the condition of 8, 6 or 4.
     SecondSeries = 16,
+    /// "early temperature mark": a point of the temperatures is below the one before.
+    TemperatureOutOfOrder = 17,
 }
 
 impl Report {
@@ -54,7 +57,7 @@ impl Report {
     /// ```
     /// use tankcurve::Report;
     /// assert_eq!(Report::from_number(4), Some(Report::SampleOutOfOrder));
-    /// assert_eq!(Report::from_number(17), None);
+    /// assert_eq!(Report::from_number(18), None);
     /// ```
     #[must_use]
     pub fn from_number(number: u64) -> Option<Report> {
@@ -75,6 +78,7 @@ impl Report {
             14 => Report::TooFewSamples,
             15 => Report::CrossedRange,
             16 => Report::SecondSeries,
+            17 => Report::TemperatureOutOfOrder,
             _ => return None,
         })
     }
@@ -113,6 +117,7 @@ impl Report {
             Report::TooFewSamples => "too few",
             Report::CrossedRange => "crossed range",
             Report::SecondSeries => "second tank",
+            Report::TemperatureOutOfOrder => "early temperature mark",
         }
     }
 }
@@ -217,11 +222,11 @@ mod tests {
                 let answer = DETAIL_UNIT * place + number;
                 match outcome(answer) {
                     Err(Error::Refused(refusal)) => {
-                        assert!(number <= 16);
+                        assert!(number <= 17);
                         assert_eq!((refusal.report.number(), refusal.place), (number, place));
                     }
                     Err(Error::Unknown(whole)) => {
-                        assert!(number > 16);
+                        assert!(number > 17);
                         assert_eq!(whole, answer);
                     }
                     Ok(_) => panic!("number {number} was accepted"),
@@ -232,7 +237,7 @@ mod tests {
 
     #[test]
     fn numbers_of_no_report() {
-        for number in [0, 17, 255, DETAIL_UNIT, DETAIL_UNIT + 1, u64::MAX] {
+        for number in [0, 18, 255, DETAIL_UNIT, DETAIL_UNIT + 1, u64::MAX] {
             assert_eq!(Report::from_number(number), None);
         }
     }

@@ -294,6 +294,29 @@ mod exports {
             counts_len: usize,
         ) -> u64;
 
+        pub fn tankcurve_boxes(
+            minutes: *const u16,
+            minutes_len: usize,
+            temperatures: *const u8,
+            temperatures_len: usize,
+            values: *const u16,
+            values_len: usize,
+            points: *const u16,
+            points_len: usize,
+            bandwidths: *const u32,
+            bandwidths_len: usize,
+            temperature_points: *const u8,
+            temperature_points_len: usize,
+            temperature_bandwidths: *const u32,
+            temperature_bandwidths_len: usize,
+            boxes: *mut u64,
+            boxes_len: usize,
+            counts: *mut u32,
+            counts_len: usize,
+            sums: *mut u32,
+            sums_len: usize,
+        ) -> u64;
+
         pub fn tankcurve_version() -> u32;
     }
 }
@@ -894,4 +917,58 @@ pub fn read_ranges(
 #[must_use]
 pub fn version() -> u32 {
     unsafe { exports::tankcurve_version() }
+}
+
+/// Minute and temperature together: count and sum of the samples in the box of each pair of points, and
+/// of those in each cell. `boxes`: [`crate::BOX_WIDTH`] numbers a pair; `counts` and `sums`:
+/// [`crate::CELLS`] each. All three are written. Detail 0.
+///
+/// ```
+/// use tankcurve::{slices, CELLS};
+/// let (mut boxes, mut counts, mut sums) = ([7; 2], [7; CELLS], [7; CELLS]);
+/// let answer = slices::boxes(
+///     &[5, 9], &[40, 40], &[2, 3], &[5], &[1], &[40], &[1], &mut boxes, &mut counts, &mut sums,
+/// );
+/// assert_eq!((answer, boxes), (0, [1, 2]));
+/// // Cuts 4, 7 and 39, 42: the sample at minute 9 is in minute strip 2.
+/// assert_eq!((counts[65 + 1], counts[2 * 65 + 1], sums[2 * 65 + 1]), (1, 1, 3));
+/// ```
+#[allow(clippy::too_many_arguments)]
+#[must_use]
+pub fn boxes(
+    minutes: &[u16],
+    temperatures: &[u8],
+    values: &[u16],
+    points: &[u16],
+    bandwidths: &[u32],
+    temperature_points: &[u8],
+    temperature_bandwidths: &[u32],
+    boxes: &mut [u64],
+    counts: &mut [u32],
+    sums: &mut [u32],
+) -> u64 {
+    unsafe {
+        exports::tankcurve_boxes(
+            minutes.as_ptr(),
+            minutes.len(),
+            temperatures.as_ptr(),
+            temperatures.len(),
+            values.as_ptr(),
+            values.len(),
+            points.as_ptr(),
+            points.len(),
+            bandwidths.as_ptr(),
+            bandwidths.len(),
+            temperature_points.as_ptr(),
+            temperature_points.len(),
+            temperature_bandwidths.as_ptr(),
+            temperature_bandwidths.len(),
+            boxes.as_mut_ptr(),
+            boxes.len(),
+            counts.as_mut_ptr(),
+            counts.len(),
+            sums.as_mut_ptr(),
+            sums.len(),
+        )
+    }
 }

@@ -4,10 +4,10 @@
 use tankcurve::slices::{self, DETAIL_UNIT};
 use tankcurve::{
     Error, Estimate, Kind, RangeCounts, RangeEstimate, RangeRows, Refusal, Report, Rows,
-    RunningSums, BIWEIGHT_BANDWIDTH, BIWEIGHT_MAX_SUM, BIWEIGHT_MAX_WEIGHT, MAX_BANDWIDTH,
-    MAX_OUTPUT, MAX_POINTS, MAX_SAMPLES, MAX_SHEET, MAX_SUM, MAX_WEIGHT, MIN_BANDWIDTH, MISSING,
-    PARTING_WIDTH, PREVIEW_MAX_POINTS, PREVIEW_MAX_SAMPLES, RANGE_ROW_WIDTH, RECORD_WIDTH,
-    ROW_WIDTH,
+    RunningSums, BIWEIGHT_BANDWIDTH, BIWEIGHT_MAX_SUM, BIWEIGHT_MAX_WEIGHT, BOX_MAX_POINTS,
+    BOX_WIDTH, CELLS, MAX_BANDWIDTH, MAX_CELL_SUM, MAX_OUTPUT, MAX_POINTS, MAX_SAMPLES, MAX_SHEET,
+    MAX_SUM, MAX_TEMPERATURE_BANDWIDTH, MAX_WEIGHT, MIN_BANDWIDTH, MISSING, PARTING_WIDTH,
+    PREVIEW_MAX_POINTS, PREVIEW_MAX_SAMPLES, RANGE_ROW_WIDTH, RECORD_WIDTH, ROW_WIDTH, STRIPS,
 };
 
 const HEAD: &str = "mark,half\n5,2\n\nminute,inj,vdk\n";
@@ -63,6 +63,28 @@ fn evaluate(samples: usize, bandwidth: u32) -> Result<Estimate, Error> {
     tankcurve::evaluate(&list, &list, 0, bandwidth)
 }
 
+/// Points that are all 0, a bandwidth of the temperatures, and the lengths of the lists to write.
+fn in_boxes(
+    samples: usize,
+    points: usize,
+    temperature_points: usize,
+    bandwidth: u32,
+    [boxes, counts, sums]: [usize; 3],
+) -> u64 {
+    slices::boxes(
+        &vec![0; samples],
+        &vec![0; samples],
+        &vec![0; samples],
+        &vec![0; points],
+        &vec![1; points],
+        &vec![0; temperature_points],
+        &vec![bandwidth; temperature_points],
+        &mut vec![0; boxes],
+        &mut vec![0; counts],
+        &mut vec![0; sums],
+    )
+}
+
 #[test]
 fn version() {
     assert_eq!(tankcurve::version(), tankcurve::VERSION);
@@ -91,6 +113,17 @@ fn limits() {
     let too_many = refused(Report::TooMany, 0);
     assert_eq!(preview(PREVIEW_MAX_SAMPLES + 1, 1), too_many);
     assert_eq!(preview(1, PREVIEW_MAX_POINTS + 1), too_many);
+    let boxes = |samples, points, temperature_points, bandwidth| {
+        let lengths = [BOX_WIDTH * points * temperature_points, CELLS, CELLS];
+        in_boxes(samples, points, temperature_points, bandwidth, lengths)
+    };
+    let most = BOX_MAX_POINTS;
+    assert_eq!(boxes(MAX_SAMPLES, most, most, 1), 0);
+    assert_eq!(boxes(MAX_SAMPLES + 1, 1, 1, 1), 6);
+    assert_eq!(boxes(1, most + 1, 1, 1), 6);
+    assert_eq!(boxes(1, 1, most + 1, 1), 6);
+    assert_eq!(boxes(1, 1, 1, MAX_TEMPERATURE_BANDWIDTH), 0);
+    assert_eq!(boxes(1, 1, 1, MAX_TEMPERATURE_BANDWIDTH + 1), 9);
     let fill = |length| tankcurve::fill(0, 0, 0, &mut vec![0; length], &mut vec![0; length]);
     assert_eq!(fill(MAX_POINTS), Ok(()));
     assert_eq!(fill(MAX_POINTS + 1), refused(Report::TooMany, 0));
@@ -141,6 +174,10 @@ fn lengths() {
             slices::compare(&[], &[], &[], &[], &[0], &[1], parting),
             answer
         );
+        let boxes = |lengths| in_boxes(1, 2, 3, 1, lengths);
+        assert_eq!(boxes([length(BOX_WIDTH * 6), CELLS, CELLS]), answer);
+        assert_eq!(boxes([BOX_WIDTH * 6, length(CELLS), CELLS]), answer);
+        assert_eq!(boxes([BOX_WIDTH * 6, CELLS, length(CELLS)]), answer);
         let doubles = &mut vec![0.0; length(2)];
         assert_eq!(slices::number(slices::doubles(5, 3, doubles)), answer);
         let out = &mut vec![0; length(MAX_OUTPUT)];
@@ -250,6 +287,21 @@ fn reports() {
         tankcurve::compare(&[7], &[7], &[7, 6], &[7, 6], &[7], &[1]),
         refused(Report::SecondSeries, 1)
     );
+    let (mut counts, mut sums) = ([0; CELLS], [0; CELLS]);
+    let boxes = tankcurve::boxes(
+        &[0],
+        &[0],
+        &[0],
+        &[0],
+        &[1],
+        &[7, 6],
+        &[1, 1],
+        &mut [0; 4],
+        &mut counts,
+        &mut sums,
+    )
+    .map(|_| ());
+    assert_eq!(boxes, refused(Report::TemperatureOutOfOrder, 1));
 }
 
 /// The trade's words, in the order of the numbers.
@@ -272,6 +324,7 @@ fn words() {
         "too few",
         "crossed range",
         "second tank",
+        "early temperature mark",
     ];
     for (number, word) in (1..).zip(trade) {
         let report = Report::from_number(number).unwrap();
@@ -321,6 +374,32 @@ fn ranges() {
     assert!(RangeEstimate::try_from([1, 5, 74, 858, 418, 6, 12]).is_err());
     assert!(RangeEstimate::try_from([1, 5, 74, 418, 858, 12, 6]).is_err());
     assert!(RangeEstimate::try_from([1, 5, 74, 418, 858, 6, MISSING]).is_err());
+}
+
+/// The fullest cell, and that the strips of as many points as there may be fill a list of cells.
+#[test]
+fn cells() {
+    let (minutes, temperatures, values) =
+        ([9; MAX_SAMPLES], [3; MAX_SAMPLES], [65_535; MAX_SAMPLES]);
+    let (mut lent, mut counts, mut sums) = ([7; 8], [7; CELLS], [7; CELLS]);
+    let boxes = tankcurve::boxes(
+        &minutes,
+        &temperatures,
+        &values,
+        &[5, 9],
+        &[1, 1],
+        &[3, 8],
+        &[1, 1],
+        &mut lent,
+        &mut counts,
+        &mut sums,
+    );
+    let found = boxes.unwrap().get(1, 0).unwrap();
+    assert_eq!((found.count, found.sum), (1024, MAX_CELL_SUM.into()));
+    // Cuts 4, 7, 8, 11 and 2, 5, 7, 10.
+    let cell = 3 * STRIPS + 1;
+    assert_eq!((counts[cell], sums[cell]), (1024, MAX_CELL_SUM));
+    assert_eq!((2 * BOX_MAX_POINTS + 1, STRIPS * STRIPS), (STRIPS, CELLS));
 }
 
 /// The same of the biweight row, whose edges are those of its bandwidth.

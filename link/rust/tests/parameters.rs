@@ -6,7 +6,7 @@
 use tankcurve::slices::{self, DETAIL_UNIT};
 use tankcurve::{
     Cell, Counts, Error, Kind, Parting, RangeCounts, RecordRow, Refusal, Report, RunningSums, Tank,
-    MAX_OUTPUT, PREVIEW_MAX_SAMPLES, RANGE_ROW_WIDTH, ROW_WIDTH,
+    CELLS, MAX_OUTPUT, PREVIEW_MAX_SAMPLES, RANGE_ROW_WIDTH, ROW_WIDTH,
 };
 
 const MINUTES: [u16; 6] = [3, 8, 8, 15, 21, 40];
@@ -962,6 +962,82 @@ fn neighbours() {
     let refusal = tankcurve::neighbours(&MINUTES, &VALUES, &points, 7, &mut bandwidths, &mut lent);
     assert_eq!(refusal.map(|_| ()), refused(Report::TooFewSamples, 0));
     assert_eq!((bandwidths, lent), ([2, 7, 8, 11, 11, 20], rows));
+}
+
+/// Temperatures that tell the samples apart, and marks, half widths and lists of one length each.
+#[test]
+fn boxes() {
+    const TEMPERATURES: [u8; 6] = [60, 10, 200, 61, 62, 9];
+    type Lists = ([u64; 8], Vec<u32>, Vec<u32>);
+    let before = || {
+        (
+            [90, 91, 92, 93, 94, 95, 96, 97],
+            vec![70; CELLS],
+            vec![71; CELLS],
+        )
+    };
+    let ask =
+        |points: &[u16], bandwidths: &[u32], degrees: &[u8], widths: &[u32]| -> (u64, Lists) {
+            let mut lists = before();
+            let answer = slices::boxes(
+                &MINUTES,
+                &TEMPERATURES,
+                &VALUES,
+                points,
+                bandwidths,
+                degrees,
+                widths,
+                &mut lists.0,
+                &mut lists.1,
+                &mut lists.2,
+            );
+            (answer, lists)
+        };
+    let refusals = [
+        (ask(&[20, 8], &[5, 0], &[61, 10], &[1, 2]), 5),
+        (ask(&[8, 20], &[5, 0], &[61, 10], &[1, 2]), 17),
+        (ask(&[8, 20], &[5, 0], &[10, 61], &[257, 2]), 9),
+    ];
+    for (refusal, number) in refusals {
+        assert_eq!(refusal, (DETAIL_UNIT + number, before()));
+    }
+    assert_eq!(ask(&[8, 20], &[5, 12], &[10, 61], &[257, 2]), (9, before()));
+    let (mut counts, mut sums) = (vec![0; CELLS], vec![0; CELLS]);
+    for (cell, count, sum) in [
+        (68, 1, 5),
+        (131, 1, 7),
+        (134, 1, 11),
+        (198, 2, 42),
+        (261, 1, 31),
+    ] {
+        (counts[cell], sums[cell]) = (count, sum);
+    }
+    let after = ([1, 7, 1, 5, 1, 7, 2, 42], counts, sums);
+    assert_eq!(
+        ask(&[8, 20], &[5, 12], &[10, 61], &[1, 2]),
+        (0, after.clone())
+    );
+
+    let (mut lent, mut counts, mut sums) = ([90; 8], [70; CELLS], [71; CELLS]);
+    let found = tankcurve::boxes(
+        &MINUTES,
+        &TEMPERATURES,
+        &VALUES,
+        &[8, 20],
+        &[5, 12],
+        &[10, 61],
+        &[1, 2],
+        &mut lent,
+        &mut counts,
+        &mut sums,
+    )
+    .unwrap();
+    let pairs: Vec<(u64, u64)> = found.iter().map(|pair| (pair.count, pair.sum)).collect();
+    assert_eq!(pairs, [(1, 7), (1, 5), (1, 7), (2, 42)]);
+    let last = found.get(1, 1).unwrap();
+    assert_eq!((last.count, last.sum), (2, 42));
+    assert_eq!((found.get(0, 2), found.get(2, 0)), (None, None));
+    assert_eq!((&counts[..], &sums[..]), (&after.1[..], &after.2[..]));
 }
 
 /// Numbers about the places where a cell changes, as weight and as sum, by their bit patterns.

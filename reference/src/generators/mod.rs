@@ -4,6 +4,7 @@
 //! Whoever draws says which kinds of an input there are: each stands in a
 //! table as often as it is to be drawn.
 
+pub mod boxes;
 pub mod lists;
 pub mod random;
 pub mod sheets;

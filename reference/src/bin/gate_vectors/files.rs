@@ -30,9 +30,10 @@ pub enum Program {
     Biweight,
     Doubles,
     Ranges,
+    Boxes,
 }
 
-const PROGRAMS: [(Program, &str); 10] = [
+const PROGRAMS: [(Program, &str); 11] = [
     (Program::Point, "vectors_point"),
     (Program::Sweep, "vectors_sweep"),
     (Program::Sheet, "vectors_sheet"),
@@ -43,10 +44,11 @@ const PROGRAMS: [(Program, &str); 10] = [
     (Program::Biweight, "vectors_biweight"),
     (Program::Doubles, "vectors_doubles"),
     (Program::Ranges, "vectors_ranges"),
+    (Program::Boxes, "vectors_boxes"),
 ];
 
 /// Each call, and what it can answer.
-const REPORTS: [(&str, &[u64]); 20] = [
+const REPORTS: [(&str, &[u64]); 21] = [
     ("evaluate", &[8, 6, 4, 9, 0]),
     ("window", &[8, 6, 4, 9, 0]),
     ("advance", &[8, 6, 11, 9, 0]),
@@ -67,6 +69,7 @@ const REPORTS: [(&str, &[u64]); 20] = [
     ("row_cells", &[0]),
     ("smooth_ranges", &[8, 6, 7, 4, 15, 5, 9, 10, 0]),
     ("read_ranges", &[8, 1, 2, 3, 4, 15, 5, 9, 10, 6, 7, 0]),
+    ("boxes", &[8, 6, 7, 5, 17, 9, 0]),
 ];
 
 /// What a call gave: its answer and its lent lists.

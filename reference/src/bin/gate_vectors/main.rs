@@ -1,6 +1,6 @@
 //! The cases of the gate's programs `vectors_point`, `vectors_sweep`,
 //! `vectors_sheet`, `vectors_text`, `vectors_limit`, `vectors_neighbours`, `vectors_pair`,
-//! `vectors_biweight`, `vectors_doubles` and `vectors_ranges`, and what each has to write for them.
+//! `vectors_biweight`, `vectors_doubles`, `vectors_ranges` and `vectors_boxes`, and what each has to write for them.
 //!
 //! `gate_vectors crates` writes stdin and stdout of each program into its
 //! folder below `crates`, always the same. The answers are the second
@@ -54,11 +54,14 @@
 //! vectors_ranges
 //! 1 smooth_ranges(minutes, lows, highs, points, bandwidths, rows*)                         the sweep over ranges
 //! 2 read_ranges(sheet, minutes*, lows*, highs*, points*, bandwidths*, counts*)             the reader of both kinds
+//!
+//! vectors_boxes
+//! 1 boxes(minutes, temperatures, values, points, bandwidths, points, bandwidths, boxes*, counts*, sums*)   minute and temperature together
 //! ```
 //!
 //! An answer is a number and a detail. Number 0 is accepted, with the passes
 //! of a sweep or a preview or up to the mark that answers, the bytes of a text, the
-//! higher of two tanks, how many doubles are used, else 0 as detail; 1 to 16 is
+//! higher of two tanks, how many doubles are used, else 0 as detail; 1 to 17 is
 //! a report, with its place. The lists for a row, bounds, a record, counts, a position, a
 //! parting and doubles have one length only (`ROW_WIDTH`, `BOUNDS`, `RECORD`, `COUNTS`,
 //! `RANGE_COUNTS`, `ANSWER`, `PARTING`, `DOUBLES`), and out has `MOST_OUTPUT` bytes.
@@ -97,12 +100,13 @@
 //!                 2 left right weight sum value
 //! vectors_ranges  1 MINUTES LOWS HIGHS POINTS BANDWIDTHS length-of-rows
 //!                 2 length-of-minutes -lows -highs -points -bandwidths -counts SHEET
+//! vectors_boxes   1 MINUTES TEMPERATURES VALUES POINTS BANDWIDTHS POINTS BANDWIDTHS length-of-boxes -counts -sums
 //! ```
 //!
 //! The bytes of a sheet stand as they are, up to the end of the case. There are
 //! at most 1,100 minutes, values, points or bandwidths, 2,600 rows, 3,600 over ranges, 16 numbers
 //! of a record, 8 of a row, bounds, counts, a position, a parting or doubles, 44,200 bytes of
-//! out, 40,000 bytes of a case and 100,000 cases.
+//! out, 40 points or bandwidths, 2,400 boxes and 4,300 counts or sums of vectors_boxes, 40,000 bytes of a case and 100,000 cases.
 //!
 //! # Standard output
 //!
@@ -117,6 +121,7 @@
 //! length, as an answer's number and detail, and one with its values.
 
 mod biweight;
+mod boxes;
 mod calls;
 mod doubles;
 mod draws;
@@ -145,6 +150,7 @@ fn all() -> Cases {
     neighbours::cases(&mut cases);
     pair::cases(&mut cases);
     biweight::cases(&mut cases);
+    boxes::cases(&mut cases);
     doubles::cases(&mut cases);
     ranges::cases(&mut cases);
     let random = &mut Random(1);
@@ -158,6 +164,7 @@ fn all() -> Cases {
     biweight::random_cases(&mut cases);
     doubles::random_cases(&mut Random(11), &mut cases);
     ranges::random_cases(&mut cases);
+    boxes::random_cases(&mut cases);
     cases
 }
 

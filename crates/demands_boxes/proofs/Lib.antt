@@ -1,0 +1,4 @@
+pub mod Positions
+pub mod Accepted
+pub mod Filled
+pub mod InBoxes

@@ -1,0 +1,1 @@
+// What is promised of minute and temperature together, in specs/, and its proof. No code.

@@ -1,0 +1,1 @@
+// Laws of strips, cells and boxes, in proofs/.

@@ -1,0 +1,1 @@
+// Laws of tables of cumulative sums over the cells of the meaning, in proofs/.

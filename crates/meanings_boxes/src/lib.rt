@@ -1,0 +1,1 @@
+// Minute and temperature together: the meaning alone, in specs/. The call answers with `Filling` of the crate meanings.
