@@ -4,7 +4,7 @@ use arithmetic_values::value;
 use biweight_table::biweight_weights;
 use biweight_table::weight_at;
 use checks::full;
-use checks_point::series_fault;
+use checks_series::series_fault;
 use meanings::Estimate;
 use meanings::Evaluation;
 use meanings::Verdict;

@@ -1,7 +1,7 @@
 // What minute and temperature together are refused for. Every function takes every input.
 use checks::first_decrease;
 use checks::uneven_rows;
-use checks_smooth::first_out_of_range;
+use checks_curve::first_out_of_range;
 use meanings::Found;
 use meanings::Refusal;
 use meanings::Report;

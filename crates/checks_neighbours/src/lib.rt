@@ -1,7 +1,7 @@
 // What half widths by neighbours are refused for, for any pair of limits. Every function takes every input.
 use checks::uneven_rows;
-use checks_smooth::curve_size_fault;
-use checks_smooth::order_fault;
+use checks_curve::curve_size_fault;
+use checks_curve::order_fault;
 use meanings::Limits;
 use meanings::ROW_WIDTH;
 use meanings::Refusal;

@@ -1,5 +1,5 @@
 // The refusals of the comparison of two tanks, for any pair of limits. Every function takes every input.
-use checks_point::series_fault;
+use checks_series::series_fault;
 use checks_smooth::curve_fault;
 use meanings::Limits;
 use meanings::Refusal;

@@ -1,8 +1,8 @@
 // The refusals of the sweep over ranges, for any pair of limits. Every public function takes every input.
 use checks::first_decrease;
 use checks::uneven_rows;
+use checks_curve::curve_size_fault;
 use checks_smooth::curve_fault;
-use checks_smooth::curve_size_fault;
 use meanings::Found;
 use meanings::Limits;
 use meanings::Refusal;

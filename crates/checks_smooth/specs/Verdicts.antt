@@ -1,18 +1,12 @@
 -- What the functions under the public checks say of their lists.
 use Prim.Native.Nat.{ℕ}
 use mathlib.Core.Path.{_≡_}
-use mathlib.Core.Bool.{Bool}
 use mathlib.Core.List.{List}
 use lib.ListN.{length}
 use Rattle.meanings.specs.declared.Found.{Found}
-use Rattle.meanings.specs.declared.Limits.{Limits}
 use Rattle.meanings.specs.declared.Verdict.{Verdict}
 use Rattle.meanings.specs.Lists.{lowest}
-use Rattle.meanings.specs.Reports.{verdict-fault, found-position, first-of, edge-decreases, curve-size-checks, windows-checks}
-
--- v is what the lengths of readings and marks earn
-pub record SizesJudged (L : Limits) (ts vs zs hs : List ℕ) (more : Bool) (v : Verdict) : Type 0 where
-  pub refusal : verdict-fault v ≡ first-of (curve-size-checks L ts vs zs hs more)
+use Rattle.meanings.specs.Reports.{verdict-fault, found-position, first-of, edge-decreases, windows-checks}
 
 -- v is what the windows of the marks earn
 pub record WindowsJudged (zs hs : List ℕ) (v : Verdict) : Type 0 where

@@ -1,9 +1,10 @@
 // The refusals of calls over readings and marks, with a rows list or without one, for any pair of limits, and those of the sweep. Every public
 // function takes every input.
 use checks::edge_below;
-use checks::first_decrease;
-use checks::outside;
 use checks::uneven_rows;
+use checks_curve::curve_size_fault;
+use checks_curve::first_out_of_range;
+use checks_curve::order_fault;
 use meanings::Found;
 use meanings::Limits;
 use meanings::ROW_WIDTH;
@@ -11,26 +12,9 @@ use meanings::Refusal;
 use meanings::Report;
 use meanings::Verdict;
 ghost use mathlib.Core.Path.{_≡_};
-ghost use mathlib.Core.Bool.{_||_};
 ghost use lib.ListN.{length};
-ghost use Rattle.meanings.specs.Lists.{lowest};
-ghost use Rattle.meanings.specs.Reports.{verdict-fault, found-position, first-of, outside-at, uneven-samples, uneven-points};
-ghost use Rattle.meanings.specs.Reports.{curve-size-checks, order-checks, curve-checks, smooth-checks};
-ghost use Rattle.checks_smooth.specs.Verdicts.{SizesJudged, WindowsJudged, FirstEdgeBack};
-
-// The lowest position whose half width is 0 or over the greatest one.
-pub fn first_out_of_range(bandwidths: &[u32], most: u32) -> Found
-    ensures { λ r. ⌜ found-position r ≡ lowest (outside-at most (now (bandwidths .entry))) (length (now (bandwidths .entry))) ⌝ }
-{
-    let mut i = 0;
-    while i < bandwidths.len() {
-        if outside(bandwidths[i], most) {
-            return Found::At(i);
-        }
-        i += 1;
-    }
-    Found::Nothing
-}
+ghost use Rattle.meanings.specs.Reports.{verdict-fault, first-of, curve-checks, smooth-checks};
+ghost use Rattle.checks_smooth.specs.Verdicts.{WindowsJudged, FirstEdgeBack};
 
 // The lowest position at which an edge lies below the one before.
 pub(crate) fn first_edge_decrease(points: &[u16], bandwidths: &[u32]) -> Found
@@ -45,96 +29,6 @@ pub(crate) fn first_edge_decrease(points: &[u16], bandwidths: &[u32]) -> Found
         i += 1;
     }
     Found::Nothing
-}
-
-// Whether the lengths of readings and marks don't agree, or those of one more list, as `more` says.
-pub fn uneven(
-    minutes: &[u16],
-    values: &[u16],
-    points: &[u16],
-    bandwidths: &[u32],
-    more: bool,
-) -> bool
-    ensures { λ r. ⌜ r ≡ (uneven-samples (now (minutes .entry)) (now (values .entry)) || uneven-points (now (points .entry)) (now (bandwidths .entry)) || more) ⌝ }
-{
-    if minutes.len() != values.len() {
-        return true;
-    }
-    if points.len() != bandwidths.len() {
-        return true;
-    }
-    more
-}
-
-// What the lengths of readings and marks earn: 8, 6, 7.
-pub fn curve_size_fault(
-    minutes: &[u16],
-    values: &[u16],
-    points: &[u16],
-    bandwidths: &[u32],
-    more: bool,
-    limits: Limits,
-) -> Verdict
-    ensures { λ r. ⌜ verdict-fault r ≡ first-of (curve-size-checks limits (now (minutes .entry)) (now (values .entry)) (now (points .entry)) (now (bandwidths .entry)) more) ⌝ }
-{
-    sizes_judged(minutes, values, points, bandwidths, more, limits)
-}
-
-// The same, as the record that the functions here read.
-pub(crate) fn sizes_judged(
-    minutes: &[u16],
-    values: &[u16],
-    points: &[u16],
-    bandwidths: &[u32],
-    more: bool,
-    limits: Limits,
-) -> Verdict
-    ensures { λ r. ⌜ SizesJudged limits (now (minutes .entry)) (now (values .entry)) (now (points .entry)) (now (bandwidths .entry)) more r ⌝ }
-{
-    if uneven(minutes, values, points, bandwidths, more) {
-        return Verdict::Faulty(Refusal {
-            report: Report::LengthMismatch,
-            place: 0,
-        });
-    }
-    if limits.samples < minutes.len() {
-        return Verdict::Faulty(Refusal {
-            report: Report::TooMany,
-            place: 0,
-        });
-    }
-    if limits.points < points.len() {
-        return Verdict::Faulty(Refusal {
-            report: Report::TooMany,
-            place: 0,
-        });
-    }
-    if points.len() == 0 {
-        return Verdict::Faulty(Refusal {
-            report: Report::NoPoints,
-            place: 0,
-        });
-    }
-    Verdict::Fit
-}
-
-// What the order of minutes and of marks earns: 4, 5.
-pub fn order_fault(minutes: &[u16], points: &[u16]) -> Verdict
-    ensures { λ r. ⌜ verdict-fault r ≡ first-of (order-checks (now (minutes .entry)) (now (points .entry))) ⌝ }
-{
-    match first_decrease(minutes) {
-        Found::At(i) => Verdict::Faulty(Refusal {
-            report: Report::SampleOutOfOrder,
-            place: i,
-        }),
-        Found::Nothing => match first_decrease(points) {
-            Found::At(i) => Verdict::Faulty(Refusal {
-                report: Report::PointOutOfOrder,
-                place: i,
-            }),
-            Found::Nothing => Verdict::Fit,
-        },
-    }
 }
 
 // What the windows of the marks earn: 9, 10.
@@ -168,7 +62,7 @@ pub fn curve_fault(
 ) -> Verdict
     ensures { λ r. ⌜ verdict-fault r ≡ first-of (curve-checks limits (now (minutes .entry)) (now (values .entry)) (now (points .entry)) (now (bandwidths .entry)) more) ⌝ }
 {
-    match sizes_judged(minutes, values, points, bandwidths, more, limits) {
+    match curve_size_fault(minutes, values, points, bandwidths, more, limits) {
         Verdict::Faulty(refusal) => Verdict::Faulty(refusal),
         Verdict::Fit => match order_fault(minutes, points) {
             Verdict::Faulty(refusal) => Verdict::Faulty(refusal),

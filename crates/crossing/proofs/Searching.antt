@@ -1,6 +1,6 @@
 -- The invariant of the search: none of the marks before k is low enough, and the record is that after k steps. So the row that the next step gives
 -- is the mark's, and the record's edges are the passes.
-use Prim.Native.Nat.{ℕ, suc, _+_, _^_, _≤_, _<_, zero-le}
+use Prim.Native.Nat.{ℕ, _+_, _^_, _≤_, _<_, zero-le}
 use mathlib.Core.Path.{_≡_, sym, ap, _∙_}
 use mathlib.Core.Bool.{Bool, true, false}
 use mathlib.Core.List.{List}
@@ -9,7 +9,6 @@ use native.Mathlib.Omega.{arith}
 use mir.Val.{Fits}
 use mir.Syntax.{w16}
 use lib.ListN.{length, getD}
-use Rattle.meanings.specs.declared.Estimate.{Estimate}
 use Rattle.meanings.specs.declared.Limits.{Limits}
 use Rattle.meanings.specs.declared.Refusal.{Refusal}
 use Rattle.meanings.specs.declared.RunningSums.{RunningSums}
@@ -25,7 +24,7 @@ use Rattle.meanings.proofs.SmoothSteps.{CurveAccepted, curve-accepts, running-a
 use Rattle.meanings_limit.specs.declared.Crossing.{Crossing}
 use Rattle.meanings_limit.specs.declared.Crossing.the-variants.{Reached, NotReached}
 use Rattle.meanings_limit.specs.Threshold.{at-or-below, low-enough}
-use Rattle.meanings_limit.specs.Crossing.{crossing-answer, low-at, located, crossing-refusal, first-at-most}
+use Rattle.meanings_limit.specs.Crossing.{crossing-answer, low-at, crossing-refusal, first-at-most}
 use Rattle.meanings_limit.proofs.Passes.{passes-to-point}
 use Rattle.stepping.specs.declared.Reached.{Reached as Step}
 use Rattle.stepping.specs.Steps.{IsFresh, SteppedRow}

@@ -1,8 +1,8 @@
 -- The call's contract with the laws of its meaning: what it finds is by the rows of the meaning, which are the published ones.
-use Prim.Native.Nat.{ℕ, _+_, _*_, _^_, _≤_, _<_}
+use Prim.Native.Nat.{ℕ, _+_, _*_, _≤_, _<_}
 use mathlib.Core.Path.{_≡_, refl, sym, ap, subst, _∙_}
 use mathlib.Core.Bool.{Bool, true, false, true≢false, _&&_}
-use mathlib.Core.List.{List, [], _∷_}
+use mathlib.Core.List.{List}
 use mathlib.Core.Option.{Option, none, some}
 use native.Mathlib.Nat.{add-comm}
 use native.Mathlib.Omega.{arith}
@@ -10,8 +10,7 @@ use borrow.Author.Tests.{ltb-true, leb-true, lt-ltb, le-leb, ne-eqb}
 use lib.Dec.{ltb, leb}
 use lib.ListN.{length, getD}
 use Rattle.meanings.specs.declared.Estimate.{Estimate}
-use Rattle.meanings.specs.declared.Smoothing.{Smoothing}
-use Rattle.meanings.specs.Limits.{full, max-u16, row-width}
+use Rattle.meanings.specs.Limits.{full, max-u16}
 use Rattle.meanings.specs.Lists.{AtMost}
 use Rattle.meanings.specs.Moves.{moves}
 use Rattle.meanings.specs.PublishedRow.{PublishedRow}
@@ -20,8 +19,7 @@ use Rattle.meanings.specs.Estimate.{estimate}
 use Rattle.meanings.specs.Running.{fresh, passes}
 use Rattle.meanings.specs.EventLog.{empty-log, log-after, insertion-count, eviction-count}
 use Rattle.meanings.specs.Claim.{refusal}
-use Rattle.meanings.specs.Calls.{smoothing-answer, smooth, smooth-rows}
-use Rattle.meanings.specs.Codes.{detail-unit, answered}
+use Rattle.meanings.specs.Codes.{answered}
 use Rattle.meanings.proofs.Checks.{same-limits, given-accepted}
 use Rattle.meanings.proofs.PublishedRows.{published-row, one-published-row}
 use Rattle.meanings.proofs.Search.{lowest-none, lowest-some}
@@ -29,7 +27,6 @@ use Rattle.meanings.proofs.Steps.{Small}
 use Rattle.meanings.proofs.SmoothLog.{curve-passes}
 use Rattle.meanings.proofs.SmoothSteps.{CurveAccepted, curve-accepts}
 use Rattle.meanings_limit.specs.declared.Crossing.{Crossing}
-use Rattle.meanings_limit.specs.declared.Crossing.the-variants.{Reached, NotReached}
 use Rattle.meanings_limit.specs.Threshold.{low-enough}
 use Rattle.meanings_limit.specs.Crossing.{Located, crossing-answer, low-at, first-low, steps-to, located}
 use Rattle.meanings_limit.specs.Crossing.{crossing-refusal, first-at-most, reach}
@@ -40,12 +37,11 @@ use Rattle.abi_answers.specs.Answers.{sized, stored}
 use Rattle.abi_answers.specs.Positions.{no-position, position-numbers, position-of}
 use Rattle.crossing.proofs.first_at_most.Met as first-at-most-met
 use Rattle.abi_crossing.proofs.tankcurve_first_at_most.Met as exported-met
-use Rattle.demands.specs.Calls.{SmoothCall}
 use Rattle.demands.specs.Conditions.{RefusedExactly, FirstFault, length-first, code-refusal}
-use Rattle.demands.specs.Crossing.{FirstAtMostCall, ExportedFirstAtMost, crossing-conditions, LowEnough, FirstLow, NoneLow, Crossings}
+use Rattle.demands.specs.Crossing.{crossing-conditions, LowEnough, FirstLow, Crossings}
 use Rattle.demands.proofs.CallChecks.{curve-finds, always-fits}
 use Rattle.demands.proofs.FirstFaults.{FindAll}
-use Rattle.demands.proofs.Refusals.{decided-exactly, sized-is-checked, length-check, length-first-finds, first-numbered, exported-refusal, stored-stays}
+use Rattle.demands.proofs.Refusals.{decided-exactly, sized-is-checked, length-first-finds, first-numbered, exported-refusal, stored-stays}
 use Rattle.demands.proofs.Refusals.{accepted-given, sized-opens}
 
 finds : (ts vs zs hs : List ℕ) → FindAll (curve-checks full ts vs zs hs false) (crossing-conditions ts vs zs hs)

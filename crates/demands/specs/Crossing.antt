@@ -1,8 +1,8 @@
 -- What is promised of the first mark at or below a limit. ts are minutes, vs values, zs and hs marks and half widths, as in Demands.antt.
 use Prim.Native.Nat.{ℕ, _+_, _*_, _≤_, _<_}
 use mathlib.Core.Path.{_≡_}
-use mathlib.Core.List.{List, [], _∷_}
-use mathlib.Core.Option.{Option, none, some}
+use mathlib.Core.List.{List}
+use mathlib.Core.Option.{none, some}
 use contract.Lifetimes.{Lfts}
 use borrow.Fn.Kinds.{Dens}
 use lib.ListN.{length, getD}

@@ -1,25 +1,23 @@
 -- What is promised of the biweight row follows from the contracts of the calls, which give what the meanings give, and from the meanings' laws.
-use Prim.Native.Nat.{ℕ, _+_, _-_, _*_, _≤_, _<_}
+use Prim.Native.Nat.{ℕ, _+_, _-_, _*_}
 use mathlib.Core.Path.{_≡_, refl, sym, ap, _∙_}
 use mathlib.Core.Bool.{Bool, true, false}
 use mathlib.Core.List.{List, [], _∷_}
 use mathlib.Core.Option.{Option, none, some}
 use native.Mathlib.Omega.{arith}
 use lib.Dec.{eqb}
-use lib.ListN.{length, take, drop, replicate}
+use lib.ListN.{length, take, drop}
 use Rattle.meanings.specs.declared.Estimate.{Estimate}
-use Rattle.meanings.specs.declared.Evaluation.{Evaluation}
-use Rattle.meanings.specs.declared.Evaluation.the-variants.{Row}
 use Rattle.meanings.specs.Calls.{evaluation-answer, evaluate, evaluate-refusal, window, window-start}
 use Rattle.meanings.specs.Claim.{refusal}
 use Rattle.meanings.specs.Codes.{answered, no-detail}
-use Rattle.meanings.specs.Estimate.{left-of, right-of, run-of, estimate, missing, fields}
+use Rattle.meanings.specs.Estimate.{left-of, right-of, estimate, missing, fields}
 use Rattle.meanings.specs.Limits.{full, max-u16, row-width}
 use Rattle.meanings.specs.Lists.{pick, AtMost}
-use Rattle.meanings.specs.Reports.{Fault, Answer, given, refused, unless, accepted-or, series-checks}
+use Rattle.meanings.specs.Reports.{Fault, Answer, given, refused, unless, series-checks}
 use Rattle.meanings.proofs.Checks.{same-limits, EvaluateAccepted, evaluate-accepts, given-accepted}
 use Rattle.meanings.proofs.Claim.{refusal-unless}
-use Rattle.meanings_biweight.specs.Biweight.{biweight-bandwidth, biweight-weight, biweight-sum, biweight-row, biweight-refusal, biweight}
+use Rattle.meanings_biweight.specs.Biweight.{biweight-bandwidth, biweight-row, biweight-refusal, biweight}
 use Rattle.meanings_biweight.proofs.Bounds.{bounds, value-bound}
 use Rattle.meanings_biweight.proofs.Cases.{biweight-cases-hold}
 use Rattle.meanings_biweight.proofs.EqualSamples.{greatest-reached}
@@ -35,7 +33,7 @@ use Rattle.abi_answers.proofs.Answered.{right-size}
 use Rattle.biweight.proofs.biweight.Met as biweight-met
 use Rattle.abi_biweight.proofs.tankcurve_biweight.Met as exported-met
 use Rattle.text.specs.Table.{stored-row}
-use Rattle.demands.specs.Calls.{Place, EvaluateCall, WindowCall, ExportedEvaluate, ExportedWindow}
+use Rattle.demands.specs.Calls.{ExportedWindow}
 use Rattle.demands.specs.Conditions.{RefusedExactly, NoFault, FirstFault, length-first, code-refusal}
 use Rattle.demands.proofs.CallChecks.{none-left, series-finds}
 use Rattle.demands.proofs.FirstFaults.{FindAll, none-or-first, refused-exactly}
@@ -43,7 +41,7 @@ use Rattle.demands.proofs.RecordRows.{answered-row}
 use Rattle.demands.proofs.Refusals.{decided-exactly, length-first-finds, sized-is-checked, exported-refusal, exported-stays, stored-stays, first-numbered}
 use Rattle.demands.proofs.Refusals.{accepted-given, sized-opens}
 use Rattle.demands.proofs.Rows.{five-are-row}
-use Rattle.demands_biweight.specs.Biweights.{BiweightCall, ExportedBiweight, biweight-conditions, Fits, RunOf, Biweights}
+use Rattle.demands_biweight.specs.Biweights.{ExportedBiweight, biweight-conditions, Fits, Biweights}
 
 finds : (ts vs : List ℕ) → FindAll (series-checks full ts vs) (biweight-conditions ts vs)
 finds ts vs = series-finds full ts vs none-left

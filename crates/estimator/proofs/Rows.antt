@@ -10,7 +10,7 @@ use mir.Syntax.{w16}
 use Rattle.meanings.specs.declared.Estimate.{Estimate}
 use Rattle.meanings.specs.declared.PowerSums.{PowerSums}
 use Rattle.meanings.specs.Limits.{full}
-use Rattle.meanings.specs.Estimate.{WithinLimits, left-of, right-of, estimate}
+use Rattle.meanings.specs.Estimate.{left-of, right-of, estimate}
 use Rattle.meanings.specs.Running.{six, sum-at, plus, power-sum, window-sum, window-sums, record-row}
 use Rattle.meanings.proofs.Checks.{EvaluateAccepted}
 use Rattle.meanings.proofs.Steps.{Small, power-sum-bound, six-agree, six-at}

@@ -1,26 +1,26 @@
 -- The estimators with c (1 − u²)^p 1{|u| ≤ 1}, for any factor c and any exponent p: each term is c / h^(2p + 1) times a whole weight, 0 outside the
 -- window by the indicator, so a sum over all samples is the sum over the run; in the quotient the factor cancels. The landed estimators are those
 -- of 3/4 and 1, the biweight row's those of 15/16 and 2.
-use Prim.Native.Nat.{ℕ, zero, suc, _+_, _-_, _*_, _^_, _≤_, _<_}
-use mathlib.Core.Path.{_≡_, refl, sym, ap, _∙_, fun-ext, subst⁻¹}
+use Prim.Native.Nat.{ℕ, zero, suc, _+_, _-_, _*_, _^_, _<_}
+use mathlib.Core.Path.{_≡_, refl, sym, ap, fun-ext, subst⁻¹}
 use mathlib.Core.Logic.{_↔_, Iff·trans}
 use mathlib.Core.Bool.{Bool, true, false}
 use mathlib.Core.List.{List}
-use native.Mathlib.Nat.{zero-add, zero-mul, mul-zero, mul-pos, pow-zero, pow-suc, mul-le-mul, eq-of-mul-eq-mul-right, pos-of-ne-zero}
+use native.Mathlib.Nat.{zero-add, zero-mul, mul-zero, mul-pos, pow-zero, pow-suc, eq-of-mul-eq-mul-right, pos-of-ne-zero}
 use native.Mathlib.Omega.{arith}
 use borrow.Author.Tests.{leb-true, le-leb}
 use lib.Dec.{leb}
 use lib.ListN.{length, getD}
 use Rattle.meanings.specs.Lists.{pick, total, distance, Ordered}
 use Rattle.meanings.specs.Estimate.{Inside, left-of, right-of, kernel, over-run, weight-of, sum-of}
-use Rattle.meanings.specs.Published.{Fraction, whole, _⊕_, _⊗_, one-minus, divided, _≈_, sum-all}
-use Rattle.meanings.specs.Published.{epanechnikov, density, regression-above, regression-below, regression}
+use Rattle.meanings.specs.Published.{Fraction, whole, _⊗_, one-minus, divided, _≈_, sum-all}
+use Rattle.meanings.specs.Published.{epanechnikov, density, regression-above, regression-below}
 use Rattle.meanings.proofs.Published.{same-den-adds}
 use Rattle.meanings.proofs.Totals.{total-factor, total-where}
 use Rattle.meanings.proofs.Window.{left-at-most-right, right-at-most-length, run-is-inside}
 use Rattle.meanings_biweight.specs.Biweight.{biweight-at, biweight-weight, biweight-sum}
 use Rattle.laws_biweight.specs.BetaKernels.{over, raised, shape, factorial, beta-factor, beta-kernel, biweight-shape}
-use Rattle.laws_biweight.specs.BetaKernels.{scaled-by, density-by, above-by, below-by, regression-by, power, power-weight, power-sum, Estimators}
+use Rattle.laws_biweight.specs.BetaKernels.{scaled-by, density-by, above-by, below-by, power, power-weight, power-sum, Estimators}
 use Rattle.laws_biweight.specs.BetaKernels.{BetaKernels}
 
 -- the factors of (19): 3/4 with the exponent 1, 15/16 with 2

@@ -13,7 +13,7 @@ use Rattle.meanings.specs.declared.Estimate.{Estimate}
 use Rattle.meanings.specs.declared.PowerSums.{PowerSums}
 use Rattle.meanings.specs.declared.Refusal.{Refusal}
 use Rattle.meanings.specs.declared.RunningSums.{RunningSums}
-use Rattle.meanings.specs.Estimate.{WithinLimits, estimate}
+use Rattle.meanings.specs.Estimate.{estimate}
 use Rattle.meanings.specs.Running.{six, fresh, advance, next-record, after-step, record-row}
 use Rattle.meanings.specs.Calls.{advance-answer}
 use Rattle.meanings.proofs.Steps.{Small, at-window}

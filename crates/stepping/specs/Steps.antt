@@ -3,7 +3,6 @@ use Prim.Native.Nat.{ℕ}
 use mathlib.Core.Path.{_≡_}
 use mathlib.Core.List.{List}
 use Rattle.meanings.specs.declared.RunningSums.{RunningSums}
-use Rattle.meanings.specs.Moves.{Move}
 use Rattle.meanings.specs.Running.{fresh, after-step, record-row}
 use Rattle.stepping.specs.declared.Reached.{Reached}
 

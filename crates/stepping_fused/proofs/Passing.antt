@@ -2,7 +2,6 @@
 use Prim.Native.Nat.{ℕ, _+_, _-_, _^_, _≤_, _<_}
 use mathlib.Core.Path.{_≡_, ap}
 use mathlib.Core.List.{List}
-use native.Mathlib.Omega.{arith}
 use lib.ListN.{length, getD}
 use Rattle.meanings.specs.declared.Limits.{Limits}
 use Rattle.meanings.specs.declared.PowerSums.{PowerSums}
@@ -12,7 +11,6 @@ use Rattle.meanings.specs.declared.Verdict.{Verdict}
 use Rattle.meanings.specs.declared.Verdict.the-variants.{Fit, Faulty}
 use Rattle.meanings.specs.Limits.{full}
 use Rattle.meanings.specs.Lists.{distance}
-use Rattle.meanings.specs.Moves.{Move}
 use Rattle.meanings.specs.Reports.{verdict-fault, first-of, advance-checks}
 use Rattle.meanings.specs.Running.{six, sum-at, term, plus, minus, moved, next-record, after-step}
 use Rattle.meanings.proofs.Checks.{AdvanceAccepted}

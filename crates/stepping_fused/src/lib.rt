@@ -10,7 +10,6 @@ use meanings::PowerSums;
 use meanings::RunningSums;
 use meanings::Verdict;
 ghost use mathlib.Core.Path.{_≡_};
-ghost use Rattle.meanings.specs.Moves.{Move};
 ghost use Rattle.meanings.specs.Running.{plus, minus, moved, after-step};
 ghost use Rattle.meanings.proofs.Checks.{AdvanceAccepted};
 ghost use Rattle.estimator.specs.Rows.{RunWithin};

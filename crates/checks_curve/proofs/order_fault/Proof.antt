@@ -1,9 +1,9 @@
 -- Each search finds the lowest position of its report.
 -- The marks are looked at where the minutes are in order.
 use borrow.Author.Needs.{needs}
-use Rattle.checks_smooth.proofs.Refusals.{sample-early, point-early, orders-fit}
-use Rattle.checks_smooth.proofs.order_fault.Statement.{statement}
-use Rattle.checks_smooth.proofs.order_fault.Tie as tie
+use Rattle.checks_curve.proofs.Refusals.{sample-early, point-early, orders-fit}
+use Rattle.checks_curve.proofs.order_fault.Statement.{statement}
+use Rattle.checks_curve.proofs.order_fault.Tie as tie
 
 returns : tie.Need-returns
 returns c = search sample-early

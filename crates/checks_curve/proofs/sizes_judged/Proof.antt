@@ -1,9 +1,9 @@
 -- Each way out has passed the tests before it, in the definition's order.
 -- A way out is the report of the first test that holds, or none.
 use borrow.Author.Needs.{needs}
-use Rattle.checks_smooth.proofs.Refusals.{sizes-uneven, samples-too-many, points-too-many, no-points, sizes-fit}
-use Rattle.checks_smooth.proofs.sizes_judged.Statement.{statement}
-use Rattle.checks_smooth.proofs.sizes_judged.Tie as tie
+use Rattle.checks_curve.proofs.Refusals.{sizes-uneven, samples-too-many, points-too-many, no-points, sizes-fit}
+use Rattle.checks_curve.proofs.sizes_judged.Statement.{statement}
+use Rattle.checks_curve.proofs.sizes_judged.Tie as tie
 
 returns : tie.Need-returns
 returns c = search sizes-uneven

@@ -3,9 +3,9 @@
 use Prim.Native.Nat.{_-_}
 use borrow.Author.Needs.{needs}
 use lib.ListN.{length}
-use Rattle.checks_smooth.proofs.Refusals.{NoneBadBelow, none-bad-yet, bad-found, none-bad-goes-on, none-bad}
-use Rattle.checks_smooth.proofs.first_out_of_range.Statement.{statement}
-use Rattle.checks_smooth.proofs.first_out_of_range.Tie as tie
+use Rattle.checks_curve.proofs.Refusals.{NoneBadBelow, none-bad-yet, bad-found, none-bad-goes-on, none-bad}
+use Rattle.checks_curve.proofs.first_out_of_range.Statement.{statement}
+use Rattle.checks_curve.proofs.first_out_of_range.Tie as tie
 
 abbrev Inv-loop : tie.InvT-loop
 Inv-loop bandwidths most i₀ i = NoneBadBelow most bandwidths i

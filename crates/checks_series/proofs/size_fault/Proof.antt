@@ -2,8 +2,8 @@
 -- A way out is the report of the first test that holds, or none.
 use borrow.Author.Tests.{lt-ltb, le-ltb}
 use Rattle.meanings.proofs.Checks.{differ-true, differ-same}
-use Rattle.checks_point.proofs.size_fault.Statement.{statement}
-use Rattle.checks_point.proofs.size_fault.Tie as tie
+use Rattle.checks_series.proofs.size_fault.Statement.{statement}
+use Rattle.checks_series.proofs.size_fault.Tie as tie
 
 returns : tie.Need-returns
 returns c = search differ-true

@@ -1,8 +1,8 @@
 -- Each way out has passed the tests before it.
 -- Where both pairs of lists agree, what is known of one more list decides.
 use Rattle.meanings.proofs.Checks.{differ-true, differ-same}
-use Rattle.checks_smooth.proofs.uneven.Statement.{statement}
-use Rattle.checks_smooth.proofs.uneven.Tie as tie
+use Rattle.checks_curve.proofs.uneven.Statement.{statement}
+use Rattle.checks_curve.proofs.uneven.Tie as tie
 
 returns : tie.Need-returns
 returns c = search differ-true

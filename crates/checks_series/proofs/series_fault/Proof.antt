@@ -1,9 +1,9 @@
 -- What the sizes earn comes first: its checks stand in front of the list.
 -- Where they earn nothing, the order of the minutes decides.
 use borrow.Author.Needs.{needs}
-use Rattle.checks_point.proofs.Orders.{series-sizes, series-early, series-fits}
-use Rattle.checks_point.proofs.series_fault.Statement.{statement}
-use Rattle.checks_point.proofs.series_fault.Tie as tie
+use Rattle.checks_series.proofs.Orders.{series-sizes, series-early, series-fits}
+use Rattle.checks_series.proofs.series_fault.Statement.{statement}
+use Rattle.checks_series.proofs.series_fault.Tie as tie
 
 returns : tie.Need-returns
 returns c = search series-sizes

@@ -2,8 +2,8 @@
 -- It is the definition's, and holds exactly where report 9 does.
 use mathlib.Core.Path.{sym, _∙_}
 use borrow.Author.Needs.{needs}
-use Rattle.checks_point.proofs.bandwidth_fault.Statement.{statement}
-use Rattle.checks_point.proofs.bandwidth_fault.Tie as tie
+use Rattle.checks_series.proofs.bandwidth_fault.Statement.{statement}
+use Rattle.checks_series.proofs.bandwidth_fault.Tie as tie
 
 returns : tie.Need-returns
 returns c = rw (sym (c .before .out-of-range .ensures) ∙ c .if1 .taken)
