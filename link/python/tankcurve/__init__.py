@@ -5,7 +5,8 @@
 [70, None]
 
 A list is any sequence of whole numbers, or a buffer such as an array or a numpy array, which is not copied where its items fit. A number that
-does not fit its width is a ValueError before any call. A refusal of a call is Refused. A missing value is None.
+does not fit its width is a ValueError before any call. A refusal of a call is Refused, and a list that is too long is such a refusal, however long it is.
+A missing value is None.
 
 A list for the answer may be lent by its name (row, bounds, rows, points, ...): an array or another buffer that can be written and has exactly the length
 that the call states. It receives what the call writes; on a refusal it holds what it held before.
@@ -21,7 +22,7 @@ from . import _boxes, _header, _ranges
 from ._boxes import *
 from ._call import Refused, call, library_version, number, version_text
 from ._header import *
-from ._lists import Lent, Numbers, Rows, Source, call_with_sheet, lent, length, part
+from ._lists import Lent, Numbers, Rows, Source, call_with_sheet, lent, part
 from ._ranges import *
 
 __all__ = [
@@ -369,7 +370,7 @@ def preview(
 def _smoothed(
     name: str, minutes: Numbers, values: Numbers, points: Numbers, bandwidths: Numbers, rows: Optional[Lent]
 ) -> Smoothed:
-    passes, (numbers,) = call(name, minutes, values, points, bandwidths, lent(rows, ROW_LEN * length(points)))
+    passes, (numbers,) = call(name, minutes, values, points, bandwidths, lent(rows, ROW_LEN, "points"))
     return Smoothed(Rows(numbers, _row, ROW_LEN), passes)
 
 
@@ -389,11 +390,14 @@ def fill(
     >>> fill(100, 7, 4, 3)
     Grid(points=array('H', [100, 107, 114]), bandwidths=array('I', [120, 120, 120]))
     """
-    if count is None and (points is None or bandwidths is None):
+    size = 0 if count is None else number("count", count)
+    if points is not None and bandwidths is not None:
+        _, lists = call("fill", first, spacing, preset, points, bandwidths)
+    elif count is None:
         raise TypeError("fill: the count is needed where a list is not lent")
-    # of more than there may be one suffices: the call refuses any more alike
-    size = min(number("count", count), MAX_POINTS + 1) if count is not None else 0
-    _, lists = call("fill", first, spacing, preset, lent(points, size), lent(bandwidths, size))
+    else:
+        of = lent(points, 1, "count"), lent(bandwidths, 1, "count")
+        _, lists = call("fill", first, spacing, preset, *of, count=size)
     return Grid(*lists)
 
 
@@ -525,9 +529,8 @@ def neighbours(
     >>> by.bandwidths, [row.value for row in by.rows]
     (array('I', [1, 6, 41]), [70, 70, 27])
     """
-    count = length(points)
     _, (half, numbers) = call(
-        "neighbours", minutes, values, points, k, lent(bandwidths, count), lent(rows, ROW_LEN * count)
+        "neighbours", minutes, values, points, k, lent(bandwidths, 1, "points"), lent(rows, ROW_LEN, "points")
     )
     return Neighbours(half, Rows(numbers, _row, ROW_LEN))
 

@@ -5,7 +5,7 @@ from typing import NamedTuple, Optional
 
 from ._call import call
 from ._header import BOX_LEN, CELLS_LEN
-from ._lists import Lent, Numbers, Rows, lent, length
+from ._lists import Lent, Numbers, Rows, lent
 
 __all__ = ["Box", "Boxes", "boxes"]
 
@@ -54,7 +54,6 @@ def boxes(
     >>> found.counts[66], found.sums[66]
     (2, 100)
     """
-    pairs = length(points) * length(temperature_points)
     _, (numbers, cells, of) = call(
         "boxes",
         minutes,
@@ -64,7 +63,7 @@ def boxes(
         bandwidths,
         temperature_points,
         temperature_bandwidths,
-        lent(boxes, BOX_LEN * pairs),
+        lent(boxes, BOX_LEN, "points", "temperature_points"),
         lent(counts, CELLS_LEN),
         lent(sums, CELLS_LEN),
     )

@@ -6,12 +6,13 @@ import operator
 import reprlib
 import struct
 from array import array
+from itertools import islice
 from pathlib import Path
-from typing import Any, Dict, List, NamedTuple, NoReturn, Optional, Tuple
+from typing import Any, Dict, Iterable, List, NamedTuple, NoReturn, Optional, Tuple
 
-from ._header import CALLS, DETAIL_UNIT, VERSION, Report
+from ._header import CALLS, DETAIL_UNIT, MAX_SAMPLES, MAX_SHEET, VERSION, Report
 
-__all__ = ["New", "Refused", "call", "library_version", "number", "version_text"]
+__all__ = ["Answer", "Refused", "call", "library_version", "number", "version_text"]
 
 
 class Refused(ValueError):
@@ -48,8 +49,20 @@ class Refused(ValueError):
         return f"report {int(self.number)}, {self.word}, at {self.place}{where}"
 
 
-class New(int):
-    """Instead of a lent list: one of so many elements is to be made."""
+class Answer(NamedTuple):
+    """A list for the answer: the lent one, or None where one is to be made. So many numbers belong into it, or so many for each element of a
+    list, or for each pair of elements of two."""
+
+    lent: Any
+    each: int
+    of: Tuple[str, ...] = ()
+
+    def belong(self, lengths: Dict[str, int]) -> int:
+        """How many numbers belong into it beside lists of these lengths."""
+        count = self.each
+        for name in self.of:
+            count *= lengths[name]
+        return count
 
 
 class _Parameter(NamedTuple):
@@ -151,15 +164,31 @@ def number(where: str, value: Any, most: int = 2**64 - 1) -> int:
     return whole
 
 
-def _numbers(parameter: _Parameter, items: List[Any]) -> "array[Any]":
-    """The items as elements of a list; each is looked at."""
+def _numbers(parameter: _Parameter, items: List[Any], first: int) -> "array[Any]":
+    """The items from position first on as elements of a list; each is looked at."""
     if set(map(type, items)) <= {int}:
         try:
             return array(parameter.code, items)
         except OverflowError:
             pass
-    fitting = [number(f"{parameter.name}[{k}]", item, parameter.most) for k, item in enumerate(items)]
+    fitting = [number(f"{parameter.name}[{k}]", item, parameter.most) for k, item in enumerate(items, first)]
     return array(parameter.code, fitting)
+
+
+# So many items are looked at at once.
+_SOME = 4096
+
+
+def _copied(parameter: _Parameter, items: Iterable[Any], room: int) -> "Tuple[array[Any], int]":
+    """The items as elements of a list, as far as there is room, and how many there are; each is looked at."""
+    own: "array[Any]" = array(parameter.code)
+    count, rest = 0, iter(items)
+    while True:
+        some = list(islice(rest, _SOME))
+        own.extend(_numbers(parameter, some, count)[: room - len(own)])
+        count += len(some)
+        if len(some) < _SOME:
+            return own, count
 
 
 class _PyBuffer(ctypes.Structure):
@@ -223,53 +252,13 @@ def _view(argument: Any) -> Optional[memoryview]:
         return None
 
 
-def _lend(parameter: _Parameter, argument: Any) -> memoryview:
-    """A list that is read: the caller's buffer where its elements fit, else a copy, each number looked at."""
-    view = _view(argument)
-    if view is not None and view.ndim != 1:
-        dimensions = view.ndim
-        view.release()
-        raise ValueError(f"{parameter.name}: a list has one dimension, and this has {dimensions}")
-    if view is not None and not _misfit(parameter, view):
-        return view
-    if view is not None:
-        try:
-            items = view.tolist()
-        except NotImplementedError:
-            items = list(argument)
-        finally:
-            view.release()
-    elif isinstance(argument, (set, frozenset, dict)) or not hasattr(argument, "__len__"):
-        raise TypeError(
-            f"{parameter.name}: a sequence or a buffer of whole numbers is needed, not {type(argument).__name__}"
-        )
-    else:
-        items = list(argument)
-    return memoryview(_numbers(parameter, items))
-
-
-def _lend_written(parameter: _Parameter, argument: Any) -> memoryview:
-    """A list that is written: the caller's buffer, or a new one."""
-    if isinstance(argument, New):
-        return memoryview(array(parameter.code, bytes(argument * parameter.size)))
-    view = _view(argument)
-    if view is None:
-        raise TypeError(
-            f"{parameter.name}: an array or another buffer to write to is needed, not {type(argument).__name__}"
-        )
-    wrong = "it cannot be written" if view.readonly else _misfit(parameter, view)
-    if wrong:
-        view.release()
-        raise ValueError(f"{parameter.name}: {wrong}")
-    return view
-
-
 class _Lent(NamedTuple):
     """A list in a call."""
 
     parameter: _Parameter
     view: memoryview
     start: int
+    length: int  # in elements; a copy may have the first ones alone
 
     def elements(self) -> "array[Any]":
         """Its elements, as an array of their own."""
@@ -282,6 +271,56 @@ class _Lent(NamedTuple):
         return self.start < other.start + other.view.nbytes and other.start < self.start + self.view.nbytes
 
 
+def _items(view: memoryview, argument: Any) -> Iterable[Any]:
+    """The items of a buffer, by the view where it can tell them."""
+    try:
+        view[:1].tolist()
+    except NotImplementedError:
+        items: Iterable[Any] = argument
+        return items
+    return view
+
+
+def _lend(parameter: _Parameter, argument: Any, room: int) -> _Lent:
+    """A list that is read: the caller's buffer where its elements fit, else a copy, each number looked at, as far as there is room."""
+    view = _view(argument)
+    if view is None:
+        if isinstance(argument, (set, frozenset, dict)) or not hasattr(argument, "__len__"):
+            raise TypeError(
+                f"{parameter.name}: a sequence or a buffer of whole numbers is needed, not {type(argument).__name__}"
+            )
+        own, count = _copied(parameter, argument, room)
+    else:
+        if view.ndim == 1 and not _misfit(parameter, view):
+            return _Lent(parameter, view, _address(view), len(view))
+        with view:
+            if view.ndim != 1:
+                raise ValueError(f"{parameter.name}: a list has one dimension, and this has {view.ndim}")
+            own, count = _copied(parameter, _items(view, argument), room)
+    view = memoryview(own)
+    return _Lent(parameter, view, _address(view), count)
+
+
+def _lend_written(parameter: _Parameter, argument: Any) -> _Lent:
+    """A list that is written: the caller's buffer."""
+    view = _view(argument)
+    if view is None:
+        raise TypeError(
+            f"{parameter.name}: an array or another buffer to write to is needed, not {type(argument).__name__}"
+        )
+    wrong = "it cannot be written" if view.readonly else _misfit(parameter, view)
+    if wrong:
+        view.release()
+        raise ValueError(f"{parameter.name}: {wrong}")
+    return _Lent(parameter, view, _address(view), view.nbytes // parameter.size)
+
+
+def _made(parameter: _Parameter, count: int) -> _Lent:
+    """A list that is written: a new one."""
+    view = memoryview(array(parameter.code, bytes(count * parameter.size)))
+    return _Lent(parameter, view, _address(view), count)
+
+
 def _apart(lists: List[_Lent]) -> None:
     """No list that is written lies over another."""
     for k, one in enumerate(lists):
@@ -290,27 +329,67 @@ def _apart(lists: List[_Lent]) -> None:
                 raise ValueError(f"{one.parameter.name} lies over {other.parameter.name}, and one of them is written")
 
 
-def call(name: str, *arguments: Any) -> "Tuple[int, List[array[Any]]]":
+# The length of a list for the answer may follow from the marks' lists, and of a million marks in each of two directions it is more than any memory
+# holds. The call refuses them. Of lists that are read it asks whether they are equally long, whether they are empty and whether they are longer than it
+# takes. So those that are too long for every call are passed cut: equally long ones alike, and others not; and lists for the answer so that they
+# have the length that belongs, or another one, as before. The report is then the same.
+
+
+def _cut(lengths: Dict[str, int], most: int) -> Dict[str, int]:
+    """These lengths, but the least one above most is most + 1, the next one most + 2, and so on."""
+    over = sorted({length for length in lengths.values() if length > most})
+    return {name: most + 1 + over.index(length) if length > most else length for name, length in lengths.items()}
+
+
+def _cut_alike(length: int, belong: int, cut: int) -> int:
+    """The length of a lent list where the one that belongs is cut: the right one stays right, and another one wrong."""
+    if length == belong:
+        return cut
+    return length - 1 if length == cut else length
+
+
+def call(name: str, *arguments: Any, **counts: int) -> "Tuple[int, List[array[Any]]]":
     """Makes the call and gives its detail, with the elements of every list that it has written. Refused is raised where it refuses;
-    nothing is called where an argument is unfit."""
-    lists: List[_Lent] = []
+    nothing is called where an argument is unfit. Counts are lengths of lists that the call does not have."""
+    given = list(zip(_PARAMETERS[name], arguments))
+    most = MAX_SHEET if given and given[0][0].name == "sheet" else MAX_SAMPLES
+    lists: Dict[str, _Lent] = {}
+    numbers: Dict[str, int] = {}
     passed: List[int] = []
     written: "List[array[Any]]" = []
     try:
-        for parameter, argument in zip(_PARAMETERS[name], arguments):
+        for parameter, argument in given:
             if not parameter.listed:
-                passed.append(number(parameter.name, argument, parameter.most))
+                numbers[parameter.name] = number(parameter.name, argument, parameter.most)
+            elif not parameter.written:
+                lists[parameter.name] = _lend(parameter, argument, most + len(given))
+            elif not isinstance(argument, Answer):
+                lists[parameter.name] = _lend_written(parameter, argument)
+            elif argument.lent is not None:
+                lists[parameter.name] = _lend_written(parameter, argument.lent)
+        _apart(list(lists.values()))
+        lengths = {**counts, **{one.parameter.name: one.length for one in lists.values() if not one.parameter.written}}
+        cut = _cut(lengths, most)
+        for parameter, argument in given:
+            if not isinstance(argument, Answer):
                 continue
-            view = (_lend_written if parameter.written else _lend)(parameter, argument)
-            lists.append(_Lent(parameter, view, _address(view)))
-            passed += [lists[-1].start, view.nbytes // parameter.size]
-        _apart(lists)
+            belong = argument.belong(cut)
+            if argument.lent is None:
+                lists[parameter.name] = _made(parameter, belong)
+            else:
+                cut[parameter.name] = _cut_alike(lists[parameter.name].length, argument.belong(lengths), belong)
+        for parameter, _ in given:
+            if parameter.listed:
+                one = lists[parameter.name]
+                passed += [one.start, cut.get(parameter.name, one.length)]
+            else:
+                passed.append(numbers[parameter.name])
         answer = int(_FUNCTIONS[name](*passed))
         detail, report = divmod(answer, DETAIL_UNIT)
         if report == 0:
-            written = [one.elements() for one in lists if one.parameter.written]
+            written = [lists[parameter.name].elements() for parameter, _ in given if parameter.written]
     finally:
-        for one in lists:
+        for one in lists.values():
             one.view.release()
     if report == 0:
         return detail, written

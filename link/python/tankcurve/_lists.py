@@ -18,10 +18,10 @@ from typing import (
     overload,
 )
 
-from ._call import New, Refused, call
+from ._call import Answer, Refused, call
 from ._header import MAX_SHEET, Report
 
-__all__ = ["Lent", "Numbers", "Rows", "Source", "call_with_sheet", "lent", "length", "part"]
+__all__ = ["Lent", "Numbers", "Rows", "Source", "call_with_sheet", "lent", "part"]
 
 
 class Numbers(Protocol):
@@ -38,14 +38,9 @@ class Numbers(Protocol):
 Lent = Any
 
 
-def length(numbers: Numbers) -> int:
-    """How many there are; of what has no length none, which the call's own check refuses."""
-    return len(numbers) if hasattr(numbers, "__len__") else 0
-
-
-def lent(numbers: Optional[Lent], count: int) -> Any:
-    """The lent list, or a new one of so many elements."""
-    return New(count) if numbers is None else numbers
+def lent(numbers: Optional[Lent], each: int, *of: str) -> Answer:
+    """The lent list, or a new one, of so many elements for each of a list, or for each pair of two."""
+    return Answer(numbers, each, of)
 
 
 def part(name: str, numbers: Numbers, left: int, right: int) -> Numbers:

@@ -5,7 +5,7 @@ from typing import NamedTuple, Optional
 
 from ._call import call
 from ._header import MAX_POINTS, MAX_SAMPLES, RANGE_COUNTS_LEN, RANGE_ROW_LEN, Kind
-from ._lists import Lent, Numbers, Rows, Source, call_with_sheet, lent, length
+from ._lists import Lent, Numbers, Rows, Source, call_with_sheet, lent
 
 __all__ = ["RangeCounts", "RangeRow", "RangeSheet", "RangeSmoothed", "read_ranges", "smooth_ranges"]
 
@@ -80,7 +80,7 @@ def smooth_ranges(
     True
     """
     passes, (numbers,) = call(
-        "smooth_ranges", minutes, lows, highs, points, bandwidths, lent(rows, RANGE_ROW_LEN * length(points))
+        "smooth_ranges", minutes, lows, highs, points, bandwidths, lent(rows, RANGE_ROW_LEN, "points")
     )
     return RangeSmoothed(Rows(numbers, _range_row, RANGE_ROW_LEN), passes)
 
