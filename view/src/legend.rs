@@ -1,4 +1,4 @@
-//! What stands above a picture: the legend and the notes, in lines that fit.
+//! What stands above a picture: the title, the legend and the notes, in lines that fit.
 
 use crate::style::{self, TANKS};
 use crate::svg::{Anchor, Svg};
@@ -25,24 +25,34 @@ pub enum Symbol {
     Parting,
 }
 
-/// The legend and the notes with their places.
+/// The title, the legend and the notes with their places.
 pub struct Head {
+    title: Vec<(f64, String)>,
     entries: Vec<(f64, f64, Entry)>,
     notes: Vec<(f64, String)>,
     pub height: f64,
 }
 
 const SYMBOL: f64 = 44.0;
-/// How wide a letter is taken to be: more than most fonts need.
-const LETTER: f64 = 9.0;
-const NOTE_LETTER: f64 = 8.7;
+/// The sizes of letters.
+const TITLE: f64 = 22.0;
+const ENTRY: f64 = 16.0;
+const NOTE: f64 = 15.0;
+/// How much wider bold letters are.
+const BOLD: f64 = 1.13;
 
-/// Puts the entries side by side and the notes below, each in as many lines as it needs.
-pub fn lay_out(entries: &[Entry], notes: &[String], width: f64) -> Head {
+/// Puts the entries side by side below the title and the notes below these, each in as many lines as it needs.
+pub fn lay_out(title: &str, entries: &[Entry], notes: &[String], width: f64) -> Head {
+    let mut y = 36.0;
+    let mut titles = Vec::new();
+    for line in wrapped(title, width / (TITLE * BOLD), "") {
+        titles.push((y, line));
+        y += 30.0;
+    }
     let mut placed = Vec::new();
-    let (mut x, mut y) = (0.0, 66.0);
+    let mut x = 0.0;
     for entry in entries {
-        let wide = SYMBOL + LETTER * entry.words.chars().count() as f64;
+        let wide = SYMBOL + ENTRY * width_of(&entry.words);
         if x > 0.0 && x + wide > width {
             (x, y) = (0.0, y + 26.0);
         }
@@ -51,36 +61,59 @@ pub fn lay_out(entries: &[Entry], notes: &[String], width: f64) -> Head {
     }
     y += 4.0;
     let mut lines = Vec::new();
-    let most = (width / NOTE_LETTER) as usize;
     for note in notes {
-        for line in wrapped(note, most) {
+        for line in wrapped(note, width / NOTE, "\u{a0}\u{a0}\u{a0} ") {
             y += 22.0;
             lines.push((y, line));
         }
     }
     Head {
+        title: titles,
         entries: placed,
         notes: lines,
         height: y + 10.0,
     }
 }
 
-/// Lines of at most so many letters, the later ones indented; a longer word stays whole.
-fn wrapped(text: &str, most: usize) -> Vec<String> {
+/// How wide a text is taken to be, in sizes of its letters: of ASCII at least as wide as in DejaVu Sans, the first font that a picture names.
+fn width_of(text: &str) -> f64 {
+    text.chars().map(letter_width).sum()
+}
+
+fn letter_width(letter: char) -> f64 {
+    match letter {
+        '%' => 1.08,
+        'M' | 'W' | 'm' | 'w' | '@' => 1.0,
+        '\u{a0}' => 0.46,
+        'µ' => 0.66,
+        _ if " !'(),-./:;IJ[]fijlrt|".contains(letter) => 0.46,
+        'A'..='Z' | '#' | '&' | '+' | '<' | '=' | '>' | '^' | '~' => 0.84,
+        '!'..='~' => 0.65,
+        _ => 1.0,
+    }
+}
+
+/// Lines of at most this width, in sizes of their letters, the later ones indented; a word that no line holds is cut.
+fn wrapped(text: &str, most: f64, indent: &str) -> Vec<String> {
     let mut lines = Vec::new();
     let mut line = String::new();
+    // where the line's words begin
+    let mut start = 0;
     for word in text.split(' ') {
-        let length = line.chars().count() + 1 + word.chars().count();
-        if !line.is_empty() && length > most {
-            lines.push(std::mem::replace(
-                &mut line,
-                "\u{a0}\u{a0}\u{a0}".to_string(),
-            ));
+        if line.len() > start && width_of(&line) + width_of(" ") + width_of(word) > most {
+            lines.push(std::mem::replace(&mut line, indent.to_string()));
+            start = indent.len();
         }
-        if !line.is_empty() {
+        if line.len() > start {
             line.push(' ');
         }
-        line.push_str(word);
+        for letter in word.chars() {
+            if line.len() > start && width_of(&line) + letter_width(letter) > most {
+                lines.push(std::mem::replace(&mut line, indent.to_string()));
+                start = indent.len();
+            }
+            line.push(letter);
+        }
     }
     lines.push(line);
     lines
@@ -95,7 +128,11 @@ pub fn shortened(name: &str) -> String {
 }
 
 pub fn draw(svg: &mut Svg, head: &Head, side: f64) {
-    svg.group("font-size=\"16\"");
+    for (y, line) in &head.title {
+        let bold = format!("font-size=\"{TITLE}\" font-weight=\"bold\"");
+        svg.text((side, *y), Anchor::Start, &bold, line);
+    }
+    svg.group(&format!("font-size=\"{ENTRY}\""));
     for (x, y, entry) in &head.entries {
         svg.text(
             (side + x + SYMBOL - 6.0, *y),
@@ -108,7 +145,7 @@ pub fn draw(svg: &mut Svg, head: &Head, side: f64) {
     for (x, y, entry) in &head.entries {
         draw_symbol(svg, entry.symbol, (side + x, y - 6.0));
     }
-    svg.group("font-size=\"15\" fill=\"#333333\"");
+    svg.group(&format!("font-size=\"{NOTE}\" fill=\"#333333\""));
     for (y, line) in &head.notes {
         svg.text((side, *y), Anchor::Start, "", line);
     }
@@ -167,12 +204,75 @@ mod tests {
 
     #[test]
     fn lines_fit() {
-        assert_eq!(wrapped("a bc def", 5), ["a bc", "\u{a0}\u{a0}\u{a0} def"]);
-        assert_eq!(wrapped("abcdefgh", 5), ["abcdefgh"]);
+        assert_eq!(wrapped("a bc def", 3.0, "- "), ["a bc", "- def"]);
+        assert_eq!(wrapped("abcdefgh i", 3.5, ""), ["abcde", "fgh i"]);
+        assert_eq!(wrapped("WW a", 0.5, ""), ["W", "W", "a"]);
+        assert_eq!(wrapped("", 5.0, "- "), [""]);
+        for text in [
+            "µ".repeat(300),
+            "LAGER ".repeat(50),
+            "Tank 7, März".repeat(30),
+        ] {
+            let lines = wrapped(&text, 40.0, "> ");
+            assert!(lines.iter().all(|line| width_of(line) <= 40.0));
+            let letters = |text: &str| text.replace(['>', ' '], "");
+            assert_eq!(letters(&lines.concat()), letters(&text));
+        }
         assert_eq!(
             shortened("µ".repeat(40).as_str()),
             format!("{}…", "µ".repeat(36))
         );
         assert_eq!(shortened("even-fall"), "even-fall");
+    }
+
+    /// Names of wide letters: nothing is wider than the picture, and no entry reaches the next.
+    #[test]
+    fn long_names_fit() {
+        let (width, names) = (920.0, ["W".repeat(60), "LAGER WEST 12 ".repeat(4)]);
+        let names = names.map(|name| shortened(&name));
+        let words = [&names[0], &names[1], "dropped: injection 1 or 2", "curve"];
+        let entries = words.map(|words| Entry {
+            symbol: Symbol::Dropped,
+            words: words.to_string(),
+        });
+        let notes = [format!("{}: {}", "W".repeat(200), names[1])];
+        let head = lay_out(&names.join(" and "), &entries, &notes, width);
+        assert_eq!(head.title.len(), 2);
+        let bold = |(_, line): &(f64, String)| BOLD * TITLE * width_of(line) <= width;
+        assert!(head.title.iter().all(bold));
+        assert!(head.notes.len() > 3);
+        let note = |(_, line): &(f64, String)| NOTE * width_of(line) <= width;
+        assert!(head.notes.iter().all(note));
+        let end = |x: f64, entry: &Entry| x + SYMBOL + ENTRY * width_of(&entry.words);
+        assert!(head
+            .entries
+            .iter()
+            .all(|(x, _, entry)| end(*x, entry) <= width));
+        for pair in head.entries.windows(2) {
+            let ((x, y, entry), (next, line, _)) = (&pair[0], &pair[1]);
+            assert!(line > y || next > &end(*x, entry));
+        }
+        // one below the other
+        let mut places: Vec<f64> = head.title.iter().map(|(y, _)| *y).collect();
+        places.extend(head.entries.iter().map(|(_, y, _)| *y));
+        places.extend(head.notes.iter().map(|(y, _)| *y));
+        places.dedup();
+        assert!(places.windows(2).all(|pair| pair[1] >= pair[0] + 20.0));
+        assert!(head.height >= places[places.len() - 1]);
+    }
+
+    /// As wide as in DejaVu Sans, or wider.
+    #[test]
+    fn letters_are_not_wider() {
+        for (text, width) in [
+            ("WMmw@", 4.65),
+            ("OQDGN", 3.87),
+            ("bdpq0579", 5.09),
+            ("+=<>", 3.36),
+            ("rt-:;/ ", 2.50),
+            ("µ%", 1.59),
+        ] {
+            assert!(width_of(text) >= width, "{text}");
+        }
     }
 }

@@ -74,7 +74,12 @@ pub fn draw(scene: &Scene) -> String {
         .map(|plotted| legend::shortened(&plotted.title))
         .collect();
     let title = titles.join(" and ");
-    let head = legend::lay_out(&entries(scene, &titles), &scene.notes, WIDTH - 2.0 * SIDE);
+    let head = legend::lay_out(
+        &title,
+        &entries(scene, &titles),
+        &scene.notes,
+        WIDTH - 2.0 * SIDE,
+    );
     let (x, y) = axes(scene);
     let plot = Plot {
         top: head.height + 30.0,
@@ -86,12 +91,6 @@ pub fn draw(scene: &Scene) -> String {
         plot.bottom() + 62.0,
         &format!("Tank curve: {title}"),
         &scene.notes.join(". "),
-    );
-    svg.text(
-        (SIDE, 36.0),
-        Anchor::Start,
-        "font-size=\"22\" font-weight=\"bold\"",
-        &title,
     );
     legend::draw(&mut svg, &head, SIDE);
     if let Some(window) = &scene.window {
@@ -284,17 +283,21 @@ fn entries(scene: &Scene, titles: &[String]) -> Vec<Entry> {
         .tanks
         .iter()
         .any(|plotted| plotted.tank.kind == Kind::Ranges);
+    let samples = || scene.tanks.iter().flat_map(|plotted| &plotted.tank.samples);
+    let kept = || samples().filter(|sample| sample.kept);
     match titles {
         [_] => {
-            add(
-                Symbol::Sample(0, ranges),
-                if ranges {
-                    "reading, from low to high"
-                } else {
-                    "reading"
-                }
-                .to_string(),
-            );
+            // a range of one value is drawn as a plain reading
+            let one_value = kept().any(|sample| sample.low == sample.high);
+            if one_value || !ranges {
+                add(Symbol::Sample(0, false), "reading".to_string());
+            }
+            if ranges && (!one_value || kept().any(|sample| sample.low < sample.high)) {
+                add(
+                    Symbol::Sample(0, true),
+                    "reading, from low to high".to_string(),
+                );
+            }
             add(Symbol::Curve(0, ranges), "curve".to_string());
         }
         _ => {
@@ -303,8 +306,7 @@ fn entries(scene: &Scene, titles: &[String]) -> Vec<Entry> {
             }
         }
     }
-    let mut samples = scene.tanks.iter().flat_map(|plotted| &plotted.tank.samples);
-    if samples.any(|sample| !sample.kept) {
+    if samples().any(|sample| !sample.kept) {
         add(Symbol::Dropped, "dropped: injection 1 or 2".to_string());
     }
     if scene

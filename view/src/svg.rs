@@ -21,12 +21,16 @@ pub enum Anchor {
 impl Svg {
     pub fn new(width: f64, height: f64, title: &str, description: &str) -> Svg {
         let (width, height) = (short(width), short(height));
-        let (title, description) = (escaped(title), escaped(description));
+        let title = escaped(title);
+        let description = match description {
+            "" => String::new(),
+            words => format!("<desc>{}</desc>\n", escaped(words)),
+        };
         Svg {
             text: format!(
                 "<svg xmlns=\"http://www.w3.org/2000/svg\" viewBox=\"0 0 {width} {height}\" width=\"{width}\" height=\"{height}\" \
                  font-family=\"DejaVu Sans, Verdana, Arial, sans-serif\" role=\"img\">\n\
-                 <title>{title}</title>\n<desc>{description}</desc>\n\
+                 <title>{title}</title>\n{description}\
                  <rect width=\"{width}\" height=\"{height}\" fill=\"#ffffff\"/>\n"
             ),
         }

@@ -255,5 +255,46 @@ fn a_sheet_with_ranges() {
         ),
         (1, 2)
     );
-    assert!(picture.contains(">reading, from low to high<"));
+    assert!(picture.contains(">reading<") && picture.contains(">reading, from low to high<"));
+}
+
+/// The legend has just the kinds of readings that are drawn.
+#[test]
+fn the_legend_of_ranges() {
+    for (readings, dots, bars) in [
+        ("10,3,0,40\n", false, true),
+        ("10,3,40,40\n", true, false),
+        ("10,3,40,40\n11,1,0,40\n", true, false),
+        ("10,3,0,40\n11,3,40,40\n", true, true),
+        ("", false, true),
+    ] {
+        let sheet = format!("mark,half\n20,10\n\nminute,inj,low,high\n{readings}");
+        let picture = picture("legend", &[], sheet.as_bytes());
+        let has = |words: &str| picture.contains(words);
+        assert_eq!(
+            (has(">reading<"), has(">reading, from low to high<")),
+            (dots, bars),
+            "{readings}"
+        );
+    }
+}
+
+/// Two long names in capitals: the title takes two lines, and everything stays within the picture.
+#[test]
+fn long_names() {
+    let folder = folder("long-names");
+    let names = [
+        "LAGERKELLER WEST TANK 12",
+        "LAGERKELLER OST TANK 13 MAERZ 2026",
+    ];
+    let sheets = names.map(|name| folder.join(format!("{name}.sheet")));
+    for sheet in &sheets {
+        fs::copy(run::root().join("examples/even-fall.sheet"), sheet).unwrap();
+    }
+    let [first, second] = sheets.map(|sheet| sheet.to_str().unwrap().to_string());
+    let picture = picture("long", &["--limit", "945", &first, &second], b"");
+    assert_eq!(picture.matches("font-weight=\"bold\"").count(), 2);
+    for place in places(&picture) {
+        assert!((0.0..=960.0).contains(&place), "{place}");
+    }
 }
