@@ -18,7 +18,7 @@ use Rattle.cuts.specs.Cuts.{CutsTried}
 use Rattle.cells.specs.Cells.{Fitting, CellsTried}
 use Rattle.windows.specs.Windows.{WindowsTried}
 use Rattle.windows.proofs.Storing.{window-begins-with, window-ends-before}
-use Rattle.boxes.specs.Filling.{CellsOf, StripsOf, StripsReady, BoxesByStrips, CutsOf, CutsReady, BoxesByCuts, Judged, Accepted, Filled}
+use Rattle.boxes.specs.Filling.{CellsOf, StripsOf, BoxesByStrips, CutsOf, BoxesByCuts, Judged, Accepted, Filled}
 
 -- The strips of a direction's windows, by its cuts.
 strips-of : (A : Axis) (ds : List ℕ) (p : ℕ) → CutsOf (A .points) (A .bandwidths) (A .widest + 1) ds p → (fs₀ es₀ : List ℕ) → length fs₀ ≡ 32
@@ -34,26 +34,15 @@ strips-of A ds p c fs₀ es₀ a b {fs} {es} t =
       end = window-ends-before A ds p (c .ranked) (c .room) w;
     }
 
-module _ {zs hs ds : List ℕ} {p : ℕ} {ys ks os : List ℕ} {q : ℕ} {cs ss bs : List ℕ} (R : CutsReady zs hs ds p ys ks os q cs ss bs)
-    {fs₀ es₀ ls₀ gs₀ : List ℕ} (a : length fs₀ ≡ 32) (b : length es₀ ≡ 32) (c : length ls₀ ≡ 32) (d : length gs₀ ≡ 32) {fs es ls gs : List ℕ}
-    (W : WindowsTried zs hs 65537 ds p fs₀ es₀ fs es) (O : WindowsTried ys ks 257 os q ls₀ gs₀ ls gs) where
-  pub strips-ready : StripsReady fs es (length zs) ls gs (length ys) cs ss bs
-  strips-ready = record {
-    minutes = minute-axis (R .minutes) zs hs;
-    temperatures = temperature-axis (R .temperatures) ys ks;
-    values = R .values;
-    readings = R .readings;
-    cells = R .cells;
-    strips = strips-of (minute-axis (R .minutes) zs hs) ds p (R .cuts) fs₀ es₀ a b W;
-    others = strips-of (temperature-axis (R .temperatures) ys ks) os q (R .others) ls₀ gs₀ c d O;
-    room = R .room;
-  }
-
-  pub boxes-by-cuts : (bs′ : List ℕ) → BoxesByStrips fs es (length zs) ls gs (length ys) cs ss bs′ → BoxesByCuts zs hs ys ks cs ss bs′
-  boxes-by-cuts bs′ t = record {
-    boxes = λ ts us vs r C. t .boxes (minute-axis ts zs hs) (temperature-axis us ys ks) vs r C
-        (strips-of (minute-axis ts zs hs) ds p (R .cuts) fs₀ es₀ a b W)
-        (strips-of (temperature-axis us ys ks) os q (R .others) ls₀ gs₀ c d O);
+module _ {zs hs ds : List ℕ} {p : ℕ} {ys ks os : List ℕ} {q : ℕ} {fs₀ es₀ ls₀ gs₀ : List ℕ} (a : length fs₀ ≡ 32) (b : length es₀ ≡ 32)
+    (c : length ls₀ ≡ 32) (d : length gs₀ ≡ 32) {fs es ls gs : List ℕ} (W : WindowsTried zs hs 65537 ds p fs₀ es₀ fs es)
+    (O : WindowsTried ys ks 257 os q ls₀ gs₀ ls gs) where
+  pub boxes-by-cuts : {cs ss bs bs′ : List ℕ} → BoxesByStrips fs es (length zs) ls gs (length ys) cs ss bs bs′
+      → BoxesByCuts zs hs ds p ys ks os q cs ss bs bs′
+  boxes-by-cuts t = record {
+    boxes = λ P Q room ts us vs r C. t .boxes room (minute-axis ts zs hs) (temperature-axis us ys ks) vs r C
+        (strips-of (minute-axis ts zs hs) ds p P fs₀ es₀ a b W)
+        (strips-of (temperature-axis us ys ks) os q Q ls₀ gs₀ c d O);
   }
 
 -- The cuts of a direction that the call takes.
@@ -106,20 +95,12 @@ module _ {ts us vs zs hs ys ks bs cs ss : List ℕ} (A : Accepted ts us vs zs hs
       values = λ i. omega (arith, light i);
     }
 
-    pub cuts-ready : CutsReady zs hs ds p ys ks os q cs′ ss′ bs
-    cuts-ready = record {
-      minutes = ts;
-      temperatures = us;
-      values = vs;
-      readings = length ts;
-      cells = cells-of;
-      cuts = minute-cuts-of;
-      others = temperature-cuts-of;
-      room = A .accepted .places;
+    pub lists-filled : (bs′ : List ℕ) → BoxesByCuts zs hs ds p ys ks os q cs′ ss′ bs bs′ → Filled ts us vs zs hs ys ks bs′ cs′ ss′
+    lists-filled bs′ t = record {
+      boxes = t .boxes minute-cuts-of temperature-cuts-of (A .accepted .places) ts us vs (length ts) cells-of;
+      counts = filled-counts;
+      sums = filled-sums;
     }
-
-    pub lists-filled : (bs′ : List ℕ) → BoxesByCuts zs hs ys ks cs′ ss′ bs′ → Filled ts us vs zs hs ys ks bs′ cs′ ss′
-    lists-filled bs′ t = record { boxes = t .boxes ts us vs (length ts) cells-of; counts = filled-counts; sums = filled-sums }
 
 -- The call.
 module _ {ts us vs zs hs ys ks : List ℕ} (bs cs ss : List ℕ) {v : Verdict} (g : Judged ts us vs zs hs ys ks (length bs) (length cs) (length ss) v) where

@@ -29,19 +29,10 @@ pub record StripsOf (fs es : List ℕ) (n : ℕ) (A : Axis) : Type 0 where
   pub first : (k : ℕ) → k < n → getD fs k 0 ≡ first-strip A k
   pub end : (k : ℕ) → k < n → getD es k 0 ≡ end-strip A k
 
--- both directions' strips and the cells of some readings
-pub record StripsReady (fs es : List ℕ) (n : ℕ) (ls hs : List ℕ) (m : ℕ) (cs ss bs : List ℕ) : Type 0 where
-  pub minutes : Axis
-  pub temperatures : Axis
-  pub values : List ℕ
-  pub readings : ℕ
-  pub cells : CellsOf cs ss minutes temperatures values readings
-  pub strips : StripsOf fs es n minutes
-  pub others : StripsOf ls hs m temperatures
-  pub room : length bs ≡ 2 * n * m
-
-pub record BoxesByStrips (fs es : List ℕ) (n : ℕ) (ls hs : List ℕ) (m : ℕ) (cs ss bs : List ℕ) : Type 0 where
-  pub boxes : (A B : Axis) (vs : List ℕ) (r : ℕ) → CellsOf cs ss A B vs r → StripsOf fs es n A → StripsOf ls hs m B → bs ≡ box-list A B vs r
+-- boxes by the strips of both directions, in a list that was bs₀ and has room for them
+pub record BoxesByStrips (fs es : List ℕ) (n : ℕ) (ls hs : List ℕ) (m : ℕ) (cs ss bs₀ bs : List ℕ) : Type 0 where
+  pub boxes : length bs₀ ≡ 2 * n * m → (A B : Axis) (vs : List ℕ) (r : ℕ) → CellsOf cs ss A B vs r → StripsOf fs es n A → StripsOf ls hs m B
+      → bs ≡ box-list A B vs r
 
 -- a direction's marks with half widths and its ranked cuts
 pub record CutsOf (zs hs : List ℕ) (s : ℕ) (ds : List ℕ) (p : ℕ) : Type 0 where
@@ -50,20 +41,10 @@ pub record CutsOf (zs hs : List ℕ) (s : ℕ) (ds : List ℕ) (p : ℕ) : Type 
   pub room : p ≤ length ds
   pub ranked : Ranked (cuts-to s zs hs (length zs)) ds p
 
--- both directions' cuts and the cells of some readings
-pub record CutsReady (zs hs ds : List ℕ) (p : ℕ) (ys ks os : List ℕ) (q : ℕ) (cs ss bs : List ℕ) : Type 0 where
-  pub minutes : List ℕ
-  pub temperatures : List ℕ
-  pub values : List ℕ
-  pub readings : ℕ
-  pub cells : CellsOf cs ss (minute-axis minutes zs hs) (temperature-axis temperatures ys ks) values readings
-  pub cuts : CutsOf zs hs 65537 ds p
-  pub others : CutsOf ys ks 257 os q
-  pub room : length bs ≡ 2 * length zs * length ys
-
-pub record BoxesByCuts (zs hs ys ks cs ss bs : List ℕ) : Type 0 where
-  pub boxes : (ts us vs : List ℕ) (r : ℕ) → CellsOf cs ss (minute-axis ts zs hs) (temperature-axis us ys ks) vs r
-      → bs ≡ box-list (minute-axis ts zs hs) (temperature-axis us ys ks) vs r
+-- boxes by the cuts of both directions
+pub record BoxesByCuts (zs hs ds : List ℕ) (p : ℕ) (ys ks os : List ℕ) (q : ℕ) (cs ss bs₀ bs : List ℕ) : Type 0 where
+  pub boxes : CutsOf zs hs 65537 ds p → CutsOf ys ks 257 os q → length bs₀ ≡ 2 * length zs * length ys → (ts us vs : List ℕ) (r : ℕ)
+      → CellsOf cs ss (minute-axis ts zs hs) (temperature-axis us ys ks) vs r → bs ≡ box-list (minute-axis ts zs hs) (temperature-axis us ys ks) vs r
 
 -- v is what the call is refused for, with lists of b boxes, c counts and s sums
 pub record Judged (ts us vs zs hs ys ks : List ℕ) (b c s : ℕ) (v : Verdict) : Type 0 where

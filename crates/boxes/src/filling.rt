@@ -1,13 +1,13 @@
 // From lists that no check refuses: cuts and cells, then windows, then tables and boxes. Each function has lists of its own on the stack: 64 + 64
 // cuts, 4 × 32 strips, and two tables of 66 × 66 numbers.
-use crate::pairs::put_boxes;
+use box_sums::put_boxes;
 use cells::fill_cells;
 use cumulative::accumulate;
 use cuts::minute_cuts;
 use cuts::temperature_cuts;
 use windows::minute_windows;
 use windows::temperature_windows;
-ghost use Rattle.boxes.specs.Filling.{StripsReady, BoxesByStrips, CutsReady, BoxesByCuts, Accepted, Filled};
+ghost use Rattle.boxes.specs.Filling.{BoxesByStrips, BoxesByCuts, Accepted, Filled};
 
 // Boxes by the strips of both directions' windows, from tables over both lists of cells.
 pub(crate) fn put_by_strips(
@@ -21,8 +21,7 @@ pub(crate) fn put_by_strips(
     sums: &[u32],
     boxes: &mut [u64],
 )
-    requires { ⌜ StripsReady (now firsts) (now ends) n (now lows) (now highs) m (now counts) (now sums) (now boxes) ⌝ }
-    ensures { λ _. ⌜ BoxesByStrips (now (firsts .entry)) (now (ends .entry)) n (now (lows .entry)) (now (highs .entry)) m (now (counts .entry)) (now (sums .entry)) (now (boxes .exit)) ⌝ }
+    ensures { λ _. ⌜ BoxesByStrips (now (firsts .entry)) (now (ends .entry)) n (now (lows .entry)) (now (highs .entry)) m (now (counts .entry)) (now (sums .entry)) (now (boxes .entry)) (now (boxes .exit)) ⌝ }
 {
     let mut count_table = [0u64; 4356];
     let mut sum_table = [0u64; 4356];
@@ -55,8 +54,7 @@ pub(crate) fn put_by_cuts(
     sums: &[u32],
     boxes: &mut [u64],
 )
-    requires { ⌜ CutsReady (now points) (now bandwidths) (now cuts) n (now «temperature_points») (now «temperature_bandwidths») (now «temperature_cuts») m (now counts) (now sums) (now boxes) ⌝ }
-    ensures { λ _. ⌜ BoxesByCuts (now (points .entry)) (now (bandwidths .entry)) (now («temperature_points» .entry)) (now («temperature_bandwidths» .entry)) (now (counts .entry)) (now (sums .entry)) (now (boxes .exit)) ⌝ }
+    ensures { λ _. ⌜ BoxesByCuts (now (points .entry)) (now (bandwidths .entry)) (now (cuts .entry)) n (now («temperature_points» .entry)) (now («temperature_bandwidths» .entry)) (now («temperature_cuts» .entry)) m (now (counts .entry)) (now (sums .entry)) (now (boxes .entry)) (now (boxes .exit)) ⌝ }
 {
     let mut firsts = [0usize; 32];
     let mut ends = [0usize; 32];

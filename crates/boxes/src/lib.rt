@@ -1,6 +1,5 @@
 // Minute and temperature together: the cells that the cuts of both directions make, and count and value sum of every pair of marks.
 mod filling;
-mod pairs;
 
 use checks_boxes::box_fault;
 use meanings::Filling;

@@ -14,7 +14,7 @@ use Rattle.meanings.specs.Limits.{full, max-u16}
 use Rattle.meanings.specs.Lists.{AtMost}
 use Rattle.meanings.specs.Moves.{moves}
 use Rattle.meanings.specs.PublishedRow.{PublishedRow}
-use Rattle.meanings.specs.Reports.{Fault, Answer, given, refused, curve-checks}
+use Rattle.meanings.specs.Reports.{Answer, given, refused, curve-checks}
 use Rattle.meanings.specs.Estimate.{estimate}
 use Rattle.meanings.specs.Running.{fresh, passes}
 use Rattle.meanings.specs.EventLog.{empty-log, log-after, insertion-count, eviction-count}
@@ -26,7 +26,6 @@ use Rattle.meanings.proofs.Search.{lowest-none, lowest-some}
 use Rattle.meanings.proofs.Steps.{Small}
 use Rattle.meanings.proofs.SmoothLog.{curve-passes}
 use Rattle.meanings.proofs.SmoothSteps.{CurveAccepted, curve-accepts}
-use Rattle.meanings_limit.specs.declared.Crossing.{Crossing}
 use Rattle.meanings_limit.specs.Threshold.{low-enough}
 use Rattle.meanings_limit.specs.Crossing.{Located, crossing-answer, low-at, first-low, steps-to, located}
 use Rattle.meanings_limit.specs.Crossing.{crossing-refusal, first-at-most, reach}
@@ -35,8 +34,8 @@ use Rattle.meanings_limit.proofs.Passes.{passes-to-point}
 use Rattle.meanings_limit.proofs.Values.{values-behind-do-not-count}
 use Rattle.abi_answers.specs.Answers.{sized, stored}
 use Rattle.abi_answers.specs.Positions.{no-position, position-numbers, position-of}
-use Rattle.crossing.proofs.first_at_most.Met as first-at-most-met
-use Rattle.abi_crossing.proofs.tankcurve_first_at_most.Met as exported-met
+use Rattle.crossing.proofs.first_at_most.Statement as first-at-most-code
+use Rattle.abi_crossing.proofs.tankcurve_first_at_most.Statement as exported-first-at-most-code
 use Rattle.demands.specs.Conditions.{RefusedExactly, FirstFault, length-first, code-refusal}
 use Rattle.demands.specs.Crossing.{crossing-conditions, LowEnough, FirstLow, Crossings}
 use Rattle.demands.proofs.CallChecks.{curve-finds, always-fits}
@@ -147,11 +146,11 @@ module _ (ts vs zs hs : List ℕ) (limit : ℕ) where
       let few : length zs ≤ 512 = a .few-points in
       rw (ne-eqb k no-position (λ (z : k ≡ no-position). omega arith))
 
-pub crossings : Crossings
-crossings = record {
-  first-at-most-ends = first-at-most-met.met;
+pub crossings : ((M : Type 1) → first-at-most-code.statement M) → ((M : Type 1) → exported-first-at-most-code.statement M) → Crossings
+crossings first-at-most-ends exported-ends = record {
+  first-at-most-ends = first-at-most-ends _;
   first-at-most-asks-nothing = λ κs a. tt;
-  exported-ends = exported-met.met;
+  exported-ends = exported-ends _;
   exported-asks-nothing = λ κs a. tt;
   refused = λ ts vs zs hs limit a c. exactly ts vs zs hs limit (crossing-answer a) (c .ensured);
   reached = λ ts vs zs hs limit k n minutes values c.

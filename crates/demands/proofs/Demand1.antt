@@ -1,17 +1,16 @@
 -- Demand 1. A call's contract equates its answer with the call's meaning, whose list of checks finds just the listed conditions; each lent list
--- at exit is what it was wherever that list finds one. That the code ends on every input is the proof of each function itself.
+-- at exit is what it was wherever that list finds one. That the code ends on every input stands in crates/demands_hold.
 use Prim.Native.Nat.{ℕ, _+_}
 use mathlib.Core.Path.{_≡_, refl, sym, ap, _∙_}
-use mathlib.Core.List.{List, [], _∷_, _++_}
+use mathlib.Core.List.{List, [], _++_}
 use mathlib.Core.Option.{Option}
 use native.Mathlib.Omega.{arith}
 use denote.Ref.{RefT}
-use lib.ListN.{length, getD, drop, replicate}
+use lib.ListN.{length, getD, take, drop, replicate}
 use Rattle.meanings.specs.declared.Estimate.{Estimate}
 use Rattle.meanings.specs.declared.RunningSums.{RunningSums}
 use Rattle.meanings.specs.declared.Evaluation.{Evaluation}
 use Rattle.meanings.specs.declared.Advance.{Advance}
-use Rattle.meanings.specs.declared.Smoothing.{Smoothing}
 use Rattle.meanings.specs.declared.Filling.{Filling}
 use Rattle.meanings.specs.declared.Parsing.{Parsing}
 use Rattle.meanings.specs.declared.Writing.{Writing}
@@ -27,7 +26,7 @@ use Rattle.meanings.specs.Claim.{refusal}
 use Rattle.meanings.specs.Sheet.{or-next, read-sheet}
 use Rattle.meanings.specs.SheetForm.{Refused}
 use Rattle.meanings.specs.Output.{refusal-text}
-use Rattle.meanings.specs.Calls.{evaluation-answer, advance-answer, smoothing-answer, filling-answer, parsing-answer, writing-answer, evaluate, window}
+use Rattle.meanings.specs.Calls.{evaluation-answer, advance-answer, filling-answer, parsing-answer, writing-answer, evaluate, window}
 use Rattle.meanings.specs.Calls.{window-start, smooth, smooth-rows, fill, fill-points, fill-bandwidths, read, counts}
 use Rattle.meanings.specs.Calls.{write-refusal-text, refusal-buffer}
 use Rattle.meanings.specs.Codes.{answered, no-detail}
@@ -35,30 +34,9 @@ use Rattle.meanings_ranges.specs.RangeSheet.{read-either}
 use Rattle.meanings_ranges.specs.RangeOutput.{write-either, write-either-buffer}
 use Rattle.laws_range_form.specs.RangeForm.{EitherRefused}
 use Rattle.abi_answers.specs.Answers.{sized, bounds, count-numbers, record-numbers, record-of, record-length}
-use Rattle.estimator.proofs.evaluate.Met as evaluate-met
-use Rattle.estimator.proofs.window.Met as window-met
-use Rattle.estimator.proofs.advance.Met as advance-met
-use Rattle.row.proofs.record_row.Met as record-row-met
-use Rattle.sweep.proofs.smooth.Met as smooth-met
-use Rattle.sweep.proofs.preview.Met as preview-met
-use Rattle.grid.proofs.fill_grid.Met as fill-grid-met
-use Rattle.sheet.proofs.read_sheet.Met as read-sheet-met
-use Rattle.text_sheet.proofs.curve_text.Met as curve-text-met
-use Rattle.text_refusal.proofs.refusal_text.Met as refusal-text-met
-use Rattle.abi_point.proofs.tankcurve_evaluate.Met as exported-evaluate-met
-use Rattle.abi_point.proofs.tankcurve_window.Met as exported-window-met
-use Rattle.abi_record.proofs.tankcurve_advance.Met as exported-advance-met
-use Rattle.abi_record.proofs.tankcurve_row.Met as exported-record-row-met
-use Rattle.abi_sweep.proofs.tankcurve_smooth.Met as exported-smooth-met
-use Rattle.abi_sweep.proofs.tankcurve_preview.Met as exported-preview-met
-use Rattle.abi_sweep.proofs.tankcurve_fill.Met as exported-fill-met
-use Rattle.abi_sheet.proofs.tankcurve_read.Met as exported-read-met
-use Rattle.abi_text.proofs.tankcurve_text.Met as exported-text-met
-use Rattle.abi_text.proofs.tankcurve_refusal_text.Met as exported-refusal-text-met
-use Rattle.abi_version.proofs.tankcurve_version.Met as exported-version-met
-use Rattle.demands.specs.Calls.{Place, EveryInputTaken, EvaluateCall, WindowCall, AdvanceCall, SmoothCall}
-use Rattle.demands.specs.Calls.{FillCall, ReadCall, TextCall, RefusalTextCall, ExportedEvaluate, ExportedWindow}
-use Rattle.demands.specs.Calls.{ExportedAdvance, ExportedRecordRow, ExportedSmooth, ExportedFill, ExportedRead, ExportedText}
+use Rattle.demands.specs.Calls.{Place, EvaluateCall, WindowCall, AdvanceCall}
+use Rattle.demands.specs.Calls.{FillCall, ReadCall, TextCall, OverCall, RefusalTextCall, ExportedEvaluate, ExportedWindow}
+use Rattle.demands.specs.Calls.{ExportedAdvance, ExportedRecordRow, ExportedFill, ExportedRead, ExportedText}
 use Rattle.demands.specs.Calls.{ExportedRefusalText}
 use Rattle.demands.specs.Conditions.{RefusedExactly, FirstFault, FirstOrElse, evaluate-conditions, advance-conditions}
 use Rattle.demands.specs.Conditions.{smooth-conditions, fill-conditions, read-conditions, buffer-conditions, length-first}
@@ -70,52 +48,6 @@ use Rattle.demands.proofs.Refusals.{decided-exactly, decided-stays, she
 use Rattle.demands.proofs.Refusals.{sized-is-checked, sized-sheet-is-checked, stored-stays, first-numbered, first-or-else-numbered}
 use Rattle.demands.proofs.Refusals.{record-row-exactly, exported-refusal, exported-stays, counts-refused, front-stays}
 use Rattle.demands.proofs.EitherSheets.{either-exactly, first-or-either-numbered, text-refusal, text-stays}
-
-pub every-input : EveryInputTaken
-every-input = record {
-  evaluate-ends = evaluate-met.met;
-  evaluate-asks-nothing = λ κs a. tt;
-  window-ends = window-met.met;
-  window-asks-nothing = λ κs a. tt;
-  advance-ends = advance-met.met;
-  advance-asks-nothing = λ κs a. tt;
-  record-row-ends = record-row-met.met;
-  record-row-asks-nothing = λ κs a. tt;
-  smooth-ends = smooth-met.met;
-  smooth-asks-nothing = λ κs a. tt;
-  preview-ends = preview-met.met;
-  preview-asks-nothing = λ κs a. tt;
-  fill-ends = fill-grid-met.met;
-  fill-asks-nothing = λ κs a. tt;
-  read-ends = read-sheet-met.met;
-  read-asks-nothing = λ κs a. tt;
-  text-ends = curve-text-met.met;
-  text-asks-nothing = λ κs a. tt;
-  refusal-text-ends = refusal-text-met.met;
-  refusal-text-asks-nothing = λ κs a. tt;
-  exported-evaluate-ends = exported-evaluate-met.met;
-  exported-evaluate-asks-nothing = λ κs a. tt;
-  exported-window-ends = exported-window-met.met;
-  exported-window-asks-nothing = λ κs a. tt;
-  exported-advance-ends = exported-advance-met.met;
-  exported-advance-asks-nothing = λ κs a. tt;
-  exported-record-row-ends = exported-record-row-met.met;
-  exported-record-row-asks-nothing = λ κs a. tt;
-  exported-smooth-ends = exported-smooth-met.met;
-  exported-smooth-asks-nothing = λ κs a. tt;
-  exported-preview-ends = exported-preview-met.met;
-  exported-preview-asks-nothing = λ κs a. tt;
-  exported-fill-ends = exported-fill-met.met;
-  exported-fill-asks-nothing = λ κs a. tt;
-  exported-read-ends = exported-read-met.met;
-  exported-read-asks-nothing = λ κs a. tt;
-  exported-text-ends = exported-text-met.met;
-  exported-text-asks-nothing = λ κs a. tt;
-  exported-refusal-text-ends = exported-refusal-text-met.met;
-  exported-refusal-text-asks-nothing = λ κs a. tt;
-  exported-version-ends = exported-version-met.met;
-  exported-version-asks-nothing = λ κs a. tt;
-}
 
 pub evaluate-refused : (ts vs : List ℕ) (z h : ℕ) (a : Evaluation) → EvaluateCall ts vs z h a
     → RefusedExactly (refusal (evaluation-answer a)) (FirstFault (evaluate-conditions ts vs h))
@@ -177,16 +109,25 @@ read-refused s ts vs zs hs a ts′ vs′ zs′ hs′ c =
           );
     }
 
-pub text-refused : (s out : List ℕ) (a : Writing) (out′ : List ℕ) → TextCall s out a out′
+-- a text of a sheet, whatever the buffer
+text-decided : (s out : List ℕ) (a : Writing) (out′ : List ℕ) → writing-answer a ≡ write-either s out → out′ ≡ write-either-buffer s out
     → RefusedAndStays (refusal (writing-answer a)) (FirstOrElse (buffer-conditions out) (EitherRefused full s)) (out′ ≡ out)
 unfolding write-either write-either-buffer
-text-refused s out a out′ c =
+text-decided s out a out′ answer text =
     let o = or-next (first-of (buffer-checks (length out))) (read-either full s) in
-    let same : refusal (writing-answer a) ≡ refusal o = ap refusal (c .ensured .0) ∙ text-refusal o in
+    let same : refusal (writing-answer a) ≡ refusal o = ap refusal answer ∙ text-refusal o in
     record {
       exactly = rw same (either-exactly (buffer-finds out) s);
-      stays = λ e q. c .ensured .1 ∙ text-stays o out e (sym same ∙ q);
+      stays = λ e q. text ∙ text-stays o out e (sym same ∙ q);
     }
+
+pub text-refused : (s out : List ℕ) (a : Writing) (out′ : List ℕ) → TextCall s out a out′
+    → RefusedAndStays (refusal (writing-answer a)) (FirstOrElse (buffer-conditions out) (EitherRefused full s)) (out′ ≡ out)
+text-refused s out a out′ c = text-decided s out a out′ (c .ensured .0) (c .ensured .1)
+
+pub text-over-refused : (buf : List ℕ) (n : ℕ) (a : Writing) (buf′ : List ℕ) → OverCall buf n a buf′
+    → RefusedAndStays (refusal (writing-answer a)) (FirstOrElse (buffer-conditions buf) (EitherRefused full (take n buf))) (buf′ ≡ buf)
+text-over-refused buf n a buf′ c = text-decided (take n buf) buf a buf′ (c .ensured .0) (c .ensured .1)
 
 pub refusal-text-refused : (n p : ℕ) (out : List ℕ) (a : Writing) (out′ : List ℕ) → RefusalTextCall n p out a out′
     → RefusedAndStays (refusal (writing-answer a)) (FirstFault (buffer-conditions out)) (out′ ≡ out)

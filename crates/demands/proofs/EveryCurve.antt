@@ -7,12 +7,10 @@ use mathlib.Core.Option.{none}
 use lib.ListN.{length, getD}
 use Rattle.meanings.specs.declared.Estimate.{Estimate}
 use Rattle.meanings.specs.declared.Limits.{Limits}
-use Rattle.meanings.specs.Limits.{full, preview, LimitsWithin, row-width}
+use Rattle.meanings.specs.Limits.{full, preview, LimitsWithin}
 use Rattle.meanings.specs.Reports.{Answer, given}
 use Rattle.meanings.specs.Estimate.{missing, estimate, fields}
-use Rattle.meanings.specs.Sheet.{Contents}
-use Rattle.meanings.specs.SheetForm.{IsSheet}
-use Rattle.meanings.specs.Calls.{evaluate, smooth, smooth-rows}
+use Rattle.meanings.specs.Calls.{smooth, smooth-rows}
 use Rattle.meanings.specs.Codes.{answered, no-detail}
 use Rattle.meanings.proofs.Checks.{same-limits, preview-within-full}
 use Rattle.meanings.proofs.SmoothRows.{smooth-row-is-evaluate}

@@ -1,21 +1,19 @@
 -- The preview's promises. By its contract a preview is the sweep under the preview's limits, which are at most the full ones: what is known of a
 -- sweep under such limits is known of it, and beside the full sweep it is an instance of the law of two pairs of limits.
 use Prim.Native.Nat.{ℕ, _*_}
-use mathlib.Core.Path.{_≡_, refl, sym, ap, _∙_}
+use mathlib.Core.Path.{_≡_, sym, ap, _∙_}
 use mathlib.Core.List.{List}
-use mathlib.Core.Option.{Option, none, some}
+use mathlib.Core.Option.{none, some}
 use native.Mathlib.Omega.{arith}
 use lib.ListN.{getD}
-use Rattle.meanings.specs.declared.Smoothing.{Smoothing}
 use Rattle.meanings.specs.Limits.{full, preview}
 use Rattle.meanings.specs.Reports.{Fault, Answer, given, refused}
 use Rattle.meanings.specs.Estimate.{estimate}
 use Rattle.meanings.specs.Claim.{refusal}
-use Rattle.meanings.specs.Calls.{smoothing-answer, smooth, smooth-rows}
+use Rattle.meanings.specs.Calls.{smoothing-answer, smooth}
 use Rattle.meanings.proofs.Checks.{preview-within-full}
 use Rattle.meanings.proofs.SmoothLog.{smooth-passes}
 use Rattle.meanings.proofs.SmoothRows.{smooth-row-is-evaluate}
-use Rattle.text.specs.Table.{stored-row}
 use Rattle.meanings.specs.Codes.{detail-unit, answered}
 use Rattle.laws_rows.specs.TwoLimits.{Over, OneSweep}
 use Rattle.laws_rows.proofs.TwoLimits.{preview-and-full}

@@ -39,7 +39,7 @@ use Rattle.laws_range_form.specs.RangeForm.{IsRangeSheet, EitherSheet, plain-sh
 use Rattle.laws_range_form.proofs.EitherForms.{form-is-read, refused-form-is-read, read-is-form, read-is-refused-form, never-both, one-report}
 use Rattle.text_sheet.specs.SheetText.{PlainAccepted}
 use Rattle.text_sheet.proofs.Texts.{accepted-as-plain}
-use Rattle.demands.specs.Calls.{TextCall, RefusalTextCall}
+use Rattle.demands.specs.Calls.{RefusalTextCall}
 use Rattle.demands.specs.Demands.{log-passes, Draws, Refuses, ProgramHolds}
 use Rattle.demands.proofs.EitherSheets.{either-program-front, plain-program}
 
@@ -130,14 +130,14 @@ refused-sheet : (s out out′ : List ℕ) (f : Fault) (o : Answer RangeContents)
 refused-sheet s out out′ f (given c) r a b = let z : _≡_ {A = ℕ} 0 1 = cc in absurd (omega arith)
 refused-sheet s out out′ f (refused e) r a b = let q : e ≡ f = cc in (program-goes-by s (refused e) r ∙ ap refusal-text q, b)
 
-by-refusal : (s out out′ out″ : List ℕ) (f : Fault) (a b : Writing) → length out ≡ max-output → TextCall s out a out′
-    → refusal (writing-answer a) ≡ some f → RefusalTextCall (f .number) (f .place) out′ b out″
+refusal-in-front : (s out out′ out″ : List ℕ) (f : Fault) (a b : Writing) → length out ≡ max-output → writing-answer a ≡ write-either s out
+    → out′ ≡ write-either-buffer s out → refusal (writing-answer a) ≡ some f → RefusalTextCall (f .number) (f .place) out′ b out″
     → (writing-answer b ≡ given (length (either-program s))) × (out″ ≡ either-program s ++ drop (length (either-program s)) out)
 unfolding write-either write-either-buffer write-refusal-text refusal-buffer
-by-refusal s out out′ out″ f a b l c q d =
+refusal-in-front s out out′ out″ f a b l answer text q d =
     let e = differ-same (length out) max-output l in
-    let t = rw e at (c .ensured .0) in
-    let r = refused-sheet s out out′ f (read-either full s) refl (sym (ap refusal t) ∙ q) (rw e at (c .ensured .1)) in
+    let t = rw e at answer in
+    let r = refused-sheet s out out′ f (read-either full s) refl (sym (ap refusal t) ∙ q) (rw e at text) in
     let m = differ-same (length out′) max-output (ap length (r .1) ∙ l) in
     rw (r .0, ← (r .1)) (rw m at (d .ensured .0), rw m at (d .ensured .1))
 
@@ -156,7 +156,9 @@ program-holds s = record {
   fits = either-program-fits s;
   plain-fits = plain-fits s;
   by-curve = λ out out′ k c. text-in-front s out k out′ (c .ensured .0) (c .ensured .1);
-  by-refusal = by-refusal s;
+  by-refusal = λ out out′ out″ f a b l c. refusal-in-front s out out′ out″ f a b l (c .ensured .0) (c .ensured .1);
+  by-curve-over = λ buf buf′ n k e c. text-in-front s buf k buf′ (rw e at (c .ensured .0)) (rw e at (c .ensured .1));
+  by-refusal-over = λ buf buf′ buf″ n f a b e l c. refusal-in-front s buf buf′ buf″ f a b l (rw e at (c .ensured .0)) (rw e at (c .ensured .1));
 }
   where
     by : (o : Answer RangeContents) → read-either full s ≡ o → ((c : RangeContents) × Draws s c) ⊎ ((n : ℕ) × ((p : ℕ) × Refuses s n p))

@@ -24,6 +24,7 @@ use Rattle.sweep.proofs.preview.Reads as preview
 use Rattle.grid.proofs.fill_grid.Reads as fill-grid
 use Rattle.sheet.proofs.read_sheet.Reads as read-sheet
 use Rattle.text_sheet.proofs.curve_text.Reads as curve-text
+use Rattle.text_over.proofs.curve_text_over.Reads as curve-text-over
 use Rattle.text_refusal.proofs.refusal_text.Reads as refusal-text
 use Rattle.abi_point.proofs.tankcurve_evaluate.Reads as exported-evaluate
 use Rattle.abi_point.proofs.tankcurve_window.Reads as exported-window
@@ -54,6 +55,8 @@ use Rattle.sheet.proofs.read_sheet.Kinds as read-sheet-kinds
 use Rattle.sheet.proofs.read_sheet.Statement as read-sheet-code
 use Rattle.text_sheet.proofs.curve_text.Kinds as curve-text-kinds
 use Rattle.text_sheet.proofs.curve_text.Statement as curve-text-code
+use Rattle.text_over.proofs.curve_text_over.Kinds as curve-text-over-kinds
+use Rattle.text_over.proofs.curve_text_over.Statement as curve-text-over-code
 use Rattle.text_refusal.proofs.refusal_text.Kinds as refusal-text-kinds
 use Rattle.text_refusal.proofs.refusal_text.Statement as refusal-text-code
 use Rattle.abi_point.proofs.tankcurve_evaluate.Kinds as exported-evaluate-kinds
@@ -161,6 +164,12 @@ pub record TextCall (s out : List ℕ) (a : Writing) (out′ : List ℕ) : Type 
   pub sheet-at : Place
   pub out-at : Place
   pub ensured : curve-text.Post lifetimes (lent sheet-at s, (lent out-at out, tt)) a (lent sheet-at s, (lent out-at out′, tt))
+
+-- the sheet is the buffer's first n bytes
+pub record OverCall (buf : List ℕ) (n : ℕ) (a : Writing) (buf′ : List ℕ) : Type 0 where
+  pub lifetimes : Lfts 1
+  pub buf-at : Place
+  pub ensured : curve-text-over.Post lifetimes (lent buf-at buf, (n, tt)) a (lent buf-at buf′, (n, tt))
 
 pub record RefusalTextCall (n p : ℕ) (out : List ℕ) (a : Writing) (out′ : List ℕ) : Type 0 where
   pub lifetimes : Lfts 1
@@ -291,6 +300,8 @@ pub record EveryInputTaken : Type 2 where
   pub read-asks-nothing : (κs : Lfts 5) (a : Dens κs read-sheet-kinds.ps) → read-sheet.Asked κs a
   pub text-ends : {M : Type 1} → curve-text-code.statement M
   pub text-asks-nothing : (κs : Lfts 2) (a : Dens κs curve-text-kinds.ps) → curve-text.Asked κs a
+  pub text-over-ends : {M : Type 1} → curve-text-over-code.statement M
+  pub text-over-asks-nothing : (κs : Lfts 1) (a : Dens κs curve-text-over-kinds.ps) → curve-text-over.Asked κs a
   pub refusal-text-ends : {M : Type 1} → refusal-text-code.statement M
   pub refusal-text-asks-nothing : (κs : Lfts 1) (a : Dens κs refusal-text-kinds.ps) → refusal-text.Asked κs a
   pub exported-evaluate-ends : {M : Type 1} → exported-evaluate-code.statement M

@@ -1,5 +1,5 @@
 -- What is promised: the three demands of docs/SPECIFICATION.md, "The three demands", about the program's bytes and about the calls that a
--- program makes. The theorem is `demands` of the crate's proofs/Demands.antt.
+-- program makes. The theorem is `demands` of crates/demands_hold/proofs/Demands.antt.
 -- A call is known by its contract alone: Calls.antt. When a call is refused stands in Conditions.antt of crates/demands_conditions, for a sheet in
 -- crates/meanings/specs/SheetForm.antt, for one of either kind in RangeForm.antt of crates/laws_range_form; what a published row is in PublishedRow.antt of the
 -- meanings, the step in Running.antt, the event log and the claim about a list of steps in EventLog.antt and Claim.antt, the texts in Output.antt and in
@@ -55,7 +55,7 @@ use Rattle.meanings.specs.Codes.{detail-unit}
 use Rattle.abi_answers.specs.Answers.{record-of, record-length}
 use Rattle.abi_version.specs.Version.{version}
 use Rattle.demands.specs.Calls.{Place, EveryInputTaken, EvaluateCall, WindowCall, AdvanceCall, RecordRowCall, SmoothCall, PreviewCall}
-use Rattle.demands.specs.Calls.{FillCall, ReadCall, TextCall, RefusalTextCall, ExportedEvaluate, ExportedWindow}
+use Rattle.demands.specs.Calls.{FillCall, ReadCall, TextCall, OverCall, RefusalTextCall, ExportedEvaluate, ExportedWindow}
 use Rattle.demands.specs.Calls.{ExportedAdvance, ExportedRecordRow, ExportedSmooth, ExportedPreview, ExportedFill, ExportedRead, ExportedText}
 use Rattle.demands.specs.Calls.{ExportedRefusalText, ExportedVersion}
 pub use Rattle.demands_conditions.specs.Conditions.{RefusedAndStays}
@@ -128,6 +128,12 @@ pub record ProgramHolds (s : List ℕ) : Type 0 where
   pub by-refusal : (out out′ out″ : List ℕ) (f : Fault) (a b : Writing) → length out ≡ max-output → TextCall s out a out′
       → refusal (writing-answer a) ≡ some f → RefusalTextCall (f .number) (f .place) out′ b out″
       → (writing-answer b ≡ given (length (either-program s))) × (out″ ≡ either-program s ++ drop (length (either-program s)) out)
+  -- and so does, in place of the first, the call that writes over its sheet, the front of the buffer: the program makes that one
+  pub by-curve-over : (buf buf′ : List ℕ) (n k : ℕ) → take n buf ≡ s → OverCall buf n (Written k) buf′
+      → (k ≡ length (either-program s)) × (buf′ ≡ either-program s ++ drop (length (either-program s)) buf)
+  pub by-refusal-over : (buf buf′ buf″ : List ℕ) (n : ℕ) (f : Fault) (a b : Writing) → take n buf ≡ s → length buf ≡ max-output → OverCall buf n a buf′
+      → refusal (writing-answer a) ≡ some f → RefusalTextCall (f .number) (f .place) buf′ b buf″
+      → (writing-answer b ≡ given (length (either-program s))) × (buf″ ≡ either-program s ++ drop (length (either-program s)) buf)
 
 -- ---------------------------------------------------------------------------------------------------------------------------------------
 -- Demand 1
@@ -160,6 +166,9 @@ pub record Demand1 : Type 2 where
   -- a sheet's text: the buffer's length, then the sheet
   pub text-refused : (s out : List ℕ) (a : Writing) (out′ : List ℕ) → TextCall s out a out′
       → RefusedAndStays (refusal (writing-answer a)) (FirstOrElse (buffer-conditions out) (EitherRefused full s)) (out′ ≡ out)
+  -- and over the sheet itself
+  pub text-over-refused : (buf : List ℕ) (n : ℕ) (a : Writing) (buf′ : List ℕ) → OverCall buf n a buf′
+      → RefusedAndStays (refusal (writing-answer a)) (FirstOrElse (buffer-conditions buf) (EitherRefused full (take n buf))) (buf′ ≡ buf)
   -- the text of a refusal: the buffer's length alone
   pub refusal-text-refused : (n p : ℕ) (out : List ℕ) (a : Writing) (out′ : List ℕ) → RefusalTextCall n p out a out′
       → RefusedAndStays (refusal (writing-answer a)) (FirstFault (buffer-conditions out)) (out′ ≡ out)

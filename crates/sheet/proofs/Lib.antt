@@ -1,5 +1,1 @@
-pub mod LastMinutes
-pub mod LineSteps
-pub mod SampleLoop
 pub mod Scans
-pub mod Stores

@@ -1,7 +1,7 @@
 -- The whole sheet's meaning, stage by stage, and the reader's from it.
 use Prim.Native.Nat.{ℕ, _≤_}
 use mathlib.Core.Path.{_≡_, sym, ap, _∙_}
-use mathlib.Core.Bool.{true, false}
+use mathlib.Core.Bool.{Bool, true, false}
 use mathlib.Core.List.{List}
 use native.Mathlib.Omega.{arith}
 use lib.ListN.{length}
@@ -24,9 +24,11 @@ use Rattle.sheet_front.specs.declared.points.FrontRead.{FrontRead}
 use Rattle.sheet_front.specs.declared.points.FrontRead.the-variants.{Points}
 use Rattle.sheet_front.specs.Stages.{front-read, FrontTold}
 use Rattle.sheet_front.proofs.Fronts.{told-front}
-use Rattle.sheet.specs.declared.samples.SamplesRead.{SamplesRead}
-use Rattle.sheet.specs.declared.samples.SamplesRead.the-variants.{Kept}
-use Rattle.sheet.specs.Stages.{SamplesFromHeader, sheet-read, Scanned, ReadInto}
+use Rattle.sheet_samples.specs.declared.SamplesRead.{SamplesRead}
+use Rattle.sheet_samples.specs.declared.SamplesRead.the-variants.{Kept}
+use Rattle.sheet_samples.specs.Stages.{SamplesTold}
+use Rattle.sheet_samples.proofs.SampleLoop.{told-samples}
+use Rattle.sheet.specs.Stages.{sheet-read, Scanned, ReadInto}
 
 -- the front of the sheet, read into lists of full length
 module _ {s zs hs : List ℕ} {m n : ℕ} {r : FrontRead} (told : FrontTold s m n r zs hs) (points : m ≡ 512) (bandwidths : n ≡ 512) where
@@ -38,14 +40,15 @@ module _ {s zs hs : List ℕ} {m n : ℕ} {r : FrontRead} (told : FrontTold s m 
   pub front-refused : {ts vs : List ℕ} {x : Refusal} → r ≡ FrontRead.Refused x → Scanned s (Parsing.Refused x) ts vs zs hs
   front-refused e = record { outcome = after-front ∙ rw e; within = tt }
 
-  module _ {c q : ℕ} {k : SamplesRead} {ts vs : List ℕ} (counted : r ≡ Points c q) (samples : SamplesFromHeader s q k ts vs) where
+  module _ {c q u v : ℕ} {k : SamplesRead} {ts vs : List ℕ} (counted : r ≡ Points c q) (samples : SamplesTold s q u v k ts vs) (minutes : u ≡ 1024)
+      (values : v ≡ 1024) where
     pub samples-refused : {x : Refusal} → k ≡ SamplesRead.Refused x → Scanned s (Parsing.Refused x) ts vs zs hs
-    samples-refused e = record { outcome = after-front ∙ rw counted (samples .outcome _ _ ∙ rw e); within = tt }
+    samples-refused e = record { outcome = after-front ∙ rw counted (told-samples samples minutes values _ _ ∙ rw e); within = tt }
 
     pub sheet-used : {i : ℕ} → k ≡ Kept i → Scanned s (Used i c) ts vs zs hs
     sheet-used e =
         record {
-          outcome = after-front ∙ rw counted (samples .outcome _ _ ∙ rw e);
+          outcome = after-front ∙ rw counted (told-samples samples minutes values _ _ ∙ rw e);
           within = (rw e at (samples .within), (rw counted at (told .within)) .0);
         }
 
@@ -82,9 +85,9 @@ module _ {s ts vs zs hs : List ℕ} {r : Parsing} (scanned : Scanned s r ts vs z
         record { answer = rw (o, kt, kz); minutes = rw (o, kt) fa; values = rw (o, kv) fb; points = rw (o, kz) fc; bandwidths = rw (o, kh) fd }
 
 -- the lengths of the lent lists, tested
-pub even-lengths : {a b c d : ℕ} → uneven-lists full a b c d ≡ false → (a ≡ 1024) × (b ≡ 1024) × (c ≡ 512) × (d ≡ 512)
-even-lengths {a} {b} {c} {d} e =
-    let o = or-false _ _ e in
+pub even-lengths : {x : Bool} {a b c d : ℕ} → x ≡ uneven-lists full a b c d → x ≡ false → (a ≡ 1024) × (b ≡ 1024) × (c ≡ 512) × (d ≡ 512)
+even-lengths {a = a} {b} {c} {d} t e =
+    let o = or-false _ _ (sym t ∙ e) in
     let p = or-false _ _ (o .0) in
     let q = or-false _ _ (p .0) in
     (differ-false a 1024 (q .0), differ-false b 1024 (q .1), differ-false c 512 (p .1), differ-false d 512 (o .1))
@@ -97,18 +100,17 @@ Answered s ts vs zs hs a ts′ vs′ zs′ hs′ =
     × ((vs′ ≡ read-values (read full s ts vs zs hs) vs)
     × ((zs′ ≡ read-evaluation-points (read full s ts vs zs hs) zs) × (hs′ ≡ read-bandwidths (read full s ts vs zs hs) hs))))
 
-module _ (s ts vs zs hs : List ℕ) where
-  pub uneven-refused : uneven-lists full (length ts) (length vs) (length zs) (length hs) ≡ true
-      → Answered s ts vs zs hs (refused (record { number = 8; place = 0 })) ts vs zs hs
+module _ (s ts vs zs hs : List ℕ) {x : Bool} (tested : x ≡ uneven-lists full (length ts) (length vs) (length zs) (length hs)) where
+  pub uneven-refused : x ≡ true → Answered s ts vs zs hs (refused (record { number = 8; place = 0 })) ts vs zs hs
   unfolding read
-  uneven-refused e = (rw e, (rw e, (rw e, (rw e, rw e))))
+  uneven-refused e = let u = sym tested ∙ e in (rw u, (rw u, (rw u, (rw u, rw u))))
 
-  pub even-read : uneven-lists full (length ts) (length vs) (length zs) (length hs) ≡ false → read full s ts vs zs hs ≡ read-sheet full s
+  even-read : x ≡ false → read full s ts vs zs hs ≡ read-sheet full s
   unfolding read
-  even-read e = rw e
+  even-read e = rw (sym tested ∙ e)
 
-  pub even-answered : {r : Parsing} {ts′ vs′ zs′ hs′ : List ℕ} → uneven-lists full (length ts) (length vs) (length zs) (length hs) ≡ false
-      → ReadInto s ts vs zs hs r ts′ vs′ zs′ hs′ → Answered s ts vs zs hs (parsing-answer r) ts′ vs′ zs′ hs′
+  pub even-answered : {r : Parsing} {ts′ vs′ zs′ hs′ : List ℕ} → x ≡ false → ReadInto s ts vs zs hs r ts′ vs′ zs′ hs′
+      → Answered s ts vs zs hs (parsing-answer r) ts′ vs′ zs′ hs′
   even-answered t i =
       let e = even-read t in
       (rw e (i .answer), (rw e (i .minutes), (rw e (i .values), (rw e (i .points), rw e (i .bandwidths)))))

@@ -1,7 +1,4 @@
 // The reader of the tank sheet: from any bytes to the kept readings and the marks, or the report.
-pub(crate) mod samples;
-
-use crate::samples::SamplesRead;
 use checks::uneven_lists;
 use list_fronts::copy_u16;
 use list_fronts::copy_u32;
@@ -10,6 +7,8 @@ use meanings::Refusal;
 use meanings::Report;
 use sheet_front::points::FrontRead;
 use sheet_front::read_front;
+use sheet_samples::SamplesRead;
+use sheet_samples::read_samples;
 ghost use mathlib.Core.Path.{_≡_};
 ghost use lib.ListN.{length};
 ghost use Rattle.meanings.specs.Limits.{full};
@@ -29,12 +28,7 @@ pub(crate) fn scan(
 {
     match read_front(sheet, points, bandwidths) {
         FrontRead::Refused(refusal) => Parsing::Refused(refusal),
-        FrontRead::Points { count, next } => match crate::samples::read_from_header(
-            sheet,
-            next,
-            minutes,
-            values,
-        ) {
+        FrontRead::Points { count, next } => match read_samples(sheet, next, minutes, values) {
             SamplesRead::Refused(refusal) => Parsing::Refused(refusal),
             SamplesRead::Kept(kept) => Parsing::Used {
                 samples: kept,

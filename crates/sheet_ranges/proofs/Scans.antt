@@ -1,6 +1,6 @@
--- The whole sheet's meaning, stage by stage, and the reader's from it.
+-- The reader's meaning from that of the sheet, which is read into lists of its own.
 use Prim.Native.Nat.{ℕ, _≤_}
-use mathlib.Core.Path.{_≡_, refl, sym, ap, _∙_}
+use mathlib.Core.Path.{_≡_, _∙_}
 use mathlib.Core.Bool.{true, false}
 use mathlib.Core.List.{List, _++_}
 use native.Mathlib.Omega.{arith}
@@ -8,53 +8,26 @@ use lib.ListN.{length, take, drop}
 use lib.Seq.{length-take-le}
 use Rattle.meanings.specs.declared.Refusal.{Refusal}
 use Rattle.meanings.specs.Limits.{full}
-use Rattle.meanings.specs.Reports.{Answer, given, refused, fault-of}
-use Rattle.meanings.proofs.Checks.{or-false, differ-false, differ-same, differ-true}
+use Rattle.meanings.specs.Reports.{Answer, refused, fault-of}
 use Rattle.meanings_ranges.specs.declared.Kind.{Kind}
 use Rattle.meanings_ranges.specs.declared.RangeParsing.{RangeParsing}
 use Rattle.meanings_ranges.specs.declared.RangeParsing.the-variants.{Used}
-use Rattle.meanings_ranges.specs.RangeSheet.{Front, read-either-from, read-either}
+use Rattle.meanings_ranges.specs.RangeSheet.{read-either}
 use Rattle.meanings_ranges.specs.RangeCalls.{RangeCounts, range-parsing-answer, range-counts, range-front, read-ranges, minutes-of, lows-of, highs-of}
 use Rattle.meanings_ranges.specs.RangeCalls.{points-of, bandwidths-of}
-use Rattle.meanings_ranges.specs.EitherKind.{and-then}
-use Rattle.meanings_ranges.proofs.Fronts.{front-then}
 use Rattle.list_fronts.specs.Copied.{copied}
 use Rattle.list_fronts.proofs.Copies.{copied-front}
-use Rattle.sheet_front.specs.declared.points.FrontRead.{FrontRead}
-use Rattle.sheet_front.specs.declared.points.FrontRead.the-variants.{Points}
-use Rattle.sheet_front.specs.Stages.{front-read, FrontTold}
-use Rattle.sheet_front.proofs.Fronts.{told-front}
-use Rattle.sheet_names.specs.declared.NamedRead.{NamedRead}
-use Rattle.sheet_names.specs.declared.NamedRead.the-variants.{Kept}
-use Rattle.sheet_names.specs.Stages.{NamedTold}
-use Rattle.sheet_names.proofs.KindNames.{told-named}
-use Rattle.sheet_ranges.specs.Stages.{either-read, EitherScanned, ReadInto, uneven-reader}
-
--- the front of the sheet, and what follows it
-module _ {s zs hs : List ℕ} {m n : ℕ} {r : FrontRead} (told : FrontTold s m n r zs hs) (points : m ≡ 512) (bandwidths : n ≡ 512) where
-  after-front : read-either full s ≡ and-then (front-read r s zs hs) (read-either-from full)
-  unfolding read-either
-  after-front =
-      sym (front-then full s (read-either-from full))
-      ∙ ap (λ (a : Answer Front). and-then a (read-either-from full)) (told-front told points bandwidths)
-
-  pub front-refused : {ts ls us : List ℕ} {x : Refusal} → r ≡ FrontRead.Refused x → EitherScanned s (RangeParsing.Refused x) ts ls us zs hs
-  front-refused e = record { outcome = after-front ∙ rw e; within = tt }
-
-  module _ {c q u v w : ℕ} {k : NamedRead} {ts ls us : List ℕ} (counted : r ≡ Points c q) (named : NamedTold s q u v w k ts ls us) (minutes : u ≡ 1024)
-      (lows : v ≡ 1024) (highs : w ≡ 1024) where
-    pub named-refused : {x : Refusal} → k ≡ NamedRead.Refused x → EitherScanned s (RangeParsing.Refused x) ts ls us zs hs
-    named-refused e = record { outcome = after-front ∙ rw counted (told-named named minutes lows highs _ _ ∙ rw e); within = tt }
-
-    pub either-used : {i : ℕ} {d : Kind} → k ≡ Kept d i → EitherScanned s (Used i c d) ts ls us zs hs
-    either-used e =
-        record {
-          outcome = after-front ∙ rw counted (told-named named minutes lows highs _ _ ∙ rw e);
-          within = (rw e at (named .within), (rw counted at (told .within)) .0);
-        }
+use Rattle.checks_reader.specs.Lengths.{uneven-reader}
+use Rattle.sheet_scan.specs.Stages.{either-read, EitherScanned, EitherTold}
+use Rattle.sheet_scan.proofs.Scans.{same-read, told-scanned}
+use Rattle.sheet_ranges.specs.Stages.{ReadInto}
 
 -- the reader's own lists, and the lent ones
-module _ {s ts ls us zs hs : List ℕ} {r : RangeParsing} (scanned : EitherScanned s r ts ls us zs hs) where
+module _ {s ts′ ls′ us′ zs′ hs′ ts ls us zs hs : List ℕ} {r : RangeParsing} (told : EitherTold s ts′ ls′ us′ zs′ hs′ r ts ls us zs hs)
+    (even : uneven-reader full (length ts′) (length ls′) (length us′) (length zs′) (length hs′) ≡ false) where
+  scanned : EitherScanned s r ts ls us zs hs
+  scanned = told-scanned even told
+
   pub reading-refused : {ts₀ ls₀ us₀ zs₀ hs₀ : List ℕ} {x : Refusal} → r ≡ RangeParsing.Refused x
       → ReadInto s ts₀ ls₀ us₀ zs₀ hs₀ (RangeParsing.Refused x) ts₀ ls₀ us₀ zs₀ hs₀
   reading-refused {x = x} e =
@@ -99,38 +72,6 @@ module _ {s ts ls us zs hs : List ℕ} {r : RangeParsing} (scanned : EitherScann
           bandwidths = rw (o, kh) (point-part hs hs₀ _ lh (lent .4) eh);
         }
 
--- the lengths of the lent lists, tested
-module _ (a b c d e : ℕ) where
-  pub minutes-off : ¬ (a ≡ 1024) → true ≡ uneven-reader full a b c d e
-  minutes-off n = sym (rw (differ-true a 1024 n))
-
-  module _ (x : a ≡ 1024) where
-    pub lows-off : ¬ (b ≡ 1024) → true ≡ uneven-reader full a b c d e
-    lows-off n = sym (rw (differ-same a 1024 x, differ-true b 1024 n))
-
-    module _ (y : b ≡ 1024) where
-      pub highs-off : ¬ (c ≡ 1024) → true ≡ uneven-reader full a b c d e
-      highs-off n = sym (rw (differ-same a 1024 x, differ-same b 1024 y, differ-true c 1024 n))
-
-      module _ (z : c ≡ 1024) where
-        pub points-off : ¬ (d ≡ 512) → true ≡ uneven-reader full a b c d e
-        points-off n = sym (rw (differ-same a 1024 x, differ-same b 1024 y, differ-same c 1024 z, differ-true d 512 n))
-
-        module _ (w : d ≡ 512) where
-          pub bandwidths-off : ¬ (e ≡ 512) → true ≡ uneven-reader full a b c d e
-          bandwidths-off n = sym (rw (differ-same a 1024 x, differ-same b 1024 y, differ-same c 1024 z, differ-same d 512 w, differ-true e 512 n))
-
-          pub all-even : e ≡ 512 → false ≡ uneven-reader full a b c d e
-          all-even v = sym (rw (differ-same a 1024 x, differ-same b 1024 y, differ-same c 1024 z, differ-same d 512 w, differ-same e 512 v))
-
-pub even-lengths : {a b c d e : ℕ} → uneven-reader full a b c d e ≡ false → (a ≡ 1024) × (b ≡ 1024) × (c ≡ 1024) × (d ≡ 512) × (e ≡ 512)
-even-lengths {a} {b} {c} {d} {e} h =
-    let o = or-false _ _ h in
-    let p = or-false _ _ (o .0) in
-    let q = or-false _ _ (p .0) in
-    let r = or-false _ _ (q .0) in
-    (differ-false a 1024 (r .0), differ-false b 1024 (r .1), differ-false c 1024 (q .1), differ-false d 512 (p .1), differ-false e 512 (o .1))
-
 -- what the contract says of the answer and of the lists at exit
 abbrev pub Answered : List ℕ → List ℕ → List ℕ → List ℕ → List ℕ → List ℕ → Answer RangeCounts → List ℕ → List ℕ → List ℕ → List ℕ → List ℕ → Type 0
 Answered s ts ls us zs hs a ts′ ls′ us′ zs′ hs′ =
@@ -147,14 +88,9 @@ module _ (s ts ls us zs hs : List ℕ) where
   unfolding read-ranges
   uneven-refused e = (rw e, (rw e, (rw e, (rw e, (rw e, rw e)))))
 
-  even-read : uneven-reader full (length ts) (length ls) (length us) (length zs) (length hs) ≡ false
-      → read-ranges full s ts ls us zs hs ≡ read-either full s
-  unfolding read-ranges
-  even-read e = rw e
-
   pub even-answered : {r : RangeParsing} {ts′ ls′ us′ zs′ hs′ : List ℕ}
       → uneven-reader full (length ts) (length ls) (length us) (length zs) (length hs) ≡ false → ReadInto s ts ls us zs hs r ts′ ls′ us′ zs′ hs′
       → Answered s ts ls us zs hs (range-parsing-answer r) ts′ ls′ us′ zs′ hs′
   even-answered t i =
-      let e = even-read t in
+      let e = same-read s ts ls us zs hs t in
       (rw e (i .answer), (rw e (i .minutes), (rw e (i .lows), (rw e (i .highs), (rw e (i .points), rw e (i .bandwidths))))))

@@ -1,44 +1,17 @@
 // The reader of sheets of both kinds: from any bytes to the kept readings as ranges, the marks and the kind, or the report.
+use checks_reader::uneven_reader;
 use meanings::Refusal;
 use meanings::Report;
 use meanings_ranges::RangeParsing;
 use range_fronts::put_points;
 use range_fronts::put_samples;
-use sheet_front::points::FrontRead;
-use sheet_front::read_front;
-use sheet_names::NamedRead;
-use sheet_names::read_named;
+use sheet_scan::scan_sheet;
 ghost use mathlib.Core.Path.{_≡_};
 ghost use lib.ListN.{length};
 ghost use Rattle.meanings.specs.Limits.{full};
 ghost use Rattle.meanings_ranges.specs.RangeCalls.{range-parsing-answer, range-counts, range-front, read-ranges, minutes-of, lows-of};
 ghost use Rattle.meanings_ranges.specs.RangeCalls.{highs-of, points-of, bandwidths-of};
-ghost use Rattle.sheet_ranges.specs.Stages.{EitherScanned, ReadInto, uneven-reader};
-
-// The whole sheet, into lists of full length. What they hold after a refusal is left open: they are the reader's own.
-pub(crate) fn scan(
-    sheet: &[u8],
-    minutes: &mut [u16],
-    lows: &mut [u16],
-    highs: &mut [u16],
-    points: &mut [u16],
-    bandwidths: &mut [u32],
-) -> RangeParsing
-    requires { ⌜ (length (now minutes) ≡ 1024) × (length (now lows) ≡ 1024) × (length (now highs) ≡ 1024) × (length (now points) ≡ 512) × (length (now bandwidths) ≡ 512) ⌝ }
-    ensures { λ r. ⌜ EitherScanned (now (sheet .entry)) r (now (minutes .exit)) (now (lows .exit)) (now (highs .exit)) (now (points .exit)) (now (bandwidths .exit)) ⌝ }
-{
-    match read_front(sheet, points, bandwidths) {
-        FrontRead::Refused(refusal) => RangeParsing::Refused(refusal),
-        FrontRead::Points { count, next } => match read_named(sheet, next, minutes, lows, highs) {
-            NamedRead::Refused(refusal) => RangeParsing::Refused(refusal),
-            NamedRead::Kept { kind, count: kept } => RangeParsing::Used {
-                samples: kept,
-                points: count,
-                kind,
-            },
-        },
-    }
-}
+ghost use Rattle.sheet_ranges.specs.Stages.{ReadInto};
 
 // Reads the sheet into lists of its own, so that a refusal leaves the lent ones as they were.
 pub(crate) fn read_into(
@@ -57,7 +30,7 @@ pub(crate) fn read_into(
     let mut us = [0u16; 1024];
     let mut zs = [0u16; 512];
     let mut hs = [0u32; 512];
-    match scan(sheet, &mut ts, &mut ls, &mut us, &mut zs, &mut hs) {
+    match scan_sheet(sheet, &mut ts, &mut ls, &mut us, &mut zs, &mut hs) {
         RangeParsing::Refused(refusal) => RangeParsing::Refused(refusal),
         RangeParsing::Used {
             samples: n,
@@ -73,34 +46,6 @@ pub(crate) fn read_into(
             }
         }
     }
-}
-
-// Whether the lent lists are of another length than 1,024, 1,024, 1,024, 512, 512.
-pub(crate) fn uneven(
-    minutes: usize,
-    lows: usize,
-    highs: usize,
-    points: usize,
-    bandwidths: usize,
-) -> bool
-    ensures { λ r. ⌜ r ≡ uneven-reader full minutes lows highs points bandwidths ⌝ }
-{
-    if minutes != 1024 {
-        return true;
-    }
-    if lows != 1024 {
-        return true;
-    }
-    if highs != 1024 {
-        return true;
-    }
-    if points != 512 {
-        return true;
-    }
-    if bandwidths != 512 {
-        return true;
-    }
-    false
 }
 
 // The reader, for lent lists of any lengths.
@@ -119,7 +64,7 @@ pub fn read_ranges(
     ensures { λ _. ⌜ now (points .exit) ≡ range-front (read-ranges full (now (sheet .entry)) (now (minutes .entry)) (now (lows .entry)) (now (highs .entry)) (now (points .entry)) (now (bandwidths .entry))) points-of (now (points .entry)) ⌝ }
     ensures { λ _. ⌜ now (bandwidths .exit) ≡ range-front (read-ranges full (now (sheet .entry)) (now (minutes .entry)) (now (lows .entry)) (now (highs .entry)) (now (points .entry)) (now (bandwidths .entry))) bandwidths-of (now (bandwidths .entry)) ⌝ }
 {
-    if uneven(
+    if uneven_reader(
         minutes.len(),
         lows.len(),
         highs.len(),

@@ -13,20 +13,23 @@ use Rattle.tankcurve.specs.declared.Input.the-variants.{Bytes}
 use Rattle.tankcurve.specs.Input.{InputWithin}
 
 -- bytes that have come
-module _ (r : Input) (xs : List ℕ) (within : InputWithin r (length xs)) (n : ℕ) (met : r ≡ Bytes n) where
-  pub bytes-within : n ≤ length xs
-  bytes-within = rw met at within
-
-  pub bytes-count : n ≡ length (take n xs)
-  bytes-count = sym (length-take-le n xs bytes-within)
+bytes-within : (r : Input) (xs : List ℕ) (within : InputWithin r (length xs)) (n : ℕ) → r ≡ Bytes n → n ≤ length xs
+bytes-within r xs within n met = rw met at within
 
 -- the output of a sheet
-module _ (s out : List ℕ) (n : ℕ) (whole : n ≡ length (either-program s)) (size : length out ≡ max-output) where
-  pub output-within : n ≤ length out
-  output-within = omega (arith, either-program-fits s)
+pub output-fits : (s : List ℕ) (n : ℕ) → n ≡ length (either-program s) → n ≤ max-output
+output-fits s n whole = omega (arith, either-program-fits s)
 
-  pub output-count : n ≡ length (take n out)
-  output-count = sym (length-take-le n out output-within)
+pub output-count : (out : List ℕ) (n : ℕ) → n ≤ max-output → length out ≡ max-output → n ≡ length (take n out)
+output-count out n fits size = sym (length-take-le n out (omega arith))
+
+-- the front of the buffer, into which a sheet is read
+module _ (buf : List ℕ) (size : length buf ≡ max-output) where
+  pub front-length : length (take (max-sheet + 1) buf) ≡ max-sheet + 1
+  front-length = length-take-le (max-sheet + 1) buf (omega arith)
+
+  pub room-count : max-sheet + 1 ≡ length (take (max-sheet + 1) buf)
+  room-count = sym front-length
 
 -- the buffer has been read into up to `done`
 pub record ReadTo (first now : List ℕ) (done : ℕ) : Type 0 where

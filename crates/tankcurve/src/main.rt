@@ -68,33 +68,42 @@ fn refuse(refusal: Refusal, out: &mut [u8]) -> usize
     }
 }
 
-// Puts what the program writes for a sheet at the front of the buffer, and gives its length.
-fn answer(sheet: &[u8], out: &mut [u8]) -> usize
-    requires { ⌜ length (now out) ≡ max-output ⌝ }
-    ensures { λ r. ⌜ take r (now (out .exit)) ≡ either-program (now (sheet .entry)) ⌝ }
-    ensures { λ r. ⌜ r ≡ length (either-program (now (sheet .entry))) ⌝ }
+// Puts what the program writes for the sheet that is the buffer's first `size` bytes at the front of the buffer, over the sheet, and gives its length.
+fn answer(buf: &mut [u8], size: usize) -> usize
+    requires { ⌜ length (now buf) ≡ max-output ⌝ }
+    ensures { λ r. ⌜ take r (now (buf .exit)) ≡ either-program (take size (now (buf .entry))) ⌝ }
+    ensures { λ r. ⌜ r ≡ length (either-program (take size (now (buf .entry)))) ⌝ }
 {
-    match text_sheet::curve_text(sheet, out) {
+    match text_over::curve_text_over(buf, size) {
         Writing::Written(n) => n,
-        Writing::Refused(refusal) => refuse(refusal, out),
+        Writing::Refused(refusal) => refuse(refusal, buf),
     }
 }
 
 // Writes the answer, a short write being written on. Where a write fails, what has been written may be a text cut short, and standard error says so.
-fn write_answer(sheet: &[u8]) {
-    let mut out = [0u8; MAX_OUTPUT];
-    let n = answer(sheet, &mut out);
-    if !io::write_all(OUT, &out[..n]) {
+fn write_answer(buf: &mut [u8], size: usize)
+    requires { ⌜ length (now buf) ≡ max-output ⌝ }
+{
+    let n = answer(buf, size);
+    if !io::write_all(OUT, &buf[..n]) {
         io::write_all(ERR, b"tankcurve: standard output cannot be written\n");
     }
 }
 
-fn main() {
-    let mut sheet = [0u8; 32769];
-    match read_input(&mut sheet) {
-        Input::Bytes(n) => write_answer(&sheet[..n]),
+// From standard input to standard output in one buffer: the sheet is read into its front, and its curve is written over it.
+fn run(buf: &mut [u8])
+    requires { ⌜ length (now buf) ≡ max-output ⌝ }
+{
+    let room = 32769;
+    match read_input(&mut buf[..room]) {
+        Input::Bytes(n) => write_answer(buf, n),
         Input::Failed => {
             io::write_all(ERR, b"tankcurve: standard input cannot be read\n");
         }
     }
+}
+
+fn main() {
+    let mut buf = [0u8; MAX_OUTPUT];
+    run(&mut buf);
 }

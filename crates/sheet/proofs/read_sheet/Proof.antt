@@ -9,10 +9,10 @@ uneven-lists-requires : tie.Need-uneven-lists-requires
 uneven-lists-requires c κs = search needs
 
 returns : tie.Need-returns
-returns c = uneven-refused _ _ _ _ _ (cc)
+returns c = uneven-refused _ _ _ _ _ (c .before .uneven-lists .ensures) (c .if1 .taken)
 
 read-into-requires : tie.Need-read-into-requires
-read-into-requires c κs = even-lengths (cc)
+read-into-requires c κs = even-lengths (c .before .before .before .before .before .uneven-lists .ensures) (c .before .before .before .before .if1 .left)
 
 same-length : tie.Need-same-length
 same-length c = search needs
@@ -27,7 +27,10 @@ same-length-4 : tie.Need-same-length-4
 same-length-4 c = search needs
 
 returns-2 : tie.Need-returns-2
-returns-2 c = even-answered _ _ _ _ _ (cc) (c .before .before .before .before .before .before .before .before .read-into .ensures)
+returns-2 c =
+    let d = c .before .before .before .before .before .before .before .before in
+    even-answered _ _ _ _ _ (d .before .before .before .before .before .before .uneven-lists .ensures)
+    (d .before .before .before .before .before .if1 .left) (d .read-into .ensures)
 
 pub read-sheet-spec : {M : Type 1} → statement M
 read-sheet-spec =

@@ -14,8 +14,8 @@ enum-known-refusal c = search needs
 enum-known-count : tie.Need-enum-known-count
 enum-known-count c = search needs
 
-read-from-header-requires : tie.Need-read-from-header-requires
-read-from-header-requires c κs = search needs
+read-samples-requires : tie.Need-read-samples-requires
+read-samples-requires c κs = search needs
 
 enum-known-refusal-2 : tie.Need-enum-known-refusal-2
 enum-known-refusal-2 c = search needs
@@ -69,7 +69,7 @@ scan-spec =
     read-front-requires
     enum-known-refusal
     enum-known-count
-    read-from-header-requires
+    read-samples-requires
     enum-known-refusal-2
     enum-known-kept
     same-length

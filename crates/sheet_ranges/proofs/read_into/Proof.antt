@@ -5,23 +5,23 @@ use borrow.Author.Needs.{needs}
 use Rattle.sheet_ranges.proofs.read_into.Statement.{statement}
 use Rattle.sheet_ranges.proofs.read_into.Tie as tie
 
-slice-aggregate-scan : tie.Need-slice-aggregate-scan
-slice-aggregate-scan c = search needs
+slice-aggregate-scan-sheet : tie.Need-slice-aggregate-scan-sheet
+slice-aggregate-scan-sheet c = search needs
 
-slice-aggregate-scan-2 : tie.Need-slice-aggregate-scan-2
-slice-aggregate-scan-2 c = search needs
+slice-aggregate-scan-sheet-2 : tie.Need-slice-aggregate-scan-sheet-2
+slice-aggregate-scan-sheet-2 c = search needs
 
-slice-aggregate-scan-3 : tie.Need-slice-aggregate-scan-3
-slice-aggregate-scan-3 c = search needs
+slice-aggregate-scan-sheet-3 : tie.Need-slice-aggregate-scan-sheet-3
+slice-aggregate-scan-sheet-3 c = search needs
 
-slice-aggregate-scan-4 : tie.Need-slice-aggregate-scan-4
-slice-aggregate-scan-4 c = search needs
+slice-aggregate-scan-sheet-4 : tie.Need-slice-aggregate-scan-sheet-4
+slice-aggregate-scan-sheet-4 c = search needs
 
-slice-aggregate-scan-5 : tie.Need-slice-aggregate-scan-5
-slice-aggregate-scan-5 c = search needs
+slice-aggregate-scan-sheet-5 : tie.Need-slice-aggregate-scan-sheet-5
+slice-aggregate-scan-sheet-5 c = search needs
 
-scan-requires : tie.Need-scan-requires
-scan-requires c κs = search needs
+scan-sheet-requires : tie.Need-scan-sheet-requires
+scan-sheet-requires c κs = search needs
 
 enum-known-refusal : tie.Need-enum-known-refusal
 enum-known-refusal c = search needs
@@ -51,7 +51,7 @@ put-points-requires : tie.Need-put-points-requires
 put-points-requires c κs = search needs
 
 returns : tie.Need-returns
-returns c = search reading-refused
+returns c = search (reading-refused, needs)
 
 same-length : tie.Need-same-length
 same-length c = search needs
@@ -72,7 +72,8 @@ returns-2 : tie.Need-returns-2
 returns-2 c =
     reading-used (c .before .before .before .before .before .before .before .before .before .before .before .before .before .before
     .before .before .before .before .before .before .before .before .before .before .before .before .before .before
-    .before .before .scan .ensures)
+    .before .before .scan-sheet .ensures)
+    (search needs)
     (search needs)
     (c .before .before .before .before .before .before .before .before .before .before .before .before .before .before
     .before .before .before .before .before .before .before .before .before .before .before .before .before .before
@@ -84,12 +85,12 @@ pub read-into-spec : {M : Type 1} → statement M
 read-into-spec =
     tie.close
     (tie.spec
-    slice-aggregate-scan
-    slice-aggregate-scan-2
-    slice-aggregate-scan-3
-    slice-aggregate-scan-4
-    slice-aggregate-scan-5
-    scan-requires
+    slice-aggregate-scan-sheet
+    slice-aggregate-scan-sheet-2
+    slice-aggregate-scan-sheet-3
+    slice-aggregate-scan-sheet-4
+    slice-aggregate-scan-sheet-5
+    scan-sheet-requires
     enum-known-refusal
     enum-known-n
     slice-aggregate-put-samples

@@ -1,13 +1,13 @@
 -- Lists of other lengths are refused before the sheet is looked at.
 -- With those of the right lengths the meaning is that of the sheet alone, which is read into them.
-use mathlib.Core.Path.{sym, _∙_}
-use Rattle.sheet_ranges.proofs.Scans.{even-lengths, uneven-refused, even-answered}
+use Rattle.checks_reader.proofs.Lengths.{tested-even}
+use Rattle.sheet_ranges.proofs.Scans.{uneven-refused, even-answered}
 use borrow.Author.Needs.{needs}
 use Rattle.sheet_ranges.proofs.read_ranges.Statement.{statement}
 use Rattle.sheet_ranges.proofs.read_ranges.Tie as tie
 
-uneven-requires : tie.Need-uneven-requires
-uneven-requires c κs = search needs
+uneven-reader-requires : tie.Need-uneven-reader-requires
+uneven-reader-requires c κs = search needs
 
 returns : tie.Need-returns
 returns c = uneven-refused _ _ _ _ _ _ (cc)
@@ -15,7 +15,7 @@ returns c = uneven-refused _ _ _ _ _ _ (cc)
 read-into-requires : tie.Need-read-into-requires
 read-into-requires c κs =
     let tested = c .before .before .before .before .before in
-    even-lengths (sym (tested .before .uneven .ensures) ∙ tested .if1 .left)
+    tested-even (tested .before .uneven-reader .ensures) (tested .if1 .left)
 
 same-length : tie.Need-same-length
 same-length c = search needs
@@ -39,7 +39,7 @@ pub read-ranges-spec : {M : Type 1} → statement M
 read-ranges-spec =
     tie.close
     (tie.spec
-    uneven-requires
+    uneven-reader-requires
     returns
     read-into-requires
     same-length

@@ -4,8 +4,8 @@ use borrow.Author.Needs.{needs}
 use Rattle.tankcurve.proofs.answer.Statement.{statement}
 use Rattle.tankcurve.proofs.answer.Tie as tie
 
-curve-text-requires : tie.Need-curve-text-requires
-curve-text-requires c κs = search needs
+curve-text-over-requires : tie.Need-curve-text-over-requires
+curve-text-over-requires c κs = search needs
 
 enum-known-n : tie.Need-enum-known-n
 enum-known-n c = search needs
@@ -32,7 +32,7 @@ pub answer-spec : {M : Type 1} → statement M
 answer-spec =
     tie.close
     (tie.spec
-    curve-text-requires
+    curve-text-over-requires
     enum-known-n
     enum-known-refusal
     refuse-requires

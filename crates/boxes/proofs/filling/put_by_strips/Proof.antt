@@ -1,32 +1,17 @@
 -- Both tables are filled from the cells of readings, so a box of windows is four numbers of them.
 use borrow.Author.Needs.{needs}
-use Rattle.boxes.proofs.Combining.{combinable, boxes-by-strips}
+use Rattle.boxes.proofs.Combining.{boxes-by-strips}
 use Rattle.boxes.proofs.filling.put_by_strips.Statement.{statement}
 use Rattle.boxes.proofs.filling.put_by_strips.Tie as tie
 
 returns : tie.Need-returns
 returns c =
+    let d = c .before .before .before .before .before .before .before in
     search (
       boxes-by-strips,
       c .before .before .put-boxes .ensures,
-      c .before .before .before .before .before .before .before .accumulate2 .ensures,
-      c .before .before .before .before .before .before .before .before .sum-table .given,
-      c .before .before .before .before .before .before .before .before .before .before .accumulate .ensures,
-      c .before .before .before .before .before .before .before .before .before .before .before .count-table .given,
-      c .before .before .before .before .before .before .before .before .before .before .before .before .before .before .before .before
-          .before .before .before .pre,
-    )
-
-put-boxes-requires : tie.Need-put-boxes-requires
-put-boxes-requires c κs =
-    search (
-      combinable,
-      c .before .before .before .before .accumulate2 .ensures,
-      c .before .before .before .before .before .sum-table .given,
-      c .before .before .before .before .before .before .before .accumulate .ensures,
-      c .before .before .before .before .before .before .before .before .count-table .given,
-      c .before .before .before .before .before .before .before .before .before .before .before .before
-          .before .before .before .before .pre,
+      d .accumulate2 .ensures,
+      d .before .before .before .accumulate .ensures,
     )
 
 pub put-by-strips-spec : {M : Type 1} → statement M
@@ -39,6 +24,6 @@ put-by-strips-spec =
     (λ c κs. search needs)
     (λ c. search needs)
     (λ c. search needs)
-    put-boxes-requires
+    (λ c κs. search needs)
     (λ c. search needs)
     returns)

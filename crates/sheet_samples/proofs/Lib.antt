@@ -1,0 +1,4 @@
+pub mod LastMinutes
+pub mod LineSteps
+pub mod SampleLoop
+pub mod Stores
