@@ -63,12 +63,19 @@ pub struct Calls {
     run: Tally,
 }
 
+/// A call of minutes, values, points and bandwidths that fills lent rows.
+type Sweeping<A> = fn(&[u16], &[u16], &[u16], &[u32], &mut [u64]) -> A;
+
+/// The same of the crate, whose answer borrows the rows.
+type TypedSweeping =
+    for<'a> fn(&[u16], &[u16], &[u16], &[u32], &'a mut [u64]) -> Result<Smoothed<'a>, Error>;
+
 /// A sweep or a preview: by the second implementation, over slices of any length, and typed.
 struct Sweep {
     name: &'static str,
-    reference: fn(&[u16], &[u16], &[u16], &[u32], &mut [u64]) -> Result<u64, reference::Refusal>,
-    exported: fn(&[u16], &[u16], &[u16], &[u32], &mut [u64]) -> u64,
-    typed: for<'a> fn(&[u16], &[u16], &[u16], &[u32], &'a mut [u64]) -> Result<Smoothed<'a>, Error>,
+    reference: Sweeping<Result<u64, reference::Refusal>>,
+    exported: Sweeping<u64>,
+    typed: TypedSweeping,
 }
 
 const SMOOTH: Sweep = Sweep {
@@ -195,12 +202,18 @@ fn running_sums(record: Record) -> RunningSums {
     }
 }
 
+/// A call of a record, minutes, values, a point and a bandwidth.
+type Move<R, A> = fn(R, &[u16], &[u16], u16, u32) -> A;
+
+/// The same on a lent record.
+type MoveLent<R, A> = fn(&mut R, &[u16], &[u16], u16, u32) -> A;
+
 /// A call that makes another record of one: the step or the turn, in its three forms.
 struct Moving {
     name: &'static str,
-    reference: fn(Record, &[u16], &[u16], u16, u32) -> Result<Record, reference::Refusal>,
-    export: fn(&mut [u64], &[u16], &[u16], u16, u32) -> u64,
-    typed: fn(&mut RunningSums, &[u16], &[u16], u16, u32) -> Result<(), Error>,
+    reference: Move<Record, Result<Record, reference::Refusal>>,
+    export: MoveLent<[u64], u64>,
+    typed: MoveLent<RunningSums, Result<(), Error>>,
 }
 
 const STEP: Moving = Moving {

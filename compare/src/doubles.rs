@@ -87,7 +87,6 @@ impl Cells {
                 expected.had_back(),
             )
         };
-        let mut compared = compared;
         compared().map_err(|difference| {
             format!(
                 "doubles: {difference}\nthe case:\n    weight = {weight}\n    number = {number}\n    length = {length}"

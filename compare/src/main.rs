@@ -54,17 +54,48 @@ fn published(calls: &mut Calls, examples: &Path) -> Result<(), String> {
     Ok(())
 }
 
-fn compare(
-    calls: &mut Calls,
-    questions: &mut Questions,
-    by_neighbours: &mut Neighbours,
-    pairs: &mut Pairs,
-    biweights: &mut Biweights,
-    cells: &mut Cells,
-    by_ranges: &mut Ranges,
-    in_boxes: &mut InBoxes,
-    examples: &Path,
-) -> Result<(), String> {
+/// What is compared, by groups of calls, each with its tallies.
+struct Compared {
+    calls: Calls,
+    questions: Questions,
+    by_neighbours: Neighbours,
+    pairs: Pairs,
+    biweights: Biweights,
+    cells: Cells,
+    by_ranges: Ranges,
+    in_boxes: InBoxes,
+}
+
+impl Compared {
+    fn new(program: &Path) -> Compared {
+        Compared {
+            calls: Calls::new(program.to_path_buf()),
+            questions: Questions::new(),
+            by_neighbours: Neighbours::new(),
+            pairs: Pairs::new(),
+            biweights: Biweights::new(),
+            cells: Cells::new(),
+            by_ranges: Ranges::new(),
+            in_boxes: InBoxes::new(),
+        }
+    }
+
+    fn tallies(&self) -> impl Iterator<Item = &Tally> {
+        let calls = self.calls.tallies().into_iter();
+        calls
+            .chain(self.questions.tallies())
+            .chain(self.by_neighbours.tallies())
+            .chain(self.pairs.tallies())
+            .chain(self.biweights.tallies())
+            .chain(self.cells.tallies())
+            .chain(self.by_ranges.tallies())
+            .chain(self.in_boxes.tallies())
+    }
+}
+
+/// Every case of every group; how many agree.
+fn compare(compared: &mut Compared, examples: &Path) -> Result<u64, String> {
+    let calls = &mut compared.calls;
     published(calls, examples)?;
     cases::evaluate_and_window(calls)?;
     cases::advance(calls)?;
@@ -77,27 +108,19 @@ fn compare(
     cases::read_and_text(calls)?;
     cases::refusal_text(calls)?;
     cases::program(calls)?;
-    limit::first_at_most(questions)?;
-    limit::decisive(questions)?;
-    neighbours::neighbours(by_neighbours)?;
-    pair::compare(pairs)?;
-    biweight::biweight(biweights)?;
-    doubles::doubles(cells)?;
-    ranges::ranges(by_ranges, calls)?;
-    boxes::boxes(in_boxes)?;
-    let tallies = || {
-        let calls = calls.tallies().into_iter();
-        calls
-            .chain(questions.tallies())
-            .chain(by_neighbours.tallies())
-            .chain(pairs.tallies())
-            .chain(biweights.tallies())
-            .chain(cells.tallies())
-            .chain(by_ranges.tallies())
-            .chain(in_boxes.tallies())
-    };
-    tallies().for_each(|tally| println!("{}", tally.line()));
-    tallies().try_for_each(Tally::complete)
+    limit::first_at_most(&mut compared.questions)?;
+    limit::decisive(&mut compared.questions)?;
+    neighbours::neighbours(&mut compared.by_neighbours)?;
+    pair::compare(&mut compared.pairs)?;
+    biweight::biweight(&mut compared.biweights)?;
+    doubles::doubles(&mut compared.cells)?;
+    ranges::ranges(&mut compared.by_ranges, calls)?;
+    boxes::boxes(&mut compared.in_boxes)?;
+    compared
+        .tallies()
+        .for_each(|tally| println!("{}", tally.line()));
+    compared.tallies().try_for_each(Tally::complete)?;
+    Ok(compared.tallies().map(Tally::cases).sum())
 }
 
 fn main() -> ExitCode {
@@ -106,39 +129,14 @@ fn main() -> ExitCode {
         eprintln!("use: compare PROGRAM EXAMPLES");
         return ExitCode::from(2);
     };
-    let mut calls = Calls::new(program.clone());
-    let mut questions = Questions::new();
-    let mut by_neighbours = Neighbours::new();
-    let mut pairs = Pairs::new();
-    let mut biweights = Biweights::new();
-    let mut cells = Cells::new();
-    let mut by_ranges = Ranges::new();
-    let mut in_boxes = InBoxes::new();
-    let compared = compare(
-        &mut calls,
-        &mut questions,
-        &mut by_neighbours,
-        &mut pairs,
-        &mut biweights,
-        &mut cells,
-        &mut by_ranges,
-        &mut in_boxes,
-        examples,
-    );
-    if let Err(difference) = compared {
-        println!("compare: {difference}");
-        return ExitCode::FAILURE;
+    match compare(&mut Compared::new(program), examples) {
+        Ok(total) => {
+            println!("compare: {total} cases agree");
+            ExitCode::SUCCESS
+        }
+        Err(difference) => {
+            println!("compare: {difference}");
+            ExitCode::FAILURE
+        }
     }
-    let tallies = calls.tallies().into_iter();
-    let tallies = tallies
-        .chain(questions.tallies())
-        .chain(by_neighbours.tallies())
-        .chain(pairs.tallies())
-        .chain(biweights.tallies())
-        .chain(cells.tallies())
-        .chain(by_ranges.tallies())
-        .chain(in_boxes.tallies());
-    let total: u64 = tallies.map(Tally::cases).sum();
-    println!("compare: {total} cases agree");
-    ExitCode::SUCCESS
 }

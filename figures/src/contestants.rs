@@ -1,11 +1,11 @@
 //! The calls that are measured, over one input and one set of buffers.
 
-use figures::inputs::{in_boxes, Buffers, Input};
+use figures::inputs::{in_boxes, Buffers, Input, RANGE_ROW_WIDTH};
 use figures::plain::boxes::{Question, BOX_WIDTH};
 use figures::plain::{DETAIL_UNIT, ROW_WIDTH};
 use figures::{direct, plain};
 use std::sync::OnceLock;
-use tankcurve::{slices, BIWEIGHT_BANDWIDTH, MAX_SAMPLES, PARTING_WIDTH, RANGE_ROW_WIDTH};
+use tankcurve::{slices, BIWEIGHT_BANDWIDTH, MAX_SAMPLES, PARTING_WIDTH};
 
 pub struct Contestant {
     pub name: &'static str,
@@ -305,11 +305,11 @@ fn boxes(asked: &OnceLock<Question>, readings: usize, marks: usize, lent: &mut B
     )
 }
 
+/// A call of minute and temperature together in Rust: boxes and both lists of cells are lent.
+type RustBoxes = fn(&Question, &mut [u64], &mut [u32], &mut [u32]) -> Result<(), plain::Refusal>;
+
 /// The same of all readings and marks in Rust.
-fn rust_boxes(
-    call: fn(&Question, &mut [u64], &mut [u32], &mut [u32]) -> Result<(), plain::Refusal>,
-    lent: &mut Buffers,
-) -> u64 {
+fn rust_boxes(call: RustBoxes, lent: &mut Buffers) -> u64 {
     let asked = FULL_BOXES.get_or_init(|| in_boxes(1024, 32));
     let answer = call(
         asked,

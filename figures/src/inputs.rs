@@ -3,6 +3,9 @@
 use crate::plain::boxes::{Question, BOX_MAX_POINTS, BOX_WIDTH, CELLS};
 use crate::plain::{MAX_OUTPUT, MAX_POINTS, MAX_SAMPLES, MAX_SHEET, ROW_WIDTH};
 
+/// The numbers of a row over ranges.
+pub const RANGE_ROW_WIDTH: usize = 7;
+
 /// The lists of a grid and its samples, and the sheet that has them.
 pub struct Input {
     pub minutes: Vec<u16>,
@@ -21,8 +24,7 @@ pub struct Buffers {
     pub points: [u16; MAX_POINTS],
     pub bandwidths: [u32; MAX_POINTS],
     pub rows: [u64; ROW_WIDTH * MAX_POINTS],
-    /// Rows over ranges, seven numbers each.
-    pub range_rows: [u64; 7 * MAX_POINTS],
+    pub range_rows: [u64; RANGE_ROW_WIDTH * MAX_POINTS],
     pub counts: [u64; 2],
     pub out: [u8; MAX_OUTPUT],
     pub boxes: [u64; BOX_WIDTH * BOX_MAX_POINTS * BOX_MAX_POINTS],
@@ -39,7 +41,7 @@ impl Buffers {
             points: [0xa5a5; MAX_POINTS],
             bandwidths: [0xa5a5_a5a5; MAX_POINTS],
             rows: [0xa5a5_a5a5_a5a5_a5a5; ROW_WIDTH * MAX_POINTS],
-            range_rows: [0xa5a5_a5a5_a5a5_a5a5; 7 * MAX_POINTS],
+            range_rows: [0xa5a5_a5a5_a5a5_a5a5; RANGE_ROW_WIDTH * MAX_POINTS],
             counts: [0xa5a5_a5a5_a5a5_a5a5; 2],
             out: [0xa5; MAX_OUTPUT],
             boxes: [0xa5a5_a5a5_a5a5_a5a5; BOX_WIDTH * BOX_MAX_POINTS * BOX_MAX_POINTS],

@@ -1,8 +1,9 @@
 /*
  * Every call once, as a panel would make them: reads a sheet from standard input, draws its curve by the sweep, with readings known only as ranges
- * (traces.c has a sheet of them), and, mark by mark, by a running record; asks at one mark, whose weight and sum it has as doubles too, there once more with softer weights, and when the tank may move; sets the tank
- * against a twin; draws once more with half widths by neighbours and at marks of the filler; counts readings by minute and temperature; writes the text.
- * Says each report by its number, word and place.
+ * (traces.c has a sheet of them), and, mark by mark, by a running record, which then turns back to the first mark; asks at one mark, whose weight
+ * and sum it has as doubles too, there once more with softer weights, and when the tank may move; sets the tank against a twin; draws once more with
+ * half widths by neighbours and at marks of the filler; counts readings by minute and temperature; writes the text. Says each report by its number,
+ * word and place.
  */
 #include "tankcurve.h"
 
@@ -94,7 +95,7 @@ static bool preview(size_t samples, size_t marks)
     return true;
 }
 
-/* The same curve mark by mark, from a record that begins as all zero; a row is asked at the mark and half width of the step before it. */
+/* The same curve mark by mark, from a record that begins as all zero; a row is asked at the mark and half width of the step or turn before it. */
 static bool steps(size_t samples, size_t marks)
 {
     uint64_t record[TANKCURVE_RECORD_LEN] = {0}, row[TANKCURVE_ROW_LEN];
@@ -107,6 +108,13 @@ static bool steps(size_t samples, size_t marks)
             return false;
         }
         show("row", row);
+    }
+    if (marks > 0) {
+        /* Back to the first mark: a turn goes there, a step only on. */
+        if (!accepted("turn", tankcurve_turn(record, TANKCURVE_RECORD_LEN, minutes, samples, values, samples, points[0], bandwidths[0])) ||
+            !accepted("row", tankcurve_row(record, TANKCURVE_RECORD_LEN, points[0], bandwidths[0], row, TANKCURVE_ROW_LEN)))
+            return false;
+        show("turn", row);
     }
     return true;
 }

@@ -657,7 +657,7 @@ fn written(input: &[u8]) -> Result<String, Refusal> {
     let mut halves = [0u32; MOST_MARKS];
     let (kept, used) = read(input, &mut minutes, &mut values, &mut marks, &mut halves)?;
 
-    let mut rows = vec![0u64; 5 * used];
+    let mut rows = vec![0u64; ROW_WIDTH * used];
     let passes = sweep(
         &minutes[..kept],
         &values[..kept],
@@ -667,21 +667,15 @@ fn written(input: &[u8]) -> Result<String, Refusal> {
     )?;
 
     let mut text = String::from("mark,half,left,right,weight,sum,vdk\n");
-    for k in 0..used {
-        let value = if rows[5 * k + 4] == MISSING {
+    for (k, row) in rows.chunks(ROW_WIDTH).enumerate() {
+        let value = if row[4] == MISSING {
             String::from("-")
         } else {
-            rows[5 * k + 4].to_string()
+            row[4].to_string()
         };
         text += &format!(
             "{},{},{},{},{},{},{}\n",
-            marks[k],
-            halves[k],
-            rows[5 * k],
-            rows[5 * k + 1],
-            rows[5 * k + 2],
-            rows[5 * k + 3],
-            value
+            marks[k], halves[k], row[0], row[1], row[2], row[3], value
         );
     }
     text += &format!("\nkept,passes\n{kept},{passes}\n");

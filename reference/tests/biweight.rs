@@ -7,7 +7,7 @@ fn no<T>(number: u8, place: u64) -> Result<T, Refusal> {
 }
 
 /// The row of one reading of value 7 at this minute, for mark 1,000.
-fn one(minute: u16) -> [u64; 5] {
+fn one(minute: u16) -> [u64; ROW_WIDTH] {
     biweight(&[minute], &[7], 1000).unwrap()
 }
 

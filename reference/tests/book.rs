@@ -126,11 +126,11 @@ fn sweep_and_steps_and_rows() {
     let mut dice = Dice(1234567);
     for _ in 0..1500 {
         let (minutes, values, marks, halves) = case(&mut dice);
-        let mut rows = vec![0; 5 * marks.len()];
+        let mut rows = vec![0; ROW_WIDTH * marks.len()];
         let passes = sweep(&minutes, &values, &marks, &halves, &mut rows).unwrap();
         let mut book = Book::default();
         let mut record = Record::default();
-        for (k, row) in rows.chunks(5).enumerate() {
+        for (k, row) in rows.chunks(ROW_WIDTH).enumerate() {
             let (mark, half) = (marks[k], halves[k]);
             book.feed(&minutes, &values, mark, half);
             record = step(record, &minutes, &values, mark, half).unwrap();

@@ -58,7 +58,7 @@ fn values_stay_among_their_readings() {
         let marks = [mark, mark + 1];
         for call in [sweep, preview] {
             if call(&minutes, &values, &marks, &[half, half], &mut rows).is_ok() {
-                for (row, mark) in rows.chunks(5).zip(marks) {
+                for (row, mark) in rows.chunks(ROW_WIDTH).zip(marks) {
                     stays_among(&minutes, &values, mark, half, row);
                 }
             }
@@ -82,7 +82,7 @@ fn equal_minutes_change_places() {
         assert_eq!(row(&values), row(&moved));
         for call in [sweep, preview] {
             let told = |values: &[u16]| {
-                let mut rows = [3; 5];
+                let mut rows = [3; ROW_WIDTH];
                 (call(&minutes, values, &[mark], &[half], &mut rows), rows)
             };
             assert_eq!(told(&values), told(&moved));

@@ -53,7 +53,7 @@ fn c1_to_c3() {
 fn c4_no_readings() {
     assert_eq!(one_mark(&[], &[], 5, 1), Ok([0, 0, 0, 0, 65536]));
     assert_eq!(one_mark_run(&[], &[], 5, 1), (0, 0));
-    let mut rows = [9; 5];
+    let mut rows = [9; ROW_WIDTH];
     assert_eq!(sweep(&[], &[], &[5], &[1], &mut rows), Ok(0));
     assert_eq!(rows, [0, 0, 0, 0, 65536]);
 }

@@ -43,9 +43,9 @@ fn readings_1024_and_1025() {
         no(6, 0)
     );
 
-    let mut rows = [3; 5];
+    let mut rows = [3; ROW_WIDTH];
     assert_eq!(sweep(&minutes, &values, &[2000], &[5], &mut rows), no(6, 0));
-    assert_eq!(rows, [3; 5]);
+    assert_eq!(rows, [3; ROW_WIDTH]);
     assert_eq!(sweep(m, v, &[2000], &[5], &mut rows), Ok(2048));
 }
 

@@ -13,7 +13,7 @@ const MARKS: [u16; 3] = [20, 25, 60];
 /// The half widths alone, of lists that are fit.
 fn halves(minutes: &[u16], marks: &[u16], k: usize) -> Vec<u32> {
     let values = vec![5; minutes.len()];
-    let (mut halves, mut rows) = (vec![0; marks.len()], vec![0; 5 * marks.len()]);
+    let (mut halves, mut rows) = (vec![0; marks.len()], vec![0; ROW_WIDTH * marks.len()]);
     neighbours(minutes, &values, marks, k, &mut halves, &mut rows).unwrap();
     halves
 }
@@ -41,16 +41,18 @@ fn equal_minutes_and_the_ends() {
 #[test]
 fn rows_are_those_of_the_new_half_widths() {
     for k in 1..=4 {
-        let (mut widths, mut rows) = ([9; 3], [7; 15]);
+        let (mut widths, mut rows) = ([9; MARKS.len()], [7; ROW_WIDTH * MARKS.len()]);
         let answer = neighbours(&MINUTES, &VALUES, &MARKS, k, &mut widths, &mut rows);
         assert_eq!(answer, Ok(()));
-        let mut swept = [7; 15];
+        let mut swept = [7; ROW_WIDTH * MARKS.len()];
         sweep(&MINUTES, &VALUES, &MARKS, &widths, &mut swept).unwrap();
         assert_eq!(rows, swept);
-        assert!(rows.chunks(5).all(|row| row[2] > 0 && row[4] != MISSING));
+        assert!(rows
+            .chunks(ROW_WIDTH)
+            .all(|row| row[2] > 0 && row[4] != MISSING));
     }
     // K of 1 at mark 25: the two readings of minute 20 weigh 36 − 25 each.
-    let (mut widths, mut rows) = ([9], [7; 5]);
+    let (mut widths, mut rows) = ([9], [7; ROW_WIDTH]);
     neighbours(&MINUTES, &VALUES, &[25], 1, &mut widths, &mut rows).unwrap();
     assert_eq!((widths, rows), ([6], [1, 3, 22, 1540, 70]));
 }
@@ -100,10 +102,10 @@ fn of_a_tank_that_is_sampled_less_and_less() {
     let counts = read(&sheet, &mut minutes, &mut values, &mut marks, &mut fixed);
     let (kept, used) = counts.unwrap();
     let (minutes, values, marks) = (&minutes[..kept], &values[..kept], &marks[..used]);
-    let (mut widths, mut rows) = (vec![0; used], vec![0; 5 * used]);
+    let (mut widths, mut rows) = (vec![0; used], vec![0; ROW_WIDTH * used]);
     neighbours(minutes, values, marks, 3, &mut widths, &mut rows).unwrap();
     let table: Vec<(u16, u32, u64)> = (0..used)
-        .map(|k| (marks[k], widths[k], rows[5 * k + 4]))
+        .map(|k| (marks[k], widths[k], rows[ROW_WIDTH * k + 4]))
         .collect();
     #[rustfmt::skip]
     assert_eq!(table, [
@@ -114,5 +116,5 @@ fn of_a_tank_that_is_sampled_less_and_less() {
     // With the sheet's own half width four of these marks have no value.
     let passes = sweep(minutes, values, marks, &fixed[..used], &mut rows);
     assert!(passes.is_ok());
-    assert_eq!(rows.chunks(5).filter(|row| row[2] == 0).count(), 4);
+    assert_eq!(rows.chunks(ROW_WIDTH).filter(|row| row[2] == 0).count(), 4);
 }

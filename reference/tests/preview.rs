@@ -39,7 +39,7 @@ fn limits() {
     for readings in [0, 1, 255, 256, 257, 1024, 1025] {
         for marks in [0, 1, 63, 64, 65, 512, 513] {
             let (m, v, z, h) = lists(readings, marks);
-            let rows = 5 * z.len();
+            let rows = ROW_WIDTH * z.len();
             let small = told(preview, (&m, &v), (&z, &h), rows);
             let full = told(sweep, (&m, &v), (&z, &h), rows);
             if readings > 256 || marks > 64 {
@@ -86,10 +86,10 @@ fn rows_and_passes_of_the_sweep() {
     let rows = [
         0, 3, 200, 14000, 70, 0, 4, 525, 30500, 58, 4, 4, 0, 0, 65536,
     ];
-    let small = told(preview, (&m, &v), (&z, &h), 15);
+    let small = told(preview, (&m, &v), (&z, &h), ROW_WIDTH * z.len());
     assert_eq!(small, (Ok(8), rows.to_vec()));
     // Each row is also that of the question at one mark.
-    for (k, row) in small.1.chunks(5).enumerate() {
+    for (k, row) in small.1.chunks(ROW_WIDTH).enumerate() {
         assert_eq!(one_mark(&m, &v, z[k], h[k]).unwrap(), row);
     }
 }

@@ -18,7 +18,7 @@ const RANGES: &str = "minute,inj,low,high\n10,3,40,40\n12,1,900,900\n14,2,400,40
 const PLAIN: &str = "minute,inj,vdk\n10,3,40\n12,1,900\n14,2,400\n20,3,60\n20,4,80\n35,5,20\n";
 
 fn swept(lows: &[u16], highs: &[u16]) -> (Result<u64, Refusal>, Vec<u64>) {
-    let mut rows = vec![7; 21];
+    let mut rows = vec![7; RANGE_ROW_WIDTH * MARKS.len()];
     let answer = sweep_ranges(&MINUTES, lows, highs, &MARKS, &HALVES, &mut rows);
     (answer, rows)
 }
@@ -69,19 +69,20 @@ fn read_both(sheet: &str) -> Result<(usize, usize, Kind), Refusal> {
 fn rows_of_the_published_readings() {
     let (answer, rows) = swept(&LOWS, &HIGHS);
     assert_eq!(answer, Ok(8));
-    assert_eq!(rows[..7], [0, 3, 200, 8000, 14000, 40, 70]);
-    assert_eq!(rows[7..14], [0, 4, 525, 16000, 30500, 30, 58]);
-    assert_eq!(rows[14..], [4, 4, 0, 0, 0, 65536, 65536]);
+    let rows: Vec<&[u64]> = rows.chunks(RANGE_ROW_WIDTH).collect();
+    assert_eq!(rows[0], [0, 3, 200, 8000, 14000, 40, 70]);
+    assert_eq!(rows[1], [0, 4, 525, 16000, 30500, 30, 58]);
+    assert_eq!(rows[2], [4, 4, 0, 0, 0, 65536, 65536]);
+    assert_eq!(rows.len(), MARKS.len());
 }
 
 /// Equal ends are no fault, and double the plain rows' sum and value.
 #[test]
 fn equal_ends_double() {
     let (answer, rows) = swept(&HIGHS, &HIGHS);
-    let mut plain = [0; 15];
+    let mut plain = [0; ROW_WIDTH * MARKS.len()];
     assert_eq!(answer, sweep(&MINUTES, &HIGHS, &MARKS, &HALVES, &mut plain));
-    for k in 0..3 {
-        let (seven, five) = (&rows[7 * k..7 * k + 7], &plain[5 * k..5 * k + 5]);
+    for (seven, five) in rows.chunks(RANGE_ROW_WIDTH).zip(plain.chunks(ROW_WIDTH)) {
         assert_eq!(seven[..3], five[..3]);
         assert_eq!(seven[3..5], [five[3], five[3]]);
         assert_eq!(seven[5..], [five[4], five[4]]);
@@ -94,7 +95,7 @@ fn choices_lie_between() {
     let (_, rows) = swept(&LOWS, &HIGHS);
     for second in [0, 1, 31, 60] {
         for last in [0, 7, 20] {
-            let mut plain = [0; 15];
+            let mut plain = [0; ROW_WIDTH * MARKS.len()];
             let answer = sweep(
                 &MINUTES,
                 &[40, second, 80, last],
@@ -103,8 +104,7 @@ fn choices_lie_between() {
                 &mut plain,
             );
             assert_eq!(answer, Ok(8));
-            for k in 0..3 {
-                let (seven, five) = (&rows[7 * k..7 * k + 7], &plain[5 * k..5 * k + 5]);
+            for (seven, five) in rows.chunks(RANGE_ROW_WIDTH).zip(plain.chunks(ROW_WIDTH)) {
                 assert_eq!(seven[..3], five[..3]);
                 assert!(seven[3] <= five[3] && five[3] <= seven[4]);
                 assert!(seven[5] <= five[4] && five[4] <= seven[6]);
@@ -122,7 +122,7 @@ fn choices_lie_between() {
 /// Each end is rounded for itself, a half to the even number.
 #[test]
 fn ends_are_rounded_apart() {
-    let mut rows = [0; 7];
+    let mut rows = [0; RANGE_ROW_WIDTH];
     let answer = sweep_ranges(&[0, 0], &[2, 3], &[3, 4], &[0], &[1], &mut rows);
     assert_eq!(answer, Ok(2));
     assert_eq!(rows, [0, 2, 2, 5, 7, 2, 4]);
@@ -333,7 +333,7 @@ fn no_line_is_longer_than_counted() {
     // 1,024 readings do not fit a sheet with values of five digits; the lists
     // can have them.
     let (minutes, values) = ([65_535; 1024], [65_535; 1024]);
-    let mut rows = [0; 7];
+    let mut rows = [0; RANGE_ROW_WIDTH];
     let answer = sweep_ranges(&minutes, &values, &values, &[65_535], &[65_536], &mut rows);
     assert_eq!(answer, Ok(1024));
     let digits = |k: usize| rows[k].to_string().len();

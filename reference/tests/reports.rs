@@ -10,7 +10,7 @@ fn no<T>(number: u8, place: u64) -> Result<T, Refusal> {
 // ------------------------------------------------------------- one mark
 
 /// The row's answer, with the run compared to it.
-fn one(minutes: &[u16], values: &[u16], mark: u16, half: u32) -> Result<[u64; 5], Refusal> {
+fn one(minutes: &[u16], values: &[u16], mark: u16, half: u32) -> Result<[u64; ROW_WIDTH], Refusal> {
     let answer = one_mark(minutes, values, mark, half);
     let run = one_mark_run(minutes, values, mark, half);
     match answer {

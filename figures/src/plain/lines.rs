@@ -1,13 +1,13 @@
 //! The lines of the sheet and the numbers between their commas.
 
-use super::feed::find_feed;
+use super::feed::Search;
 
 const CARRIAGE_RETURN: u8 = b'\r';
 const COMMA: u8 = b',';
 
 /// The line at byte `from`: the end of its text, and the first byte of the next line.
-pub fn find_line(sheet: &[u8], from: usize) -> Option<(usize, usize)> {
-    let feed = find_feed(sheet, from)?;
+pub fn find_line<S: Search>(sheet: &[u8], from: usize) -> Option<(usize, usize)> {
+    let feed = S::find_feed(sheet, from)?;
     if from < feed && sheet[feed - 1] == CARRIAGE_RETURN {
         return Some((feed - 1, feed + 1));
     }
@@ -35,7 +35,8 @@ fn number_at(text: &[u8], from: usize) -> Option<(u32, usize)> {
     Some((value, at))
 }
 
-/// The values of a mark line: point and bandwidth, which has no range here.
+/// The values of a mark line: point and bandwidth, which has no range here. Inlined in both readers, as it is where there is one.
+#[inline(always)]
 pub fn point_line(text: &[u8]) -> Option<(u16, u32)> {
     let (z, end) = number_at(text, 0)?;
     if end == text.len() {
@@ -48,7 +49,8 @@ pub fn point_line(text: &[u8]) -> Option<(u16, u32)> {
     Some((u16::try_from(z).ok()?, h))
 }
 
-/// The values of a reading line: minute, injection, value.
+/// The values of a reading line: minute, injection, value. Inlined as well.
+#[inline(always)]
 pub fn sample_line(text: &[u8]) -> Option<(u16, u16, u16)> {
     let (t, end) = number_at(text, 0)?;
     if end == text.len() {

@@ -1,12 +1,13 @@
 //! The reader of the sheet, into lists of its own whose used parts are then copied.
 
 use super::checks::{edge_below, out_of_range};
+use super::feed::{ByWords, Search};
 use super::lines::{find_line, point_line, sample_line};
 use super::{refuse, Refusal, Report, MAX_POINTS, MAX_SAMPLES, MAX_SHEET};
 
 /// Passes the header line at byte `from`: where the next line begins.
-fn skip_header(sheet: &[u8], from: usize, names: &[u8]) -> Result<usize, Refusal> {
-    match find_line(sheet, from) {
+fn skip_header<S: Search>(sheet: &[u8], from: usize, names: &[u8]) -> Result<usize, Refusal> {
+    match find_line::<S>(sheet, from) {
         Some((end, next)) if &sheet[from..end] == names => Ok(next),
         _ => refuse(Report::BadHeader, from),
     }
@@ -37,7 +38,7 @@ fn point_fault(
 }
 
 /// The mark lines from byte `from` on, to the empty line: how many, and where the line after it begins.
-fn read_points(
+fn read_points<S: Search>(
     sheet: &[u8],
     from: usize,
     points: &mut [u16; MAX_POINTS],
@@ -46,7 +47,7 @@ fn read_points(
     let mut at = from;
     let mut count = 0;
     while at < sheet.len() {
-        let Some((end, next)) = find_line(sheet, at) else {
+        let Some((end, next)) = find_line::<S>(sheet, at) else {
             break;
         };
         if end == at {
@@ -68,7 +69,7 @@ fn read_points(
 }
 
 /// The reading lines from byte `from` on, to the sheet's end: how many are kept.
-fn read_samples(
+fn read_samples<S: Search>(
     sheet: &[u8],
     from: usize,
     minutes: &mut [u16; MAX_SAMPLES],
@@ -78,7 +79,7 @@ fn read_samples(
     let mut count = 0;
     let mut last = 0;
     while at < sheet.len() {
-        let Some((end, next)) = find_line(sheet, at) else {
+        let Some((end, next)) = find_line::<S>(sheet, at) else {
             return refuse(Report::MalformedLine, at);
         };
         let Some((minute, injection, value)) = sample_line(&sheet[at..end]) else {
@@ -110,6 +111,17 @@ pub fn read(
     points: &mut [u16],
     bandwidths: &mut [u32],
 ) -> Result<(usize, usize), Refusal> {
+    read_by::<ByWords>(sheet, minutes, values, points, bandwidths)
+}
+
+/// The reader by any search for line feeds.
+pub fn read_by<S: Search>(
+    sheet: &[u8],
+    minutes: &mut [u16],
+    values: &mut [u16],
+    points: &mut [u16],
+    bandwidths: &mut [u32],
+) -> Result<(usize, usize), Refusal> {
     let uneven = minutes.len() != MAX_SAMPLES
         || values.len() != MAX_SAMPLES
         || points.len() != MAX_POINTS
@@ -124,10 +136,10 @@ pub fn read(
     let mut vs = [0; MAX_SAMPLES];
     let mut zs = [0; MAX_POINTS];
     let mut hs = [0; MAX_POINTS];
-    let first = skip_header(sheet, 0, b"mark,half")?;
-    let (m, header) = read_points(sheet, first, &mut zs, &mut hs)?;
-    let first = skip_header(sheet, header, b"minute,inj,vdk")?;
-    let n = read_samples(sheet, first, &mut ts, &mut vs)?;
+    let first = skip_header::<S>(sheet, 0, b"mark,half")?;
+    let (m, header) = read_points::<S>(sheet, first, &mut zs, &mut hs)?;
+    let first = skip_header::<S>(sheet, header, b"minute,inj,vdk")?;
+    let n = read_samples::<S>(sheet, first, &mut ts, &mut vs)?;
     minutes[..n].copy_from_slice(&ts[..n]);
     values[..n].copy_from_slice(&vs[..n]);
     points[..m].copy_from_slice(&zs[..m]);

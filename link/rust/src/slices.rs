@@ -1,6 +1,6 @@
 //! The proved calls over slices of any length, with the number that they return.
 //!
-//! Every call returns [`DETAIL_UNIT`] × detail + number. Number 0 means accepted; 1 to 16 is a report
+//! Every call returns [`DETAIL_UNIT`] × detail + number. Number 0 means accepted; 1 to 17 is a report
 //! and the detail its place. A slice for the answer of another length than stated gets report 8 at place 0,
 //! found before all else.
 //!

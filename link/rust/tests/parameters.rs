@@ -205,7 +205,7 @@ fn turn() {
     assert_eq!(slices::turn(&mut record, &MINUTES, &VALUES, 16, 0), 9);
     assert_eq!(
         slices::turn(&mut record, &FALLING, &VALUES, 16, 0),
-        256 * 4 + 4
+        DETAIL_UNIT * 4 + 4
     );
     assert_eq!(record, before);
     assert_eq!(slices::turn(&mut record, &MINUTES, &VALUES, 16, 8), 0);
@@ -583,20 +583,21 @@ fn smooth_ranges() {
     assert_eq!(rows, after);
 }
 
+/// The lists of the reader of both kinds: minutes, lows, highs, points and bandwidths.
+type RangeLists = (
+    [u16; 1024],
+    [u16; 1024],
+    [u16; 1024],
+    [u16; 512],
+    [u32; 512],
+);
+
 #[test]
 fn read_ranges() {
-    let before = ([90; 1024], [91; 1024], [92; 1024], [93; 512], [94; 512]);
+    let before: RangeLists = ([90; 1024], [91; 1024], [92; 1024], [93; 512], [94; 512]);
     let counts_before = [95, 96, 97];
     let (mut lists, mut counts) = (before, counts_before);
-    let read = |sheet,
-                lists: &mut (
-        [u16; 1024],
-        [u16; 1024],
-        [u16; 1024],
-        [u16; 512],
-        [u32; 512],
-    ),
-                counts: &mut [u64]| {
+    let read = |sheet, lists: &mut RangeLists, counts: &mut [u64]| {
         slices::read_ranges(
             sheet,
             &mut lists.0,
