@@ -3,7 +3,7 @@
 use Prim.Native.Nat.{ℕ, _+_, _-_, _^_}
 use mathlib.Core.List.{List, [], _∷_, _++_}
 use mathlib.Core.Option.{Option, none, some}
-use lib.ListN.{replicate}
+use lib.ListN.{drop, replicate}
 use Rattle.meanings.specs.declared.PowerSums.{PowerSums}
 use Rattle.meanings.specs.declared.RunningSums.{RunningSums}
 use Rattle.meanings.specs.declared.Limits.{Limits}
@@ -202,12 +202,18 @@ fill-cases =
 abbrev readings : List ℕ → List ℕ
 readings ls = ascii "mark,half\n0,1\n\nminute,inj,vdk\n" ++ ls
 
+-- a sheet of a byte too many: 1
+abbrev pub too-long-cases : List ℕ → List Case
+too-long-cases s = sheet full s ⇒ outcome (is-report 1 32768) ∷ []
+
+-- such sheets: carriage returns count as bytes too
+abbrev pub too-many : ℕ → List ℕ
+too-many byte = replicate 32769 byte
+
 abbrev pub sheet-cases : List Case
 sheet-cases =
-    -- 1
-    sheet full (replicate 32769 10) ⇒ outcome (is-report 1 32768)
-    ∷ sheet full (replicate 32768 10) ⇒ outcome (is-report 2 0)
-    -- 2
+    -- 2, also of as many bytes as there may be
+    sheet full (replicate 32768 10) ⇒ outcome (is-report 2 0)
     ∷ sheet full (ascii "mark,half") ⇒ outcome (is-report 2 0)
     ∷ sheet full (ascii "mark,hal\n") ⇒ outcome (is-report 2 0)
     ∷ sheet full (ascii "mark,halff\n") ⇒ outcome (is-report 2 0)
@@ -294,28 +300,33 @@ sheet-cases =
     ∷ []
 
 -- a sheet without readings, and its curve
-abbrev empty-sheet : List ℕ
+abbrev pub empty-sheet : List ℕ
 empty-sheet = readings []
 
-abbrev empty-curve : List ℕ
+abbrev pub empty-curve : List ℕ
 empty-curve = ascii "mark,half,left,right,weight,sum,vdk\n0,1,0,0,0,0,-\n\nkept,passes\n0,0\n"
 
-abbrev buffer : List ℕ
+abbrev pub buffer : List ℕ
 buffer = replicate max-output 7
 
-abbrev pub text-cases : List Case
-text-cases =
+-- a sheet with an edge that goes back, and its report
+abbrev pub refused-sheet : List ℕ
+refused-sheet = ascii "mark,half\n20,10\n21,12\n"
+
+-- texts and a buffer b of the length that they are written into
+abbrev pub text-cases : List ℕ → List Case
+text-cases b =
     -- the curve in front of the untouched rest
-    curve-into empty-sheet buffer ⇒ holds (given 67) (empty-curve ++ replicate 44046 7)
+    curve-into empty-sheet b ⇒ holds (given 67) (empty-curve ++ drop 67 b)
     -- a refused sheet: its own report, and the buffer as it was
-    ∷ curve-into (ascii "mark,half\n20,10\n21,12\n") buffer ⇒ holds (is-report 10 16) buffer
+    ∷ curve-into refused-sheet b ⇒ holds (is-report 10 16) b
     -- 8 of a buffer of another length, before every report of the sheet
-    ∷ curve-into empty-sheet (7 ∷ buffer) ⇒ holds (is-report 8 0) (7 ∷ buffer)
-    ∷ curve-into (ascii "mark,half\n20,10\n21,12\n") [] ⇒ holds (is-report 8 0) []
+    ∷ curve-into empty-sheet (7 ∷ b) ⇒ holds (is-report 8 0) (7 ∷ b)
+    ∷ curve-into refused-sheet [] ⇒ holds (is-report 8 0) []
     -- the text of a refusal, also of no report
-    ∷ refusal-into 10 16 buffer ⇒ holds (given 20) (ascii "refused,place\n10,16\n" ++ replicate 44093 7)
-    ∷ refusal-into 0 (2 ^ 64 - 1) buffer ⇒ holds (given 37) (ascii "refused,place\n0,18446744073709551615\n" ++ replicate 44076 7)
-    ∷ refusal-into 10 16 (7 ∷ buffer) ⇒ holds (is-report 8 0) (7 ∷ buffer)
+    ∷ refusal-into 10 16 b ⇒ holds (given 20) (ascii "refused,place\n10,16\n" ++ drop 20 b)
+    ∷ refusal-into 0 (2 ^ 64 - 1) b ⇒ holds (given 37) (ascii "refused,place\n0,18446744073709551615\n" ++ drop 37 b)
+    ∷ refusal-into 10 16 (7 ∷ b) ⇒ holds (is-report 8 0) (7 ∷ b)
     ∷ refusal-into 10 16 sevens ⇒ holds (is-report 8 0) sevens
     ∷ []
 
@@ -412,8 +423,6 @@ line-ending-cases =
     ∷ sheet full (readings (ascii "\r")) ⇒ outcome (is-report 3 30)
     -- an empty line among the readings
     ∷ sheet full (readings (ascii "\r\n")) ⇒ outcome (is-report 3 30)
-    -- carriage returns count as bytes of the sheet
-    ∷ sheet full (replicate 32769 13) ⇒ outcome (is-report 1 32768)
     ∷ []
 
 -- the readings of most turns
@@ -482,8 +491,10 @@ own-cases =
     ++ step-cases
     ++ smooth-cases
     ++ fill-cases
+    ++ too-long-cases (too-many 10)
+    ++ too-long-cases (too-many 13)
     ++ sheet-cases
-    ++ text-cases
+    ++ text-cases buffer
     ++ record-cases
     ++ rounding-cases
     ++ line-ending-cases
