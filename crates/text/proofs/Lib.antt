@@ -1,5 +1,2 @@
-pub mod Lines
-pub mod Parts
 pub mod Swept
 pub mod Tables
-pub mod Values

@@ -1,10 +1,9 @@
 -- The text from lists is the curve: the five numbers of mark k in the rows of a sweep are the estimate at that mark.
-use Prim.Native.Nat.{ℕ, zero, suc, _+_, _-_, _*_, _≤_, _<_}
+use Prim.Native.Nat.{ℕ, zero, suc, _+_, _*_, _≤_, _<_}
 use mathlib.Core.Path.{_≡_, refl, sym, ap, _∙_}
 use mathlib.Core.List.{List, _++_}
-use native.Mathlib.Numerals.{add-one}
 use native.Mathlib.Omega.{arith}
-use lib.ListN.{length, getD, drop, length-append}
+use lib.ListN.{length, getD, drop}
 use lib.Seq.{getD-take, getD-drop}
 use Rattle.meanings.specs.declared.Estimate.{Estimate}
 use Rattle.meanings.specs.Limits.{row-width}
@@ -13,9 +12,10 @@ use Rattle.meanings.specs.Estimate.{estimate, fields, rows}
 use Rattle.meanings.specs.Running.{fresh, passes}
 use Rattle.meanings.specs.Output.{curve-line, curve-lines, curve-text}
 use Rattle.meanings.proofs.SmoothRows.{row-at-point}
-use Rattle.text_decimal.specs.Written.{Stored}
-use Rattle.text.specs.Table.{stored-row, table-lines, table-text, contents-of, curve-of}
-use Rattle.text_decimal.proofs.Writing.{written-empty, written-length, room-behind, stored-behind}
+use Rattle.text_decimal.specs.Written.{put-end, put-list}
+use Rattle.text_lines.specs.Whole.{whole-text}
+use Rattle.text_lines.proofs.Whole.{LinesTo, lines-begin, lines-go-on}
+use Rattle.text.specs.Table.{stored-row, mark-line, table-lines, table-text, contents-of, curve-of}
 
 module _ (ts vs zs hs : List ℕ) (n k : ℕ) (inside : k < n) where
   number-at : (i : ℕ) → i < row-width → getD (rows ts vs zs hs n) (row-width * k + i) 0 ≡ getD (fields (estimate ts vs (getD zs k 0) (getD hs k 0))) i 0
@@ -40,64 +40,21 @@ table-is-curve ts vs zs hs m (suc n) l =
 -- with the rows and the passes of the sweep
 pub table-text-is-curve : (ts vs zs hs : List ℕ)
     → table-text zs hs (rows ts vs zs hs (length zs)) (length ts) (passes ts vs fresh (moves zs hs)) ≡ curve-of ts vs zs hs
-unfolding table-text curve-text
+unfolding whole-text curve-text
 table-text-is-curve ts vs zs hs = rw (table-is-curve ts vs zs hs (length zs) (length zs) (omega arith))
 
--- the first lines are no longer than all of them
-lines-grow : (zs hs rs : List ℕ) (k d : ℕ) → length (table-lines zs hs rs k) ≤ length (table-lines zs hs rs (k + d))
-lines-grow zs hs rs k zero = let e : k + zero ≡ k = omega arith in rw e (omega arith)
-lines-grow zs hs rs k (suc d) =
-    let e : k + suc d ≡ suc (k + d) = omega arith in
-    let l = lines-grow zs hs rs k d in
-    let a = length-append (table-lines zs hs rs (k + d)) (curve-line (getD zs (k + d) 0) (getD hs (k + d) 0) (stored-row rs (k + d))) in
-    rw e (omega arith)
-
--- the lines of the first k marks are stored, and all fit
-pub record LinesTo (out : List ℕ) (p : ℕ) (zs hs rs now : List ℕ) (q k : ℕ) : Type 0 where
+-- the lines of the first k marks are stored, with lists as long as they are to be
+pub record TableTo (out : List ℕ) (p : ℕ) (zs hs rs now : List ℕ) (q k : ℕ) : Type 0 where
   pub even : length hs ≡ length zs
   pub five : length rs ≡ row-width * length zs
-  pub fits : p + length (table-lines zs hs rs (length zs)) ≤ length out
-  pub far : k ≤ length zs
-  pub so-far : Stored out p (table-lines zs hs rs k) now q
+  pub lines : LinesTo (mark-line zs hs rs) (length zs) out p now q k
 
-pub lines-begin : {out : List ℕ} {p : ℕ} {zs hs rs : List ℕ} → length hs ≡ length zs → length rs ≡ row-width * length zs
-    → p + length (table-lines zs hs rs (length zs)) ≤ length out → LinesTo out p zs hs rs out p 0
-lines-begin {out} {p} even five fits =
-    record {
-      even = even;
-      five = five;
-      fits = fits;
-      far = omega arith;
-      so-far = record { text = sym (written-empty out p); end = omega arith };
-    }
+pub table-begins : {out : List ℕ} {p : ℕ} {zs hs rs : List ℕ} → length hs ≡ length zs → length rs ≡ row-width * length zs
+    → p + length (table-lines zs hs rs (length zs)) ≤ length out → TableTo out p zs hs rs out p 0
+table-begins even five fits = record { even = even; five = five; lines = lines-begin fits }
 
-module _ {out : List ℕ} {p : ℕ} {zs hs rs now : List ℕ} {q k : ℕ} (w : LinesTo out p zs hs rs now q k) where
-  -- one more
-  module _ (more : k < length zs) where
-    one-more-fits : p + length (table-lines zs hs rs k ++ curve-line (getD zs k 0) (getD hs k 0) (stored-row rs k)) ≤ length out
-    one-more-fits =
-        let e : suc k + (length zs - suc k) ≡ length zs = omega arith in
-        let l = rw e at (lines-grow zs hs rs (suc k) (length zs - suc k)) in
-        omega (arith, l, w .fits)
-
-    module _ (e : Estimate) (row : e ≡ stored-row rs k) where
-      pub line-fits : q + length (curve-line (getD zs k 0) (getD hs k 0) e) ≤ length now
-      line-fits = rw row (room-behind out p now q (table-lines zs hs rs k) _ one-more-fits (w .so-far))
-
-      pub lines-go-on : (next : List ℕ) (r : ℕ) → Stored now q (curve-line (getD zs k 0) (getD hs k 0) e) next r → LinesTo out p zs hs rs next r (k + 1)
-      lines-go-on next r s =
-          record {
-            even = w .even;
-            five = w .five;
-            fits = w .fits;
-            far = omega arith;
-            so-far = rw (add-one k) (stored-behind out p now q next r (table-lines zs hs rs k) _ one-more-fits (w .so-far) (rw row at s));
-          }
-
-  -- no more
-  module _ (none : length zs ≤ k) where
-    pub lines-stored : Stored out p (table-lines zs hs rs (length zs)) now q
-    lines-stored = let e : k ≡ length zs = omega (arith, w .far) in rw (← e) (w .so-far)
-
-    pub lines-keep-length : length now ≡ length out
-    lines-keep-length = ap length (lines-stored .text) ∙ written-length out p (table-lines zs hs rs (length zs)) (w .fits)
+pub table-goes-on : {out : List ℕ} {p : ℕ} {zs hs rs now : List ℕ} {q k : ℕ} → TableTo out p zs hs rs now q k → k < length zs → (e : Estimate)
+    → e ≡ stored-row rs k → (next : List ℕ) (r : ℕ) → r ≡ put-end now q (curve-line (getD zs k 0) (getD hs k 0) e)
+    → next ≡ put-list now q (curve-line (getD zs k 0) (getD hs k 0) e) → TableTo out p zs hs rs next r (k + 1)
+table-goes-on w more e row next r end list =
+    record { even = w .even; five = w .five; lines = lines-go-on (w .lines) more (rw row at end) (rw row at list) }

@@ -1,16 +1,16 @@
 -- The curve's text from lists: marks, half widths and the flat list of rows. With the rows of a sweep it is the curve of the meanings, by the
 -- law table-is-curve.
-use Prim.Native.Nat.{ℕ, zero, suc, _+_, _*_}
-use mathlib.Core.List.{List, [], _∷_, _++_}
+use Prim.Native.Nat.{ℕ, _+_, _*_}
+use mathlib.Core.List.{List}
 use lib.ListN.{length, getD}
 use Rattle.meanings.specs.declared.Estimate.{Estimate}
-use Rattle.meanings.specs.Bytes.{line-feed, comma, curve-header, totals-header}
+use Rattle.meanings.specs.Bytes.{curve-header}
 use Rattle.meanings.specs.Limits.{full, row-width}
 use Rattle.meanings.specs.Reports.{given, accepted-or}
 use Rattle.meanings.specs.Sheet.{Contents, Outcome, or-next}
 use Rattle.meanings.specs.Calls.{smooth-refusal, smooth-rows, buffer-refusal}
-use Rattle.meanings.specs.Output.{decimal, text-line, value-text, curve-line, curve-text}
-use Rattle.text_decimal.specs.Written.{joined}
+use Rattle.meanings.specs.Output.{curve-line, curve-text}
+use Rattle.text_lines.specs.Whole.{lines-of, whole-text}
 
 -- the row of mark k
 abbrev pub stored-row : List ℕ → ℕ → Estimate
@@ -23,26 +23,16 @@ stored-row rs k =
       value = getD rs (row-width * k + 4) 0;
     }
 
--- a mark's line up to the run's edges, and what follows them
-unfoldable pub edges-text : ℕ → ℕ → ℕ → ℕ → List ℕ
-edges-text z h left right = joined (decimal z ∷ (comma ∷ decimal h) ∷ (comma ∷ decimal left) ∷ (comma ∷ decimal right) ∷ [])
+-- the line of mark k, and the lines of the first n marks
+abbrev pub mark-line : List ℕ → List ℕ → List ℕ → ℕ → List ℕ
+mark-line zs hs rs k = curve-line (getD zs k 0) (getD hs k 0) (stored-row rs k)
 
-unfoldable pub sums-text : ℕ → ℕ → ℕ → List ℕ
-sums-text weight sum value = joined ((comma ∷ decimal weight) ∷ (comma ∷ decimal sum) ∷ (comma ∷ []) ∷ value-text value ∷ [])
-
--- the lines of the first n marks
 abbrev pub table-lines : List ℕ → List ℕ → List ℕ → ℕ → List ℕ
-table-lines zs hs rs zero = []
-table-lines zs hs rs (suc n) = table-lines zs hs rs n ++ curve-line (getD zs n 0) (getD hs n 0) (stored-row rs n)
+table-lines zs hs rs = lines-of (mark-line zs hs rs)
 
 -- the whole text, then kept readings and passes
-unfoldable pub table-text : List ℕ → List ℕ → List ℕ → ℕ → ℕ → List ℕ
-table-text zs hs rs kept passes =
-    text-line curve-header []
-    ++ table-lines zs hs rs (length zs)
-    ++ line-feed
-    ∷ text-line totals-header []
-    ++ text-line (decimal kept) (decimal passes ∷ [])
+abbrev pub table-text : List ℕ → List ℕ → List ℕ → ℕ → ℕ → List ℕ
+table-text zs hs rs = whole-text curve-header (table-lines zs hs rs (length zs))
 
 -- four lists as the contents of a sheet, and their curve
 abbrev pub contents-of : List ℕ → List ℕ → List ℕ → List ℕ → Contents

@@ -1,9 +1,9 @@
 // The text of a curve.
-use crate::writer::put_curve_line;
-use crate::writer::put_pair_line;
-use crate::writer::put_text;
 use meanings::Estimate;
 use meanings::ROW_WIDTH;
+use text_decimal::put_bytes;
+use text_lines::put_curve_line;
+use text_lines::put_pair_line;
 ghost use mathlib.Core.Path.{_≡_};
 ghost use Prim.Native.Nat.{_+_, _*_, _≤_};
 ghost use lib.ListN.{length};
@@ -58,8 +58,8 @@ pub(crate) fn put_curve(
     requires { ⌜ (length (now bandwidths) ≡ length (now points)) × (length (now rows) ≡ row-width * length (now points)) × (length (table-text (now points) (now bandwidths) (now rows) kept passes) ≤ length (now out)) ⌝ }
     ensures { λ r. ⌜ Stored (now (out .entry)) 0 (table-text (now (points .entry)) (now (bandwidths .entry)) (now (rows .entry)) kept passes) (now (out .exit)) r ⌝ }
 {
-    let lines = put_text(out, 0, b"mark,half,left,right,weight,sum,vdk\n");
+    let lines = put_bytes(out, 0, b"mark,half,left,right,weight,sum,vdk\n");
     let lines_end = put_curve_lines(out, lines, points, bandwidths, rows);
-    let totals = put_text(out, lines_end, b"\nkept,passes\n");
+    let totals = put_bytes(out, lines_end, b"\nkept,passes\n");
     put_pair_line(out, totals, kept as u64, passes)
 }

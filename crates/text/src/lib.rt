@@ -1,6 +1,5 @@
 // The text of a curve, as bytes in a lent buffer.
 mod curve;
-mod writer;
 
 use crate::curve::put_curve;
 use meanings::MAX_OUTPUT;

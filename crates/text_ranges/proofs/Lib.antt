@@ -1,4 +1,2 @@
-pub mod Lines
-pub mod Parts
 pub mod Swept
 pub mod Tables

@@ -1,10 +1,9 @@
 -- The text from lists is that of the meanings: the seven numbers of mark k in the rows of a sweep are the row of that mark.
-use Prim.Native.Nat.{ℕ, zero, suc, _+_, _-_, _*_, _≤_, _<_}
+use Prim.Native.Nat.{ℕ, zero, suc, _+_, _*_, _≤_, _<_}
 use mathlib.Core.Path.{_≡_, refl, sym, ap, _∙_}
 use mathlib.Core.List.{List, _++_}
-use native.Mathlib.Numerals.{add-one}
 use native.Mathlib.Omega.{arith}
-use lib.ListN.{length, getD, drop, length-append}
+use lib.ListN.{length, getD, drop}
 use lib.Seq.{getD-take, getD-drop}
 use Rattle.meanings.specs.Moves.{moves}
 use Rattle.meanings.specs.Running.{fresh, passes}
@@ -12,9 +11,10 @@ use Rattle.meanings_ranges.specs.declared.RangeEstimate.{RangeEstimate}
 use Rattle.meanings_ranges.specs.Ranges.{range-row-width, range-estimate, range-fields, range-rows}
 use Rattle.meanings_ranges.specs.RangeOutput.{range-curve-line, range-curve-lines, range-curve-text}
 use Rattle.meanings_ranges.proofs.Sweeps.{range-row-at-point}
-use Rattle.text_decimal.specs.Written.{Stored}
-use Rattle.text_ranges.specs.RangeTable.{stored-range-row, range-table-lines, range-table-text, ranges-of}
-use Rattle.text_decimal.proofs.Writing.{written-empty, written-length, room-behind, stored-behind}
+use Rattle.text_decimal.specs.Written.{put-end, put-list}
+use Rattle.text_lines.specs.Whole.{whole-text}
+use Rattle.text_lines.proofs.Whole.{LinesTo, lines-begin, lines-go-on}
+use Rattle.text_ranges.specs.RangeTable.{stored-range-row, range-mark-line, range-table-lines, range-table-text, ranges-of}
 
 module _ (ts ls us zs hs : List ℕ) (n k : ℕ) (inside : k < n) where
   number-at : (i : ℕ) → i < range-row-width
@@ -51,64 +51,21 @@ table-is-curve ts ls us zs hs m (suc n) l =
 pub table-text-is-curve : (ts ls us zs hs : List ℕ)
     → range-table-text zs hs (range-rows ts ls us zs hs (length zs)) (length ts) (passes ts ls fresh (moves zs hs))
     ≡ range-curve-text (ranges-of ts ls us zs hs)
-unfolding range-table-text range-curve-text
+unfolding whole-text range-curve-text
 table-text-is-curve ts ls us zs hs = rw (table-is-curve ts ls us zs hs (length zs) (length zs) (omega arith))
 
--- the first lines are no longer than all of them
-lines-grow : (zs hs rs : List ℕ) (k d : ℕ) → length (range-table-lines zs hs rs k) ≤ length (range-table-lines zs hs rs (k + d))
-lines-grow zs hs rs k zero = let e : k + zero ≡ k = omega arith in rw e (omega arith)
-lines-grow zs hs rs k (suc d) =
-    let e : k + suc d ≡ suc (k + d) = omega arith in
-    let l = lines-grow zs hs rs k d in
-    let a = length-append (range-table-lines zs hs rs (k + d)) (range-curve-line (getD zs (k + d) 0) (getD hs (k + d) 0) (stored-range-row rs (k + d))) in
-    rw e (omega arith)
-
--- the lines of the first k marks are stored, and all fit
-pub record LinesTo (out : List ℕ) (p : ℕ) (zs hs rs now : List ℕ) (q k : ℕ) : Type 0 where
+-- the lines of the first k marks are stored, with lists as long as they are to be
+pub record TableTo (out : List ℕ) (p : ℕ) (zs hs rs now : List ℕ) (q k : ℕ) : Type 0 where
   pub even : length hs ≡ length zs
   pub seven : length rs ≡ range-row-width * length zs
-  pub fits : p + length (range-table-lines zs hs rs (length zs)) ≤ length out
-  pub far : k ≤ length zs
-  pub so-far : Stored out p (range-table-lines zs hs rs k) now q
+  pub lines : LinesTo (range-mark-line zs hs rs) (length zs) out p now q k
 
-pub lines-begin : {out : List ℕ} {p : ℕ} {zs hs rs : List ℕ} → length hs ≡ length zs → length rs ≡ range-row-width * length zs
-    → p + length (range-table-lines zs hs rs (length zs)) ≤ length out → LinesTo out p zs hs rs out p 0
-lines-begin {out} {p} even seven fits =
-    record {
-      even = even;
-      seven = seven;
-      fits = fits;
-      far = omega arith;
-      so-far = record { text = sym (written-empty out p); end = omega arith };
-    }
+pub table-begins : {out : List ℕ} {p : ℕ} {zs hs rs : List ℕ} → length hs ≡ length zs → length rs ≡ range-row-width * length zs
+    → p + length (range-table-lines zs hs rs (length zs)) ≤ length out → TableTo out p zs hs rs out p 0
+table-begins even seven fits = record { even = even; seven = seven; lines = lines-begin fits }
 
-module _ {out : List ℕ} {p : ℕ} {zs hs rs now : List ℕ} {q k : ℕ} (w : LinesTo out p zs hs rs now q k) where
-  -- one more
-  module _ (more : k < length zs) where
-    one-more-fits : p + length (range-table-lines zs hs rs k ++ range-curve-line (getD zs k 0) (getD hs k 0) (stored-range-row rs k)) ≤ length out
-    one-more-fits =
-        let e : suc k + (length zs - suc k) ≡ length zs = omega arith in
-        let l = rw e at (lines-grow zs hs rs (suc k) (length zs - suc k)) in
-        omega (arith, l, w .fits)
-
-    module _ (e : RangeEstimate) (row : e ≡ stored-range-row rs k) where
-      pub line-fits : q + length (range-curve-line (getD zs k 0) (getD hs k 0) e) ≤ length now
-      line-fits = rw row (room-behind out p now q (range-table-lines zs hs rs k) _ one-more-fits (w .so-far))
-
-      pub lines-go-on : (next : List ℕ) (r : ℕ) → Stored now q (range-curve-line (getD zs k 0) (getD hs k 0) e) next r → LinesTo out p zs hs rs next r (k + 1)
-      lines-go-on next r s =
-          record {
-            even = w .even;
-            seven = w .seven;
-            fits = w .fits;
-            far = omega arith;
-            so-far = rw (add-one k) (stored-behind out p now q next r (range-table-lines zs hs rs k) _ one-more-fits (w .so-far) (rw row at s));
-          }
-
-  -- no more
-  module _ (none : length zs ≤ k) where
-    pub lines-stored : Stored out p (range-table-lines zs hs rs (length zs)) now q
-    lines-stored = let e : k ≡ length zs = omega (arith, w .far) in rw (← e) (w .so-far)
-
-    pub lines-keep-length : length now ≡ length out
-    lines-keep-length = ap length (lines-stored .text) ∙ written-length out p (range-table-lines zs hs rs (length zs)) (w .fits)
+pub table-goes-on : {out : List ℕ} {p : ℕ} {zs hs rs now : List ℕ} {q k : ℕ} → TableTo out p zs hs rs now q k → k < length zs → (e : RangeEstimate)
+    → e ≡ stored-range-row rs k → (next : List ℕ) (r : ℕ) → r ≡ put-end now q (range-curve-line (getD zs k 0) (getD hs k 0) e)
+    → next ≡ put-list now q (range-curve-line (getD zs k 0) (getD hs k 0) e) → TableTo out p zs hs rs next r (k + 1)
+table-goes-on w more e row next r end list =
+    record { even = w .even; seven = w .seven; lines = lines-go-on (w .lines) more (rw row at end) (rw row at list) }

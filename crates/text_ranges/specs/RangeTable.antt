@@ -1,21 +1,18 @@
 -- The text of a curve over ranges from lists: marks, half widths and the flat list of rows. With the rows of a sweep it is the text of the meanings,
 -- by the law table-text-is-curve.
-use Prim.Native.Nat.{ℕ, zero, suc, _+_, _*_}
-use mathlib.Core.List.{List, [], _∷_, _++_}
+use Prim.Native.Nat.{ℕ, _+_, _*_}
+use mathlib.Core.List.{List}
 use lib.ListN.{length, getD}
-use Rattle.meanings.specs.Bytes.{line-feed, comma, totals-header}
 use Rattle.meanings.specs.Limits.{full}
 use Rattle.meanings.specs.Reports.{Answer, given, accepted-or}
 use Rattle.meanings.specs.Sheet.{or-next}
 use Rattle.meanings.specs.Calls.{buffer-refusal}
-use Rattle.meanings.specs.Output.{decimal, text-line, value-text}
-use Rattle.meanings_ranges.specs.declared.Bounds.{Bounds}
 use Rattle.meanings_ranges.specs.declared.RangeEstimate.{RangeEstimate}
 use Rattle.meanings_ranges.specs.declared.Kind.the-variants.{Ranges}
 use Rattle.meanings_ranges.specs.Ranges.{range-row-width, range-refusal, smooth-ranges-rows}
 use Rattle.meanings_ranges.specs.RangeSheet.{RangeContents}
 use Rattle.meanings_ranges.specs.RangeOutput.{range-curve-header, range-curve-line}
-use Rattle.text_decimal.specs.Written.{joined}
+use Rattle.text_lines.specs.Whole.{lines-of, whole-text}
 
 -- the row of mark k
 abbrev pub stored-range-row : List ℕ → ℕ → RangeEstimate
@@ -28,26 +25,16 @@ stored-range-row rs k =
       value = record { low = getD rs (range-row-width * k + 5) 0; high = getD rs (range-row-width * k + 6) 0 };
     }
 
--- what follows the run's edges in a mark's line: weight and sums, and then the values to the line's end
-unfoldable pub sums-text : ℕ → Bounds → List ℕ
-sums-text weight sum = joined ((comma ∷ decimal weight) ∷ (comma ∷ decimal (sum .low)) ∷ (comma ∷ decimal (sum .high)) ∷ [])
+-- the line of mark k, and the lines of the first n marks
+abbrev pub range-mark-line : List ℕ → List ℕ → List ℕ → ℕ → List ℕ
+range-mark-line zs hs rs k = range-curve-line (getD zs k 0) (getD hs k 0) (stored-range-row rs k)
 
-unfoldable pub values-text : Bounds → List ℕ
-values-text value = joined ((comma ∷ value-text (value .low)) ∷ (comma ∷ value-text (value .high)) ∷ (line-feed ∷ []) ∷ [])
-
--- the lines of the first n marks
 abbrev pub range-table-lines : List ℕ → List ℕ → List ℕ → ℕ → List ℕ
-range-table-lines zs hs rs zero = []
-range-table-lines zs hs rs (suc n) = range-table-lines zs hs rs n ++ range-curve-line (getD zs n 0) (getD hs n 0) (stored-range-row rs n)
+range-table-lines zs hs rs = lines-of (range-mark-line zs hs rs)
 
 -- the whole text, then kept readings and passes
-unfoldable pub range-table-text : List ℕ → List ℕ → List ℕ → ℕ → ℕ → List ℕ
-range-table-text zs hs rs kept passes =
-    text-line range-curve-header []
-    ++ range-table-lines zs hs rs (length zs)
-    ++ line-feed
-    ∷ text-line totals-header []
-    ++ text-line (decimal kept) (decimal passes ∷ [])
+abbrev pub range-table-text : List ℕ → List ℕ → List ℕ → ℕ → ℕ → List ℕ
+range-table-text zs hs rs = whole-text range-curve-header (range-table-lines zs hs rs (length zs))
 
 -- five lists as the contents of a sheet with ranges
 abbrev pub ranges-of : List ℕ → List ℕ → List ℕ → List ℕ → List ℕ → RangeContents

@@ -1,10 +1,10 @@
 // The text of a curve over ranges.
-use crate::writer::put_pair_line;
-use crate::writer::put_range_line;
-use crate::writer::put_text;
 use meanings_ranges::Bounds;
 use meanings_ranges::RANGE_ROW_WIDTH;
 use meanings_ranges::RangeEstimate;
+use text_decimal::put_bytes;
+use text_lines::put_pair_line;
+use text_lines::put_range_line;
 ghost use mathlib.Core.Path.{_≡_};
 ghost use Prim.Native.Nat.{_+_, _*_, _≤_};
 ghost use lib.ListN.{length};
@@ -65,12 +65,12 @@ pub(crate) fn put_range_curve(
     requires { ⌜ (length (now bandwidths) ≡ length (now points)) × (length (now rows) ≡ range-row-width * length (now points)) × (length (range-table-text (now points) (now bandwidths) (now rows) kept passes) ≤ length (now out)) ⌝ }
     ensures { λ r. ⌜ Stored (now (out .entry)) 0 (range-table-text (now (points .entry)) (now (bandwidths .entry)) (now (rows .entry)) kept passes) (now (out .exit)) r ⌝ }
 {
-    let lines = put_text(
+    let lines = put_bytes(
         out,
         0,
         b"mark,half,left,right,weight,sumlow,sumhigh,vdklow,vdkhigh\n",
     );
     let lines_end = put_range_lines(out, lines, points, bandwidths, rows);
-    let totals = put_text(out, lines_end, b"\nkept,passes\n");
+    let totals = put_bytes(out, lines_end, b"\nkept,passes\n");
     put_pair_line(out, totals, kept as u64, passes)
 }

@@ -1,6 +1,5 @@
 // The text of a curve over ranges, as bytes in a lent buffer.
 mod curve;
-mod writer;
 
 use crate::curve::put_range_curve;
 use meanings::MAX_OUTPUT;

@@ -2,13 +2,14 @@
 use Prim.Native.Nat.{_-_}
 use native.Mathlib.Omega.{arith}
 use lib.ListN.{length}
-use Rattle.text_ranges.proofs.Tables.{LinesTo, lines-begin, line-fits, lines-go-on, lines-keep-length, lines-stored}
+use Rattle.text_lines.proofs.Whole.{lines-keep-length, lines-stored}
+use Rattle.text_ranges.proofs.Tables.{TableTo, table-begins, table-goes-on}
 use borrow.Author.Needs.{needs}
 use Rattle.text_ranges.proofs.curve.put_range_lines.Statement.{statement}
 use Rattle.text_ranges.proofs.curve.put_range_lines.Tie as tie
 
 abbrev Inv-loop : tie.InvT-loop
-Inv-loop out₀ at points bandwidths rows to₀ k₀ out to k = LinesTo out₀ at points bandwidths rows out to k
+Inv-loop out₀ at points bandwidths rows to₀ k₀ out to k = TableTo out₀ at points bandwidths rows out to k
 
 abbrev μ-loop : tie.MeasureT-loop
 μ-loop out₀ at points bandwidths rows to₀ k₀ out to k = length points - k
@@ -17,10 +18,14 @@ returns : tie.Need-returns Inv-loop μ-loop
 returns c = search lines-stored
 
 loop-again : tie.Need-loop-again Inv-loop μ-loop
-loop-again c = search (lines-go-on, c .before .before .put-range-line .ensures)
+loop-again c =
+    let row = c .before .before .before in
+    let turn = row .before .before .before .before in
+    table-goes-on (turn .before .loop .inv) (turn .loop-test .taken) _ (row .stored-range-row .ensures) _ _ (c .before .before .put-range-line .ensures .0)
+    (c .before .before .put-range-line .ensures .1)
 
 loop-holds : tie.Need-loop-holds Inv-loop μ-loop
-loop-holds c = search lines-begin
+loop-holds c = search table-begins
 
 mul-put-range-line : tie.Need-mul-put-range-line Inv-loop μ-loop
 mul-put-range-line c = search needs
@@ -38,7 +43,7 @@ stored-range-row-requires : tie.Need-stored-range-row-requires Inv-loop μ-loop
 stored-range-row-requires c κs = omega arith
 
 put-range-line-requires : tie.Need-put-range-line-requires Inv-loop μ-loop
-put-range-line-requires c κs = search line-fits
+put-range-line-requires c κs = search needs
 
 add-k : tie.Need-add-k Inv-loop μ-loop
 add-k c = search needs

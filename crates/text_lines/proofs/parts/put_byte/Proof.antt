@@ -1,0 +1,20 @@
+-- One store at byte `at` is the text of that one byte.
+use borrow.Author.Needs.{needs}
+use Rattle.text_decimal.proofs.Writing.{byte-stored}
+use Rattle.text_lines.proofs.parts.put_byte.Statement.{statement}
+use Rattle.text_lines.proofs.parts.put_byte.Tie as tie
+
+slice-write-out : tie.Need-slice-write-out
+slice-write-out c = search needs
+
+add-result : tie.Need-add-result
+add-result c = search needs
+
+same-length : tie.Need-same-length
+same-length c = search needs
+
+returns : tie.Need-returns
+returns c = search byte-stored
+
+pub put-byte-spec : {M : Type 1} → statement M
+put-byte-spec = tie.close (tie.spec slice-write-out add-result same-length returns)
