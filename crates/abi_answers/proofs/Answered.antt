@@ -1,8 +1,8 @@
 -- An answer as one number, and a lent list as its elements: what both are, by what the call below was met as.
-use Prim.Native.Nat.{ℕ, _*_, _%_, _≤_, zero-le}
+use Prim.Native.Nat.{ℕ, _*_, _≤_, zero-le}
 use mathlib.Core.Path.{_≡_, refl, sym, ap, _∙_}
 use mathlib.Core.Bool.{Bool, true, false, true≢false}
-use mathlib.Core.List.{List, [], _∷_}
+use mathlib.Core.List.{List}
 use native.Mathlib.Nat.{mod-eq-of-lt}
 use native.Mathlib.Omega.{arith}
 use borrow.Author.Tests.{eq-eqb, ne-eqb}

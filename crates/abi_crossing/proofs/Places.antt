@@ -24,11 +24,11 @@ use Rattle.abi_answers.proofs.CurvePlaces.{curve-place}
 use Rattle.abi_answers.proofs.Places.{refusal-place}
 
 -- what an accepted call tells: the passes as its detail, and the position as the numbers of a list
-abbrev passes-told : Located → ℕ
-passes-told l = l .passes
+abbrev passes-detail : Located → ℕ
+passes-detail l = l .passes
 
-abbrev position-told : Located → List ℕ
-position-told l = position-numbers (l .position)
+abbrev position-list : Located → List ℕ
+position-list l = position-numbers (l .position)
 
 module _ (ts vs zs hs : List ℕ) (limit : ℕ) where
   pub crossing-place : refusal-place (first-at-most full ts vs zs hs limit) ≤ max-sheet
@@ -56,22 +56,22 @@ module _ (ts vs zs hs : List ℕ) (limit : ℕ) where
       sized-tells : given l ≡ sized 1 xs (first-at-most full ts vs zs hs limit)
       sized-tells = tells l so ∙ right-size 1 xs one (first-at-most full ts vs zs hs limit)
 
-      code-is : detail-unit * l .passes ≡ answered passes-told (sized 1 xs (first-at-most full ts vs zs hs limit))
-      code-is = ap (answered passes-told) sized-tells
+      code-is : detail-unit * l .passes ≡ answered passes-detail (sized 1 xs (first-at-most full ts vs zs hs limit))
+      code-is = ap (answered passes-detail) sized-tells
 
-      list-is : (ys : List ℕ) → ys ≡ replaced (position-told l) xs
-          → ys ≡ stored position-told (sized 1 xs (first-at-most full ts vs zs hs limit)) xs
-      list-is ys e = e ∙ same-length-replaced (position-told l) xs one ∙ ap (λ (o : Answer Located). stored position-told o xs) sized-tells
+      list-is : (ys : List ℕ) → ys ≡ replaced (position-list l) xs
+          → ys ≡ stored position-list (sized 1 xs (first-at-most full ts vs zs hs limit)) xs
+      list-is ys e = e ∙ same-length-replaced (position-list l) xs one ∙ ap (λ (o : Answer Located). stored position-list o xs) sized-tells
 
   module _ (r : Crossing) (answer : crossing-answer r ≡ first-at-most full ts vs zs hs limit) (k n : ℕ) (met : r ≡ Reached k n) where
     pub reached-fits : detail-unit * n < 2 ^ 64
     reached-fits = fits r (Reached k n) answer met _ refl
 
-    pub reached-code : (xs : List ℕ) → length xs ≡ 1 → detail-unit * n ≡ answered passes-told (sized 1 xs (first-at-most full ts vs zs hs limit))
+    pub reached-code : (xs : List ℕ) → length xs ≡ 1 → detail-unit * n ≡ answered passes-detail (sized 1 xs (first-at-most full ts vs zs hs limit))
     reached-code xs one = code-is r (Reached k n) answer met xs one _ refl
 
     pub reached-stored : (xs ys : List ℕ) → length xs ≡ 1 → (f : Found) → f ≡ At k → ys ≡ replaced (position-numbers (found-position f)) xs
-        → ys ≡ stored position-told (sized 1 xs (first-at-most full ts vs zs hs limit)) xs
+        → ys ≡ stored position-list (sized 1 xs (first-at-most full ts vs zs hs limit)) xs
     reached-stored xs ys one f q e =
         list-is r (Reached k n) answer met xs one _ refl ys (e ∙ ap (λ (g : Found). replaced (position-numbers (found-position g)) xs) q)
 
@@ -79,10 +79,10 @@ module _ (ts vs zs hs : List ℕ) (limit : ℕ) where
     pub not-reached-fits : detail-unit * n < 2 ^ 64
     not-reached-fits = fits r (NotReached n) answer met _ refl
 
-    pub not-reached-code : (xs : List ℕ) → length xs ≡ 1 → detail-unit * n ≡ answered passes-told (sized 1 xs (first-at-most full ts vs zs hs limit))
+    pub not-reached-code : (xs : List ℕ) → length xs ≡ 1 → detail-unit * n ≡ answered passes-detail (sized 1 xs (first-at-most full ts vs zs hs limit))
     not-reached-code xs one = code-is r (NotReached n) answer met xs one _ refl
 
     pub not-reached-stored : (xs ys : List ℕ) → length xs ≡ 1 → (f : Found) → f ≡ Nothing → ys ≡ replaced (position-numbers (found-position f)) xs
-        → ys ≡ stored position-told (sized 1 xs (first-at-most full ts vs zs hs limit)) xs
+        → ys ≡ stored position-list (sized 1 xs (first-at-most full ts vs zs hs limit)) xs
     not-reached-stored xs ys one f q e =
         list-is r (NotReached n) answer met xs one _ refl ys (e ∙ ap (λ (g : Found). replaced (position-numbers (found-position g)) xs) q)

@@ -1,11 +1,11 @@
 -- Code and list, by what the call below was met as; and that both together tell what was handed over.
-use Prim.Native.Nat.{ℕ}
+use Prim.Native.Nat.{ℕ, _*_}
 use mathlib.Core.Path.{_≡_, refl, sym, ap, _∙_}
 use mathlib.Core.List.{List, [], _∷_}
 use native.Mathlib.Omega.{arith}
 use lib.ListN.{length, set, drop}
 use lib.Ieee.{Float}
-use Rattle.meanings.specs.Codes.{answered}
+use Rattle.meanings.specs.Codes.{answered, detail-unit}
 use Rattle.meanings.specs.Reports.{Answer, given}
 use Rattle.meanings_doubles.specs.declared.Cell.{Cell}
 use Rattle.meanings_doubles.specs.declared.Cell.the-variants.{Empty, One, Pair}
@@ -28,36 +28,36 @@ module _ (w n : ℕ) (r x : Cell) (answer : cell-doubles r ≡ handed w n) (met 
   tells : given (cell-doubles x) ≡ sized 2 xs (given (handed w n))
   tells = ap given (sym (ap cell-doubles met) ∙ answer) ∙ right-size 2 xs two (given (handed w n))
 
-  code-told : answered used (given (cell-doubles x)) ≡ answered used (sized 2 xs (given (handed w n)))
-  code-told = ap (answered used) tells
+  code-is : answered used (given (cell-doubles x)) ≡ answered used (sized 2 xs (given (handed w n)))
+  code-is = ap (answered used) tells
 
-  list-told : in-front (cell-doubles x) xs ≡ filled (sized 2 xs (given (handed w n))) xs
-  list-told = ap (λ (a : Answer Doubles). filled a xs) tells
+  list-is : in-front (cell-doubles x) xs ≡ filled (sized 2 xs (given (handed w n))) xs
+  list-is = ap (λ (a : Answer Doubles). filled a xs) tells
 
 module _ (w n : ℕ) (r : Cell) (answer : cell-doubles r ≡ handed w n) (xs : List Float) (two : length xs ≡ 2) where
   pub empty-code : r ≡ Empty → 0 ≡ answered used (sized 2 xs (given (handed w n)))
-  empty-code met = code-told w n r Empty answer met xs two
+  empty-code met = code-is w n r Empty answer met xs two
 
   pub empty-stays : r ≡ Empty → xs ≡ filled (sized 2 xs (given (handed w n))) xs
-  empty-stays met = list-told w n r Empty answer met xs two
+  empty-stays met = list-is w n r Empty answer met xs two
 
-  pub one-code : (d : Float) → r ≡ One d → 256 ≡ answered used (sized 2 xs (given (handed w n)))
-  one-code d met = code-told w n r (One d) answer met xs two
+  pub one-code : (d : Float) → r ≡ One d → detail-unit ≡ answered used (sized 2 xs (given (handed w n)))
+  one-code d met = code-is w n r (One d) answer met xs two
 
   pub one-stored : (d : Float) → r ≡ One d → set xs 0 d ≡ filled (sized 2 xs (given (handed w n))) xs
-  one-stored d met = first-set xs two d ∙ list-told w n r (One d) answer met xs two
+  one-stored d met = first-set xs two d ∙ list-is w n r (One d) answer met xs two
 
-  pub pair-code : (p : HighLow) → r ≡ Pair p → 512 ≡ answered used (sized 2 xs (given (handed w n)))
-  pair-code p met = code-told w n r (Pair p) answer met xs two
+  pub pair-code : (p : HighLow) → r ≡ Pair p → 2 * detail-unit ≡ answered used (sized 2 xs (given (handed w n)))
+  pair-code p met = code-is w n r (Pair p) answer met xs two
 
   pub pair-stored : (p : HighLow) → r ≡ Pair p → set (set xs 0 (p .high)) 1 (p .low) ≡ filled (sized 2 xs (given (handed w n))) xs
-  pair-stored p met = both-set xs two (p .high) (p .low) ∙ list-told w n r (Pair p) answer met xs two
+  pair-stored p met = both-set xs two (p .high) (p .low) ∙ list-is w n r (Pair p) answer met xs two
 
 -- how many are used and the list tell what was handed over
-pub told-back : (d : Doubles) (xs : List Float) → read-back (used d) (in-front d xs) ≡ d
-told-back empty xs = refl
-told-back (one a) xs = refl
-told-back (pair a b) xs = refl
+pub doubles-read-back : (d : Doubles) (xs : List Float) → read-back (used d) (in-front d xs) ≡ d
+doubles-read-back empty xs = refl
+doubles-read-back (one a) xs = refl
+doubles-read-back (pair a b) xs = refl
 
 -- and the others are as they were
 pub others-stay : (d : Doubles) (xs : List Float) → drop (used d) (in-front d xs) ≡ drop (used d) xs

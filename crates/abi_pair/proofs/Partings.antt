@@ -1,10 +1,10 @@
 -- The detail and the list at exit, by what the call below was met as.
 use Prim.Native.Nat.{ℕ, _*_}
-use mathlib.Core.Path.{_≡_, refl, sym, ap, _∙_}
+use mathlib.Core.Path.{_≡_, sym, ap, _∙_}
 use mathlib.Core.List.{List, [], _∷_}
-use mathlib.Core.Option.{Option, none, some}
+use mathlib.Core.Option.{Option}
 use lib.ListN.{length}
-use Rattle.meanings.specs.Reports.{Answer, given, refused, fault-of}
+use Rattle.meanings.specs.Reports.{Answer}
 use Rattle.meanings.specs.Codes.{detail-unit, answered}
 use Rattle.meanings.specs.declared.Refusal.{Refusal}
 use Rattle.meanings_pair.specs.declared.Split.{Split}

@@ -9,7 +9,7 @@ use borrow.Author.Tests.{ltb-false}
 use lib.Dec.{ltb, eqb}
 use lib.ListN.{length, getD}
 use Rattle.meanings.specs.Limits.{full, max-sheet}
-use Rattle.meanings.specs.Reports.{Fault, Answer, given, refused, unless, Check, check, first-of, differ, decreases, bad-bandwidth, edge-decreases}
+use Rattle.meanings.specs.Reports.{Fault, Answer, given, refused, unless, Check, first-of, decreases, bad-bandwidth, edge-decreases}
 use Rattle.meanings.specs.Reports.{uneven-samples, uneven-points, series-checks, curve-checks}
 use Rattle.meanings.proofs.Checks.{at-none, or-false, differ-false}
 use Rattle.meanings_pair.specs.Comparison.{Parting, with-bounds, fault-place, second-checks, compare-checks, compare-refusal, parted, compare, compare-bounds}

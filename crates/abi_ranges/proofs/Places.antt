@@ -1,5 +1,5 @@
 -- The sweep over ranges is refused at a position of its lists, and its passes are at most twice the readings. So no answer overflows.
-use Prim.Native.Nat.{ℕ, _*_, _≤_}
+use Prim.Native.Nat.{ℕ, _≤_}
 use mathlib.Core.Path.{_≡_, sym, ap, _∙_}
 use mathlib.Core.Bool.{_||_}
 use mathlib.Core.List.{List}
@@ -11,7 +11,7 @@ use Rattle.meanings.specs.declared.Smoothing.{Smoothing}
 use Rattle.meanings.specs.declared.Smoothing.the-variants.{Passes}
 use Rattle.meanings.specs.Limits.{full, max-sheet}
 use Rattle.meanings.specs.Moves.{moves}
-use Rattle.meanings.specs.Reports.{given, differ, decreases, bad-bandwidth, edge-decreases, uneven-samples, uneven-rows}
+use Rattle.meanings.specs.Reports.{differ, decreases, bad-bandwidth, edge-decreases, uneven-samples, uneven-rows}
 use Rattle.meanings.specs.Running.{fresh, passes}
 use Rattle.meanings.specs.Calls.{smoothing-answer}
 use Rattle.meanings.proofs.Checks.{at-none, or-false, differ-false, given-accepted, same-limits}

@@ -11,7 +11,7 @@ use Rattle.meanings_ranges.specs.declared.RangeParsing.the-variants.{Used}
 use Rattle.meanings_ranges.specs.RangeSheet.{RangeContents}
 use Rattle.meanings_ranges.specs.RangeCalls.{RangeCounts, range-parsing-answer, range-counts, range-front}
 use Rattle.abi_answers.specs.Answers.{sized, stored, replaced}
-use Rattle.abi_answers.proofs.Answered.{uneven, other-size, right-size, same-length-replaced}
+use Rattle.abi_answers.proofs.Answered.{other-size, right-size, same-length-replaced}
 use Rattle.abi_sheet_ranges.specs.KindNumbers.{kind-number, range-count-numbers}
 
 module _ (cs : List ℕ) (o : Answer RangeContents) where

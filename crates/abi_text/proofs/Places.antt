@@ -1,5 +1,5 @@
 -- A text is refused as its sheet is, or at 0, and has at most max-output bytes, that of a refusal at most 56. So no answer overflows.
-use Prim.Native.Nat.{ℕ, _^_, _≤_, _<_, zero-le}
+use Prim.Native.Nat.{ℕ, _^_, _≤_, _<_}
 use mathlib.Core.Path.{_≡_, refl, sym, ap, _∙_}
 use mathlib.Core.List.{List}
 use mathlib.Core.Option.{Option, none, some}

@@ -23,12 +23,12 @@ use Rattle.meanings_biweight.specs.Biweight.{biweight-bandwidth, biweight-weigh
 use Rattle.biweight_table.specs.Table.{IsTable}
 use Rattle.biweight.specs.declared.Weighed.{Weighed}
 use Rattle.biweight.specs.Rows as rows
-use Rattle.biweight.specs.Rows.{Accepted, ShortRun, RowAt}
+use Rattle.biweight.specs.Rows.{SeriesAccepted, ShortRun, RowAt}
 
 pub right-within : {ts : List ℕ} {m right : ℕ} → FoundFrom ts 0 (length ts) m right → right ≤ length ts
 right-within f = found-from-start f .inside
 
-module _ {ts vs : List ℕ} (z : ℕ) {right low left : ℕ} (a : Accepted ts vs) (f : FoundFrom ts 0 (length ts) (z + biweight-bandwidth + 1) right)
+module _ {ts vs : List ℕ} (z : ℕ) {right low left : ℕ} (a : SeriesAccepted ts vs) (f : FoundFrom ts 0 (length ts) (z + biweight-bandwidth + 1) right)
     (e : low ≡ z - biweight-bandwidth) (g : FoundFrom ts 0 right low left) where
   right-is : right ≡ right-of ts z biweight-bandwidth
   right-is = right-is-new z biweight-bandwidth f ∙ right-found ts z biweight-bandwidth (a .ordered) 0 (omega arith)
@@ -71,7 +71,7 @@ module _ (ts vs : List ℕ) {L : Limits} {v : Verdict} (l : L ≡ full) (f : ver
   found : {w : Verdict} → v ≡ w → biweight-refusal full ts vs ≡ verdict-fault w
   found q = sym (ap verdict-fault (sym q) ∙ f ∙ ap (λ (M : Limits). first-of (series-checks M ts vs)) l)
 
-  pub readings-accepted : v ≡ Fit → Accepted ts vs
+  pub readings-accepted : v ≡ Fit → SeriesAccepted ts vs
   readings-accepted q =
       let b = none-of-both (size-checks full ts vs) (sample-order-checks ts) (found q) in
       let s = size-accepts full ts vs (b .0) in

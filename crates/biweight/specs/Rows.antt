@@ -11,7 +11,7 @@ use Rattle.biweight_table.specs.Table.{IsTable}
 use Rattle.biweight.specs.declared.Weighed as declared
 
 -- readings that pass every check
-pub record Accepted (ts vs : List ℕ) : Type 0 where
+pub record SeriesAccepted (ts vs : List ℕ) : Type 0 where
   pub even : length ts ≡ length vs
   pub few : length ts ≤ full .samples
   pub ordered : Ordered ts

@@ -16,7 +16,7 @@ ghost use Rattle.meanings.specs.Limits.{full as full-limits};
 ghost use Rattle.meanings.specs.Calls.{evaluation-answer};
 ghost use Rattle.estimator.specs.Rows.{FoundFrom};
 ghost use Rattle.meanings_biweight.specs.Biweight.{biweight as biweight-meaning};
-ghost use Rattle.biweight.specs.Rows.{Accepted, ShortRun, Weighed as Weighed-over, RowAt};
+ghost use Rattle.biweight.specs.Rows.{SeriesAccepted, ShortRun, Weighed as Weighed-over, RowAt};
 
 // The minutes on each side of the mark that the window reaches.
 const BANDWIDTH: u32 = 720;
@@ -75,7 +75,7 @@ fn weigh(
 
 // The row of accepted readings.
 fn row_at(minutes: &[u16], values: &[u16], point: u16) -> Estimate
-    requires { ⌜ Accepted (now minutes) (now values) ⌝ }
+    requires { ⌜ SeriesAccepted (now minutes) (now values) ⌝ }
     ensures { λ r. ⌜ RowAt (now (minutes .entry)) (now (values .entry)) point r ⌝ }
 {
     let over = point as u64 + BANDWIDTH as u64 + 1;

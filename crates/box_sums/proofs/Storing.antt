@@ -13,7 +13,7 @@ use lib.ListN.{length, getD, set, take, length-set}
 use lib.Seq.{take-suc-set, take-all}
 use Rattle.meanings.specs.Running.{minus}
 use Rattle.arithmetic.proofs.Wrapping.{wraps-back-is-minus}
-use Rattle.box_sums.specs.Pairs.{four-terms, Corners, pair-places, table-row, table-boxes, Strips, StripsTold, RowReady, RowPut, Fitting, BoxesTried}
+use Rattle.box_sums.specs.Pairs.{four-terms, Corners, pair-places, table-row, table-boxes, Strips, StripsTested, RowReady, RowPut, Fitting, BoxesTried}
 
 -- the four numbers of a box: the first two added, then each of the others taken away
 pub four-terms-are : (xs : List ℕ) (a b c d t v r : ℕ) → r < 2 ^ 64 → v < 2 ^ 64 → t ≡ (getD xs (66 * b + d) 0 + getD xs (66 * a + c) 0) % 2 ^ 64
@@ -240,13 +240,13 @@ pub record StripsTo (fs es : List ℕ) (n k : ℕ) : Type 0 where
   pub few : k ≤ n
 
 module _ {fs es : List ℕ} {n : ℕ} where
-  no-strips : ¬ Strips fs es n → StripsTold fs es n false
+  no-strips : ¬ Strips fs es n → StripsTested fs es n false
   no-strips h = record { are = λ e. absurd (true≢false (sym e)); are-not = λ e. h }
 
-  pub firsts-too-few : length fs < n → StripsTold fs es n false
+  pub firsts-too-few : length fs < n → StripsTested fs es n false
   firsts-too-few l = no-strips (λ s. omega (arith, s .firsts))
 
-  pub ends-too-few : length es < n → StripsTold fs es n false
+  pub ends-too-few : length es < n → StripsTested fs es n false
   ends-too-few l = no-strips (λ s. omega (arith, s .ends))
 
   pub strips-begin : n ≤ length fs → n ≤ length es → StripsTo fs es n 0
@@ -264,10 +264,10 @@ module _ {fs es : List ℕ} {n : ℕ} where
     pub tested-end : k < n → k < length es
     tested-end l = omega (arith, t .ends)
 
-    pub first-too-high : k < n → 65 < getD fs k 0 → StripsTold fs es n false
+    pub first-too-high : k < n → 65 < getD fs k 0 → StripsTested fs es n false
     first-too-high l h = no-strips (λ s. let m = s .first k l in omega arith)
 
-    pub end-too-high : k < n → 65 < getD es k 0 → StripsTold fs es n false
+    pub end-too-high : k < n → 65 < getD es k 0 → StripsTested fs es n false
     end-too-high l h = no-strips (λ s. let m = s .end k l in omega arith)
 
     pub strips-go-on : k < n → getD fs k 0 ≤ 65 → getD es k 0 ≤ 65 → StripsTo fs es n (k + 1)
@@ -287,7 +287,7 @@ module _ {fs es : List ℕ} {n : ℕ} where
         one-more xs f h i o (yes e) = rw e h
         one-more xs f h i o (no e) = f i (omega (arith, e))
 
-    pub all-strips : n ≤ k → StripsTold fs es n true
+    pub all-strips : n ≤ k → StripsTested fs es n true
     all-strips l =
         let e : n ≡ k = omega (arith, t .few) in
         record { are = λ q. rw e (t .so-far); are-not = λ q. absurd (true≢false q) }
@@ -312,16 +312,16 @@ module _ {xs ys fs es : List ℕ} {n : ℕ} {ls hs : List ℕ} {m : ℕ} {bs : L
   pub room-differs : ¬ (length bs ≡ 2 * n * m) → BoxesTried xs ys fs es n ls hs m bs bs
   room-differs d = not-put (λ f. d (f .room))
 
-  module _ {r : Bool} (s : StripsTold fs es n r) where
+  module _ {r : Bool} (s : StripsTested fs es n r) where
     pub strips-differ : r ≡ false → BoxesTried xs ys fs es n ls hs m bs bs
     strips-differ e = not-put (λ f. s .are-not e (f .strips))
 
-  module _ {q : Bool} (o : StripsTold ls hs m q) where
+  module _ {q : Bool} (o : StripsTested ls hs m q) where
     pub others-differ : q ≡ false → BoxesTried xs ys fs es n ls hs m bs bs
     others-differ e = not-put (λ f. o .are-not e (f .others))
 
   module _ {r q : Bool} (a : length xs ≡ 4356) (b : length ys ≡ 4356) (l : n ≤ 32) (u : m ≤ 32) (room : length bs ≡ 2 * n * m)
-      (s : StripsTold fs es n r) (e : r ≡ true) (o : StripsTold ls hs m q) (d : q ≡ true) where
+      (s : StripsTested fs es n r) (e : r ≡ true) (o : StripsTested ls hs m q) (d : q ≡ true) where
     pub fitting : Fitting xs ys fs es n ls hs m bs
     fitting = record { counts = a; sums = b; few = l; other-few = u; room = room; strips = s .are e; others = o .are d }
 

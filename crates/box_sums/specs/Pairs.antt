@@ -42,7 +42,7 @@ pub record Strips (fs es : List ℕ) (n : ℕ) : Type 0 where
   pub first : (k : ℕ) → k < n → getD fs k 0 ≤ 65
   pub end : (k : ℕ) → k < n → getD es k 0 ≤ 65
 
-pub record StripsTold (fs es : List ℕ) (n : ℕ) (r : Bool) : Type 0 where
+pub record StripsTested (fs es : List ℕ) (n : ℕ) (r : Bool) : Type 0 where
   pub are : r ≡ true → Strips fs es n
   pub are-not : r ≡ false → ¬ Strips fs es n
 

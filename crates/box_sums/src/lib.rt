@@ -1,12 +1,12 @@
 // Count and value sum of every pair of windows, from two tables of cumulative sums. The function that another crate can reach takes every input.
 mod pairs;
 
-use crate::pairs::put_rows;
-ghost use Rattle.box_sums.specs.Pairs.{StripsTold, BoxesTried};
+use crate::pairs::put_box_rows;
+ghost use Rattle.box_sums.specs.Pairs.{StripsTested, BoxesTried};
 
 // Whether the first n numbers of both lists are strips: 0 to 65.
 pub(crate) fn strips_within(firsts: &[usize], ends: &[usize], n: usize) -> bool
-    ensures { λ r. ⌜ StripsTold (now (firsts .entry)) (now (ends .entry)) n r ⌝ }
+    ensures { λ r. ⌜ StripsTested (now (firsts .entry)) (now (ends .entry)) n r ⌝ }
 {
     if firsts.len() < n {
         return false;
@@ -59,7 +59,7 @@ pub fn put_boxes(
     }
     if strips_within(firsts, ends, n) {
         if strips_within(lows, highs, m) {
-            put_rows(counts, sums, firsts, ends, n, lows, highs, m, boxes)
+            put_box_rows(counts, sums, firsts, ends, n, lows, highs, m, boxes)
         }
     }
 }

@@ -16,7 +16,7 @@ pub(crate) fn box_sum(table: &[u64], first: usize, end: usize, low: usize, high:
 }
 
 // Count and value sum of one minute mark with each of m temperature marks, stored from `at` on.
-pub(crate) fn put_row(
+pub(crate) fn put_box_row(
     counts: &[u64],
     sums: &[u64],
     first: usize,
@@ -43,7 +43,7 @@ pub(crate) fn put_row(
 }
 
 // The same of n minute marks, slowest.
-pub(crate) fn put_rows(
+pub(crate) fn put_box_rows(
     counts: &[u64],
     sums: &[u64],
     firsts: &[usize],
@@ -61,7 +61,7 @@ pub(crate) fn put_rows(
     let mut j = 0;
     while j < n {
         let next = at + 2 * m;
-        put_row(counts, sums, firsts[j], ends[j], lows, highs, m, boxes, at);
+        put_box_row(counts, sums, firsts[j], ends[j], lows, highs, m, boxes, at);
         at = next;
         j += 1;
     }

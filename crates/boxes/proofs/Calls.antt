@@ -18,7 +18,7 @@ use Rattle.cuts.specs.Cuts.{CutsTried}
 use Rattle.cells.specs.Cells.{Fitting, CellsTried}
 use Rattle.windows.specs.Windows.{WindowsTried}
 use Rattle.windows.proofs.Storing.{window-begins-with, window-ends-before}
-use Rattle.boxes.specs.Filling.{CellsOf, StripsOf, BoxesByStrips, CutsOf, BoxesByCuts, Judged, Accepted, Filled}
+use Rattle.boxes.specs.Filling.{CellsOf, StripsOf, BoxesByStrips, CutsOf, BoxesByCuts, Judged, ListsAccepted, Filled}
 
 -- The strips of a direction's windows, by its cuts.
 strips-of : (A : Axis) (ds : List ℕ) (p : ℕ) → CutsOf (A .points) (A .bandwidths) (A .widest + 1) ds p → (fs₀ es₀ : List ℕ) → length fs₀ ≡ 32
@@ -52,7 +52,7 @@ cuts-of zs hs s e l ds₀ a ds p t =
     let c = t .put (record { even = omega arith; room = omega arith }) in
     record { even = e; few = l; room = omega (arith, c .most, c .lent); ranked = c .ranked }
 
-module _ {ts us vs zs hs ys ks bs cs ss : List ℕ} (A : Accepted ts us vs zs hs ys ks bs cs ss) {ds₀ os₀ ds os : List ℕ} {p q : ℕ}
+module _ {ts us vs zs hs ys ks bs cs ss : List ℕ} (A : ListsAccepted ts us vs zs hs ys ks bs cs ss) {ds₀ os₀ ds os : List ℕ} {p q : ℕ}
     (a : length ds₀ ≡ 64) (b : length os₀ ≡ 64) (D : CutsTried zs hs 65537 ds₀ ds p) (O : CutsTried ys ks 257 os₀ os q) where
   minute-cuts-of : CutsOf zs hs 65537 ds p
   minute-cuts-of = cuts-of zs hs 65537 (A .accepted .even-points) (A .accepted .narrow .few) ds₀ a ds p D
@@ -107,7 +107,7 @@ module _ {ts us vs zs hs ys ks : List ℕ} (bs cs ss : List ℕ) {v : Verdict} (
   found : {w : Verdict} → v ≡ w → box-refusal (minute-axis ts zs hs) (temperature-axis us ys ks) vs (length bs) (length cs) (length ss) ≡ verdict-fault w
   found q = sym (g .refusal) ∙ ap verdict-fault q
 
-  pub accepted : v ≡ Fit → Accepted ts us vs zs hs ys ks bs cs ss
+  pub accepted : v ≡ Fit → ListsAccepted ts us vs zs hs ys ks bs cs ss
   accepted q = record { accepted = boxes-accept (minute-axis ts zs hs) (temperature-axis us ys ks) vs (length bs) (length cs) (length ss) (found q) }
 
   module _ {e : Refusal} (q : v ≡ Faulty e) where

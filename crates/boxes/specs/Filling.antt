@@ -51,7 +51,7 @@ pub record Judged (ts us vs zs hs ys ks : List ℕ) (b c s : ℕ) (v : Verdict) 
   pub refusal : verdict-fault v ≡ first-of (box-checks (minute-axis ts zs hs) (temperature-axis us ys ks) vs b c s)
 
 -- lists that no check refuses
-pub record Accepted (ts us vs zs hs ys ks bs cs ss : List ℕ) : Type 0 where
+pub record ListsAccepted (ts us vs zs hs ys ks bs cs ss : List ℕ) : Type 0 where
   pub accepted : BoxesAccepted (minute-axis ts zs hs) (temperature-axis us ys ks) vs (length bs) (length cs) (length ss)
 
 -- all three lists

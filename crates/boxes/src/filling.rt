@@ -7,7 +7,7 @@ use cuts::minute_cuts;
 use cuts::temperature_cuts;
 use windows::minute_windows;
 use windows::temperature_windows;
-ghost use Rattle.boxes.specs.Filling.{BoxesByStrips, BoxesByCuts, Accepted, Filled};
+ghost use Rattle.boxes.specs.Filling.{BoxesByStrips, BoxesByCuts, ListsAccepted, Filled};
 
 // Boxes by the strips of both directions' windows, from tables over both lists of cells.
 pub(crate) fn put_by_strips(
@@ -95,7 +95,7 @@ pub(crate) fn fill(
     counts: &mut [u32],
     sums: &mut [u32],
 )
-    requires { ⌜ Accepted (now minutes) (now temperatures) (now values) (now points) (now bandwidths) (now «temperature_points») (now «temperature_bandwidths») (now boxes) (now counts) (now sums) ⌝ }
+    requires { ⌜ ListsAccepted (now minutes) (now temperatures) (now values) (now points) (now bandwidths) (now «temperature_points») (now «temperature_bandwidths») (now boxes) (now counts) (now sums) ⌝ }
     ensures { λ _. ⌜ Filled (now (minutes .entry)) (now (temperatures .entry)) (now (values .entry)) (now (points .entry)) (now (bandwidths .entry)) (now («temperature_points» .entry)) (now («temperature_bandwidths» .entry)) (now (boxes .exit)) (now (counts .exit)) (now (sums .exit)) ⌝ }
 {
     let mut first_cuts = [0u64; 64];

@@ -18,8 +18,8 @@ use Rattle.meanings_boxes.specs.Boxes.{minute-axis, temperature-axis, cuts, cut
 use Rattle.laws_boxes.proofs.Sums.{gathered-more, gathered-none}
 use Rattle.laws_boxes.proofs.Corners.{cell-list-length, cell-list-at}
 use Rattle.cuts.specs.Cuts.{Ranked}
-use Rattle.strips.specs.Strips.{StripTold}
-use Rattle.cells.specs.Cells.{Searchable, Fitting, FitsTold, Cleared, CellFound, Clean, CellsFilled, CellsTried}
+use Rattle.strips.specs.Strips.{StripOrZero}
+use Rattle.cells.specs.Cells.{Searchable, Fitting, FitsTested, Cleared, CellFound, Clean, CellsFilled, CellsTried}
 
 -- Zeros.
 pub record ZerosTo (cs ks : List ℕ) (i : ℕ) : Type 0 where
@@ -58,8 +58,8 @@ module _ {cs ks : List ℕ} {i : ℕ} (z : ZerosTo cs ks i) where
       by c (no m) = beyond ks c (omega arith)
 
 -- The cell of a reading.
-module _ {ds : List ℕ} {n : ℕ} {es : List ℕ} {m : ℕ} (o : Searchable ds n es m) (x y p q : ℕ) (s : StripTold ds n (x + 65537) p)
-    (t : StripTold es m (y + 257) q) where
+module _ {ds : List ℕ} {n : ℕ} {es : List ℕ} {m : ℕ} (o : Searchable ds n es m) (x y p q : ℕ) (s : StripOrZero ds n (x + 65537) p)
+    (t : StripOrZero es m (y + 257) q) where
   pub cell-found : CellFound ds n es m x y (65 * p + q)
   cell-found =
       let P = s .found (o .few) (o .room) in
@@ -75,7 +75,7 @@ module _ {ds : List ℕ} {n : ℕ} {es : List ℕ} {m : ℕ} (o : Searchable ds 
       let Q = t .found (o .other-few) (o .other-room) in
       omega (arith, P .few, Q .few, o .few, o .other-few)
 
-pub strip-product : {ds : List ℕ} {n : ℕ} {es : List ℕ} {m : ℕ} (o : Searchable ds n es m) (x p : ℕ) (s : StripTold ds n x p) → Fits w64 (65 * p)
+pub strip-product : {ds : List ℕ} {n : ℕ} {es : List ℕ} {m : ℕ} (o : Searchable ds n es m) (x p : ℕ) (s : StripOrZero ds n x p) → Fits w64 (65 * p)
 strip-product o x p s = let P = s .found (o .few) (o .room) in omega (arith, P .few, o .few)
 
 -- a value of 16 bits has 32
@@ -213,38 +213,38 @@ module _ {ts us vs ds : List ℕ} {n : ℕ} {es : List ℕ} {m : ℕ} {cs₀ ss�
 
 -- The lengths.
 module _ (t u v : ℕ) (ds : List ℕ) (n : ℕ) (es : List ℕ) (m c s : ℕ) where
-  unfit-so : ¬ Fitting t u v ds n es m c s → FitsTold t u v ds n es m c s false
+  unfit-so : ¬ Fitting t u v ds n es m c s → FitsTested t u v ds n es m c s false
   unfit-so f = record { fits = λ e. absurd (true≢false (sym e)); unfit = λ e. f }
 
-  pub temperatures-differ : ¬ (t ≡ u) → FitsTold t u v ds n es m c s false
+  pub temperatures-differ : ¬ (t ≡ u) → FitsTested t u v ds n es m c s false
   temperatures-differ d = unfit-so (λ f. d (f .even))
 
-  pub values-differ : ¬ (t ≡ v) → FitsTold t u v ds n es m c s false
+  pub values-differ : ¬ (t ≡ v) → FitsTested t u v ds n es m c s false
   values-differ d = unfit-so (λ f. d (f .even-values))
 
-  pub too-many : 1024 < t → FitsTold t u v ds n es m c s false
+  pub too-many : 1024 < t → FitsTested t u v ds n es m c s false
   too-many l = unfit-so (λ f. omega (arith, f .few))
 
-  pub cuts-too-many : 64 < n → FitsTold t u v ds n es m c s false
+  pub cuts-too-many : 64 < n → FitsTested t u v ds n es m c s false
   cuts-too-many l = unfit-so (λ f. omega (arith, f .cuts-there .few))
 
-  pub cuts-too-short : length ds < n → FitsTold t u v ds n es m c s false
+  pub cuts-too-short : length ds < n → FitsTested t u v ds n es m c s false
   cuts-too-short l = unfit-so (λ f. omega (arith, f .cuts-there .room))
 
-  pub others-too-many : 64 < m → FitsTold t u v ds n es m c s false
+  pub others-too-many : 64 < m → FitsTested t u v ds n es m c s false
   others-too-many l = unfit-so (λ f. omega (arith, f .cuts-there .other-few))
 
-  pub others-too-short : length es < m → FitsTold t u v ds n es m c s false
+  pub others-too-short : length es < m → FitsTested t u v ds n es m c s false
   others-too-short l = unfit-so (λ f. omega (arith, f .cuts-there .other-room))
 
-  pub counts-differ : ¬ (c ≡ 4225) → FitsTold t u v ds n es m c s false
+  pub counts-differ : ¬ (c ≡ 4225) → FitsTested t u v ds n es m c s false
   counts-differ d = unfit-so (λ f. d (f .counts))
 
-  pub sums-differ : ¬ (s ≡ 4225) → FitsTold t u v ds n es m c s false
+  pub sums-differ : ¬ (s ≡ 4225) → FitsTested t u v ds n es m c s false
   sums-differ d = unfit-so (λ f. d (f .sums))
 
   pub all-fit : t ≡ u → t ≡ v → t ≤ 1024 → n ≤ 64 → n ≤ length ds → m ≤ 64 → m ≤ length es → c ≡ 4225 → s ≡ 4225
-      → FitsTold t u v ds n es m c s true
+      → FitsTested t u v ds n es m c s true
   all-fit a b d e f g h i j = record {
     fits = λ q. record {
       even = a;
@@ -259,7 +259,7 @@ module _ (t u v : ℕ) (ds : List ℕ) (n : ℕ) (es : List ℕ) (m c s : ℕ) w
 
 -- Both lists cleared, and filled.
 module _ {ts us vs ds : List ℕ} {n : ℕ} {es : List ℕ} {m : ℕ} {cs ss : List ℕ} {r : Bool}
-    (f : FitsTold (length ts) (length us) (length vs) ds n es m (length cs) (length ss) r) where
+    (f : FitsTested (length ts) (length us) (length vs) ds n es m (length cs) (length ss) r) where
   pub not-filled : r ≡ false → CellsTried ts us vs ds n es m cs ss cs ss
   not-filled e = record { filled = λ g. absurd (f .unfit e g); left = λ g. (refl, refl) }
 

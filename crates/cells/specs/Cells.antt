@@ -25,7 +25,7 @@ pub record Fitting (t u v : ℕ) (ds : List ℕ) (n : ℕ) (es : List ℕ) (m c 
   pub sums : s ≡ 4225
 
 -- r says whether they fit
-pub record FitsTold (t u v : ℕ) (ds : List ℕ) (n : ℕ) (es : List ℕ) (m c s : ℕ) (r : Bool) : Type 0 where
+pub record FitsTested (t u v : ℕ) (ds : List ℕ) (n : ℕ) (es : List ℕ) (m c s : ℕ) (r : Bool) : Type 0 where
   pub fits : r ≡ true → Fitting t u v ds n es m c s
   pub unfit : r ≡ false → ¬ Fitting t u v ds n es m c s
 

@@ -2,7 +2,7 @@
 // takes every input.
 mod readings;
 
-ghost use Rattle.cells.specs.Cells.{FitsTold, CellsTried};
+ghost use Rattle.cells.specs.Cells.{FitsTested, CellsTried};
 
 // Whether lists can be filled: readings alike in number and at most 1,024, at most 64 cuts a direction, and 4,225 cells in each list.
 pub fn fillable(
@@ -16,7 +16,7 @@ pub fn fillable(
     counts: usize,
     sums: usize,
 ) -> bool
-    ensures { λ r. ⌜ FitsTold minutes temperatures values (now (cuts .entry)) n (now («temperature_cuts» .entry)) m counts sums r ⌝ }
+    ensures { λ r. ⌜ FitsTested minutes temperatures values (now (cuts .entry)) n (now («temperature_cuts» .entry)) m counts sums r ⌝ }
 {
     if minutes != temperatures {
         return false;

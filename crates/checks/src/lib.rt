@@ -1,6 +1,7 @@
 // The single tests that the calls' refusals are made of, the limits, and the reports' numbers. Every function takes every input.
 use meanings::Found;
 use meanings::Limits;
+use meanings::MAX_BANDWIDTH;
 use meanings::Report;
 ghost use mathlib.Core.Path.{_≡_};
 ghost use lib.ListN.{length};
@@ -82,7 +83,7 @@ pub fn outside(bandwidth: u32, most: u32) -> bool
 pub fn out_of_range(bandwidth: u32) -> bool
     ensures { λ r. ⌜ r ≡ bad-bandwidth bandwidth ⌝ }
 {
-    outside(bandwidth, 65536)
+    outside(bandwidth, MAX_BANDWIDTH)
 }
 
 // Whether a list of so many numbers has another length than `width` numbers a mark. No product is made, so none wraps.

@@ -1,7 +1,7 @@
 -- What the tests of the code, one after the other, say of the checks: each law takes a way out of the code with the tests before it.
 use Prim.Native.Nat.{ℕ, _*_, _/_, _%_, _≤_, _<_}
 use mathlib.Core.Path.{_≡_, refl, sym, ap, _∙_}
-use mathlib.Core.Bool.{Bool, true, false, _||_}
+use mathlib.Core.Bool.{Bool, true, false}
 use mathlib.Core.List.{List, _++_}
 use mathlib.Core.Option.{Option, none, some}
 use native.Mathlib.Decide.{ℕ-discrete}
@@ -13,11 +13,13 @@ use Rattle.meanings.specs.declared.Found.the-variants.{At, Nothing}
 use Rattle.meanings.specs.declared.Refusal.{Refusal}
 use Rattle.meanings.specs.declared.Verdict.{Verdict}
 use Rattle.meanings.specs.declared.Verdict.the-variants.{Fit, Faulty}
+use Rattle.meanings.specs.Limits.{max-bandwidth}
 use Rattle.meanings.specs.Lists.{lowest}
 use Rattle.meanings.specs.Reports.{Fault, Check, fault-of, verdict-fault, found-position, first-of, differ, decreases, outside-at, uneven-rows}
 use Rattle.meanings.specs.Reports.{point-order-checks, bandwidth-list-checks}
 use Rattle.meanings.proofs.Checks.{differ-true, differ-same, found-in-front, found-none-in-front, found-behind}
-use Rattle.meanings_boxes.specs.Boxes.{Axis, box-limits, uneven-boxes, box-size-checks, second-order-checks, axis-bandwidth-checks, box-checks}
+use Rattle.meanings_boxes.specs.Boxes.{max-temperature-bandwidth, Axis, box-limits, uneven-boxes, box-size-checks, second-order-checks}
+use Rattle.meanings_boxes.specs.Boxes.{axis-bandwidth-checks, box-checks}
 
 -- two places a pair: an odd number of places is not; of an even one, half as many are as many as there are pairs
 module _ (x m n : ℕ) where
@@ -113,15 +115,17 @@ module _ (zs ys : List ℕ) {f : Found} (d : found-position f ≡ lowest (decrea
     orders-fit q′ = rw (sym d ∙ ap found-position q, sym d′ ∙ ap found-position q′)
 
 -- the half widths: of minute marks, of temperature marks
-module _ (hs ks : List ℕ) {f : Found} (d : found-position f ≡ lowest (outside-at 65536 hs) (length hs)) where
-  pub half-width-bad : {i : ℕ} → f ≡ At i → some (record { number = 9; place = i }) ≡ first-of (bandwidth-list-checks 65536 hs ++ bandwidth-list-checks 256 ks)
+module _ (hs ks : List ℕ) {f : Found} (d : found-position f ≡ lowest (outside-at max-bandwidth hs) (length hs)) where
+  pub half-width-bad : {i : ℕ} → f ≡ At i
+      → some (record { number = 9; place = i }) ≡ first-of (bandwidth-list-checks max-bandwidth hs ++ bandwidth-list-checks max-temperature-bandwidth ks)
   half-width-bad q = rw (sym d ∙ ap found-position q)
 
-  module _ {g : Found} (q : f ≡ Nothing) (d′ : found-position g ≡ lowest (outside-at 256 ks) (length ks)) where
-    pub other-bad : {i : ℕ} → g ≡ At i → some (record { number = 9; place = i }) ≡ first-of (bandwidth-list-checks 65536 hs ++ bandwidth-list-checks 256 ks)
+  module _ {g : Found} (q : f ≡ Nothing) (d′ : found-position g ≡ lowest (outside-at max-temperature-bandwidth ks) (length ks)) where
+    pub other-bad : {i : ℕ} → g ≡ At i
+        → some (record { number = 9; place = i }) ≡ first-of (bandwidth-list-checks max-bandwidth hs ++ bandwidth-list-checks max-temperature-bandwidth ks)
     other-bad q′ = rw (sym d ∙ ap found-position q, sym d′ ∙ ap found-position q′)
 
-    pub half-widths-fit : g ≡ Nothing → none ≡ first-of (bandwidth-list-checks 65536 hs ++ bandwidth-list-checks 256 ks)
+    pub half-widths-fit : g ≡ Nothing → none ≡ first-of (bandwidth-list-checks max-bandwidth hs ++ bandwidth-list-checks max-temperature-bandwidth ks)
     half-widths-fit q′ = rw (sym d ∙ ap found-position q, sym d′ ∙ ap found-position q′)
 
 -- lengths, orders, half widths, one behind the other

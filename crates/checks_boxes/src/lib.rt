@@ -3,16 +3,20 @@ use checks::first_decrease;
 use checks::uneven_rows;
 use checks_curve::first_out_of_range;
 use meanings::Found;
+use meanings::MAX_BANDWIDTH;
 use meanings::Refusal;
 use meanings::Report;
 use meanings::Verdict;
+use meanings_boxes::MAX_TEMPERATURE_BANDWIDTH;
 ghost use Prim.Native.Nat.{_*_};
 ghost use mathlib.Core.Path.{_≡_};
 ghost use mathlib.Core.List.{_++_};
 ghost use lib.ListN.{length};
+ghost use Rattle.meanings.specs.Limits.{max-bandwidth};
 ghost use Rattle.meanings.specs.Lists.{lowest};
 ghost use Rattle.meanings.specs.Reports.{verdict-fault, found-position, first-of, differ, decreases, point-order-checks, bandwidth-list-checks};
-ghost use Rattle.meanings_boxes.specs.Boxes.{minute-axis, temperature-axis, box-limits, uneven-boxes, box-size-checks, second-order-checks, box-checks};
+ghost use Rattle.meanings_boxes.specs.Boxes.{max-temperature-bandwidth, minute-axis, temperature-axis, box-limits, uneven-boxes, box-size-checks};
+ghost use Rattle.meanings_boxes.specs.Boxes.{second-order-checks, box-checks};
 
 // Whether a list has other than two places for each pair of marks. No product is made, so none wraps.
 pub fn uneven_pairs(places: usize, points: usize, others: usize) -> bool
@@ -163,14 +167,17 @@ pub fn mark_order_fault(points: &[u16], temperature_points: &[u8]) -> Verdict
 
 // What the half widths of both directions earn, each by its own greatest one: 9.
 pub fn half_width_fault(bandwidths: &[u32], temperature_bandwidths: &[u32]) -> Verdict
-    ensures { λ r. ⌜ verdict-fault r ≡ first-of (bandwidth-list-checks 65536 (now (bandwidths .entry)) ++ bandwidth-list-checks 256 (now («temperature_bandwidths» .entry))) ⌝ }
+    ensures { λ r. ⌜ verdict-fault r ≡ first-of (bandwidth-list-checks max-bandwidth (now (bandwidths .entry)) ++ bandwidth-list-checks max-temperature-bandwidth (now («temperature_bandwidths» .entry))) ⌝ }
 {
-    match first_out_of_range(bandwidths, 65536) {
+    match first_out_of_range(bandwidths, MAX_BANDWIDTH) {
         Found::At(i) => Verdict::Faulty(Refusal {
             report: Report::BandwidthOutOfRange,
             place: i,
         }),
-        Found::Nothing => match first_out_of_range(temperature_bandwidths, 256) {
+        Found::Nothing => match first_out_of_range(
+            temperature_bandwidths,
+            MAX_TEMPERATURE_BANDWIDTH,
+        ) {
             Found::At(i) => Verdict::Faulty(Refusal {
                 report: Report::BandwidthOutOfRange,
                 place: i,

@@ -14,14 +14,14 @@ use Rattle.meanings_pair.specs.Comparison.{fault-place, second-checks, compare-
 
 module _ (L : Limits) (us ws : List ℕ) {v : Verdict} (f : verdict-fault v ≡ first-of (series-checks L us ws)) where
   -- whatever the lists earn is told as 16, at its own place
-  told : {w : Verdict} → v ≡ w → fault-or 16 (fault-place (verdict-fault w)) none ≡ first-of (second-checks L us ws)
-  told q = ap (λ (o : Option Fault). fault-or 16 (fault-place o) none) (sym (ap verdict-fault q) ∙ f)
+  as-second : {w : Verdict} → v ≡ w → fault-or 16 (fault-place (verdict-fault w)) none ≡ first-of (second-checks L us ws)
+  as-second q = ap (λ (o : Option Fault). fault-or 16 (fault-place o) none) (sym (ap verdict-fault q) ∙ f)
 
   pub second-unfit : {e : Refusal} → v ≡ Faulty e → some (record { number = 16; place = e .place }) ≡ first-of (second-checks L us ws)
-  second-unfit q = told q
+  second-unfit q = as-second q
 
   pub second-fit : v ≡ Fit → none ≡ first-of (second-checks L us ws)
-  second-fit q = told q
+  second-fit q = as-second q
 
 module _ (L : Limits) (ts vs us ws zs hs : List ℕ) {v : Verdict} (f : verdict-fault v ≡ first-of (curve-checks L ts vs zs hs false)) where
   pub first-decides : {e : Refusal} → v ≡ Faulty e → some (fault-of e) ≡ first-of (compare-checks L ts vs us ws zs hs)

@@ -7,6 +7,7 @@ use checks_curve::first_out_of_range;
 use checks_curve::order_fault;
 use meanings::Found;
 use meanings::Limits;
+use meanings::MAX_BANDWIDTH;
 use meanings::ROW_WIDTH;
 use meanings::Refusal;
 use meanings::Report;
@@ -36,7 +37,7 @@ pub(crate) fn windows_fault(points: &[u16], bandwidths: &[u32]) -> Verdict
     requires { ⌜ length (now points) ≡ length (now bandwidths) ⌝ }
     ensures { λ r. ⌜ WindowsJudged (now (points .entry)) (now (bandwidths .entry)) r ⌝ }
 {
-    match first_out_of_range(bandwidths, 65536) {
+    match first_out_of_range(bandwidths, MAX_BANDWIDTH) {
         Found::At(i) => Verdict::Faulty(Refusal {
             report: Report::BandwidthOutOfRange,
             place: i,

@@ -1,10 +1,10 @@
 -- A row of the table is the row above and the running sum of its own cells. Cells of 32 bits keep every sum far below 2^64.
-use Prim.Native.Nat.{ℕ, zero, suc, _+_, _-_, _*_, _≤_, _<_, zero-le}
+use Prim.Native.Nat.{ℕ, zero, suc, _+_, _*_, _≤_, _<_, zero-le}
 use mathlib.Core.Path.{_≡_, refl, sym, ap, _∙_}
-use mathlib.Core.List.{List, [], _∷_}
-use native.Mathlib.Decide.{decLt, decLe, ℕ-discrete}
+use mathlib.Core.List.{List}
+use native.Mathlib.Decide.{decLe, ℕ-discrete}
 use native.Mathlib.Numerals.{add-one}
-use native.Mathlib.Nat.{zero-add, add-zero}
+use native.Mathlib.Nat.{zero-add}
 use native.Mathlib.Omega.{arith}
 use mir.Val.{Fits}
 use mir.Syntax.{w32, w64}

@@ -13,5 +13,5 @@ pub fn accumulate(cells: &[u32], table: &mut [u64])
     if table.len() != 4356 {
         return;
     }
-    rows::put_rows(cells, table)
+    rows::put_table_rows(cells, table)
 }

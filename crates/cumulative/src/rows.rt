@@ -15,7 +15,7 @@ pub(crate) fn put_first_row(cells: &[u32], table: &mut [u64])
 }
 
 // Row a + 1 by row a and the cells of strip a.
-pub(crate) fn put_row(cells: &[u32], a: usize, table: &mut [u64])
+pub(crate) fn put_table_row(cells: &[u32], a: usize, table: &mut [u64])
     requires { ⌜ RowBefore (now cells) (now table) a ⌝ }
     ensures { λ _. ⌜ RowsTo (now (cells .entry)) (now (table .exit)) (a + 1) ⌝ }
 {
@@ -30,14 +30,14 @@ pub(crate) fn put_row(cells: &[u32], a: usize, table: &mut [u64])
 }
 
 // All rows.
-pub(crate) fn put_rows(cells: &[u32], table: &mut [u64])
+pub(crate) fn put_table_rows(cells: &[u32], table: &mut [u64])
     requires { ⌜ Sized (now cells) (now table) ⌝ }
     ensures { λ _. ⌜ Accumulated (now (cells .entry)) (now (table .exit)) ⌝ }
 {
     put_first_row(cells, table);
     let mut a = 0;
     while a < 65 {
-        put_row(cells, a, table);
+        put_table_row(cells, a, table);
         a += 1;
     }
 }

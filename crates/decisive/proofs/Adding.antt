@@ -1,7 +1,7 @@
 -- The first pass: what lies before the window has no weight, and weight and sum are those of the readings before i; behind the window there is
 -- no weight again, since minutes are in order. Of 1,024 readings neither comes near 2^64.
-use Prim.Native.Nat.{ℕ, suc, _+_, _-_, _*_, _^_, _≤_, _<_, zero-le}
-use mathlib.Core.Path.{_≡_, refl, sym, ap, _∙_}
+use Prim.Native.Nat.{ℕ, _+_, _-_, _*_, _^_, _≤_, _<_, zero-le}
+use mathlib.Core.Path.{_≡_, sym, ap, _∙_}
 use mathlib.Core.List.{List}
 use native.Mathlib.Nat.{le-trans, mul-le-mul, zero-add, zero-mul}
 use native.Mathlib.Numerals.{add-one}
@@ -10,16 +10,15 @@ use native.Mathlib.Omega.{arith}
 use mir.Val.{Fits}
 use mir.Syntax.{w16, w64}
 use lib.ListN.{length, getD}
-use Rattle.meanings.specs.Limits.{full, max-bandwidth, max-u16}
-use Rattle.meanings.specs.Lists.{total, Ordered, AtMost}
-use Rattle.meanings.specs.Estimate.{Inside, kernel, weight-of, sum-of}
+use Rattle.meanings.specs.Limits.{max-bandwidth, max-u16}
+use Rattle.meanings.specs.Lists.{total, AtMost}
+use Rattle.meanings.specs.Estimate.{kernel}
 use Rattle.meanings.proofs.Bounds.{total-at-most}
 use Rattle.meanings.proofs.Checks.{EvaluateAccepted}
 use Rattle.meanings.proofs.Kernel.{kernel-at-most}
 use Rattle.meanings.proofs.Published.{outside-is-zero}
 use Rattle.meanings.proofs.Totals.{total-zero, total-narrow}
 use Rattle.meanings_decisive.proofs.Removal.{weight-over-all, sum-over-all}
-use Rattle.decisive.specs.declared.Run.{Run}
 use Rattle.decisive.specs.Search.{BeginsAt, IsRun}
 
 -- the search for the window's first reading

@@ -1,10 +1,9 @@
 -- The second pass: no reading before i decides, and weight, sum and verdict are those of the whole lists. Less a reading's terms they are weight
 -- and sum of the lists without it, and so their verdict.
-use Prim.Native.Nat.{ℕ, suc, _+_, _-_, _*_, _^_, _≤_, _<_, zero-le}
+use Prim.Native.Nat.{ℕ, _+_, _-_, _*_, _^_, _≤_, _<_}
 use mathlib.Core.Path.{_≡_, refl, sym, ap, _∙_}
 use mathlib.Core.Bool.{Bool, true, false, not, Bool·beq}
 use mathlib.Core.List.{List}
-use mathlib.Core.Option.{none, some}
 use native.Mathlib.Decide.{decLt}
 use native.Mathlib.Omega.{arith}
 use mir.Val.{Fits}
@@ -20,11 +19,11 @@ use Rattle.meanings.specs.Reports.{given, refused, fault-of, verdict-fault, fir
 use Rattle.meanings.specs.Estimate.{estimate, kernel, weight-of, sum-of, value-of}
 use Rattle.meanings.specs.Calls.{evaluate-refusal}
 use Rattle.meanings.proofs.Checks.{same-limits, EvaluateAccepted, evaluate-accepts}
-use Rattle.meanings.proofs.Search.{NoneBelow, one-more-below, none-lowest, lowest-at}
+use Rattle.meanings.proofs.Search.{none-lowest, lowest-at}
 use Rattle.meanings_limit.specs.Threshold.{at-or-below}
 use Rattle.meanings_decisive.specs.declared.Decisive.{Decisive}
 use Rattle.meanings_decisive.specs.declared.Decisive.the-variants.{Sample, NoSample}
-use Rattle.meanings_decisive.specs.Decisive.{decisive-answer, without, verdict, differs, decides, first-decisive, decisive}
+use Rattle.meanings_decisive.specs.Decisive.{decisive-answer, without, verdict, differs, decides, decisive}
 use Rattle.meanings_decisive.proofs.Decides.{weightless-keeps}
 use Rattle.meanings_decisive.proofs.Removal.{weight-without, sum-without}
 use Rattle.decisive.specs.declared.Run.{Run}

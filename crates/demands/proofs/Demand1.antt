@@ -155,10 +155,10 @@ module _ (n : ℕ) (xs ts vs : List ℕ) (z h : ℕ) where
       (first-numbered (length-first n xs (evaluate-conditions ts vs h)) refl) evaluate-exactly
 
 pub exported-evaluate-refused : (ts vs : List ℕ) (z h : ℕ) (row : List ℕ) (c : ℕ) (row′ : List ℕ) → ExportedEvaluate ts vs z h row c row′
-    → RefusedAndStays (code-refusal c) (FirstFault (length-first 5 row (evaluate-conditions ts vs h))) (row′ ≡ row)
+    → RefusedAndStays (code-refusal c) (FirstFault (length-first row-width row (evaluate-conditions ts vs h))) (row′ ≡ row)
 exported-evaluate-refused ts vs z h row c row′ k =
     let t = sized row-width row (evaluate full ts vs z h) in
-    exported-stays t c _ (evaluate-coded 5 row ts vs z h c (k .ensured .0)) (evaluate-exactly 5 row ts vs z h)
+    exported-stays t c _ (evaluate-coded row-width row ts vs z h c (k .ensured .0)) (evaluate-exactly row-width row ts vs z h)
     (row′ ≡ row) (λ e q. k .ensured .1 ∙ stored-stays fields t row e q)
 
 pub exported-window-refused : (ts vs : List ℕ) (z h : ℕ) (bs : List ℕ) (c : ℕ) (bs′ : List ℕ) → ExportedWindow ts vs z h bs c bs′
@@ -195,7 +195,7 @@ exported-advance-refused xs ts vs z h c xs′ k =
 -- the row of a record of nine numbers, behind a list of five
 module _ (xs : List ℕ) (z h : ℕ) (row : List ℕ) where
   abbrev pub row-coded : Answer Estimate
-  row-coded = sized record-length xs (sized 5 row (given (record-row (record-of xs) z h)))
+  row-coded = sized record-length xs (sized row-width row (given (record-row (record-of xs) z h)))
 
   pub record-row-coded : (c : ℕ) → c ≡ answered no-detail row-coded → code-refusal c ≡ refusal row-coded
   record-row-coded c q = exported-refusal no-detail row-coded c _ q (first-numbered (record-row-conditions xs row) refl)

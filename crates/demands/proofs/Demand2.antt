@@ -1,5 +1,5 @@
 -- Demand 2 of the calls: by its contract a row is the meaning's row of accepted input, which is the published one.
-use Prim.Native.Nat.{ℕ, _+_, _-_, _*_, _<_}
+use Prim.Native.Nat.{ℕ, _+_, _*_, _<_}
 use mathlib.Core.Path.{_≡_, sym, ap, _∙_}
 use mathlib.Core.List.{List}
 use mathlib.Core.Option.{Option, none}
@@ -79,8 +79,8 @@ demand-2 = record {
       );
   smooth-rows = λ ts vs zs hs rs n rs′ v c. swept-rows full (same-limits full) ts vs zs hs rs rs′ n v (sym (c .ensured .0)) (c .ensured .1);
   exported-row = λ ts vs z h row c row′ v k q.
-      let e = k .ensured .1 ∙ row-stored 5 ts vs z h row c (k .ensured .0) q fields in
-      (code-is-zero 5 ts vs z h row c (k .ensured .0) q, ap length e, rw e (row-published 5 ts vs z h row c (k .ensured .0) q v));
+      let e = k .ensured .1 ∙ row-stored row-width ts vs z h row c (k .ensured .0) q fields in
+      (code-is-zero row-width ts vs z h row c (k .ensured .0) q, ap length e, rw e (row-published row-width ts vs z h row c (k .ensured .0) q v));
   exported-bounds = λ ts vs z h bs c bs′ e v k q p. (
     code-is-zero 2 ts vs z h bs c (k .ensured .0) q,
     k .ensured .1

@@ -1,7 +1,7 @@
 -- Demand 3 of the calls. By its contract each call leaves the record that the step's meaning gives, so a list of calls leaves what a list of
 -- steps leaves, and the claim about the list holds of the records and answers that the caller saw. The exported call is the same step on a
 -- record that is kept as nine numbers.
-use Prim.Native.Nat.{ℕ, suc, _+_, _*_, _<_}
+use Prim.Native.Nat.{ℕ, suc, _*_, _<_}
 use mathlib.Core.Path.{_≡_, refl, sym, ap, _∙_}
 use mathlib.Core.List.{List, [], _∷_, _++_}
 use mathlib.Core.Option.{Option}

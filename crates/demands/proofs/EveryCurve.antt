@@ -7,7 +7,7 @@ use mathlib.Core.Option.{none}
 use lib.ListN.{length, getD}
 use Rattle.meanings.specs.declared.Estimate.{Estimate}
 use Rattle.meanings.specs.declared.Limits.{Limits}
-use Rattle.meanings.specs.Limits.{full, preview, LimitsWithin}
+use Rattle.meanings.specs.Limits.{full, preview, LimitsWithin, row-width}
 use Rattle.meanings.specs.Reports.{Answer, given}
 use Rattle.meanings.specs.Estimate.{missing, estimate, fields}
 use Rattle.meanings.specs.Calls.{smooth, smooth-rows}
@@ -52,9 +52,9 @@ every-curve = record {
       swept-among preview preview-within-full ts vs zs hs rs rs′ k l (c .ensured .1) p n (sym (c .ensured .0));
   sheet-among = λ s c k i l p. estimate-among (c .minutes) (c .values) _ _ (accepted-contents s c (printed-is-read full s c i) .minute-order) p;
   exported-evaluate-among = λ ts vs z h row c row′ k q p.
-      let e = five-are-row row′ 0 (given-row 5 ts vs z h row c (k .ensured .0) q .0)
-      (rw (k .ensured .1, row-stored 5 ts vs z h row c (k .ensured .0) q fields) refl) in
-      evaluation-among ts vs z h (stored-row row′ 0) (row-is-evaluate 5 ts vs z h row c (k .ensured .0) q ∙ ap given (sym e)) p;
+      let e = five-are-row row′ 0 (given-row row-width ts vs z h row c (k .ensured .0) q .0)
+      (rw (k .ensured .1, row-stored row-width ts vs z h row c (k .ensured .0) q fields) refl) in
+      evaluation-among ts vs z h (stored-row row′ 0) (row-is-evaluate row-width ts vs z h row c (k .ensured .0) q ∙ ap given (sym e)) p;
   exported-smooth-among = λ ts vs zs hs rs c rs′ k x q l p.
       coded-among full (same-limits full) ts vs zs hs rs rs′ k l (x .ensured .1) p c (x .ensured .0) q;
   exported-preview-among = λ ts vs zs hs rs c rs′ k x q l p.
@@ -77,8 +77,8 @@ every-curve = record {
       ∙ sym (program-holds s′ .plain-text _ j);
   exported-evaluate-alike = λ ts vs vs′ z h row c d row₁ row₂ r k l.
       let e = same-curves ts vs vs′ r .evaluations full z h in (
-        k .ensured .0 ∙ ap (λ (t : Answer Estimate). answered no-detail (sized 5 row t)) e ∙ sym (l .ensured .0),
-        k .ensured .1 ∙ ap (λ (t : Answer Estimate). stored fields (sized 5 row t) row) e ∙ sym (l .ensured .1),
+        k .ensured .0 ∙ ap (λ (t : Answer Estimate). answered no-detail (sized row-width row t)) e ∙ sym (l .ensured .0),
+        k .ensured .1 ∙ ap (λ (t : Answer Estimate). stored fields (sized row-width row t) row) e ∙ sym (l .ensured .1),
       );
   exported-smooth-alike = λ ts vs vs′ zs hs rs c d rs₁ rs₂ r k l.
       let s = same-curves ts vs vs′ r in (

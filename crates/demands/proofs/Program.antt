@@ -1,6 +1,6 @@
 -- The program. Each list of bytes is a sheet of some lists or is refused, never both and in one way only; the reader's meaning goes with it,
 -- so what is written is the curve of those lists or that refusal. An accepted sheet's lists are accepted by the sweep and at each mark.
-use Prim.Native.Nat.{ℕ, suc, _+_, _*_, _≤_, _<_}
+use Prim.Native.Nat.{ℕ, suc, _*_, _≤_, _<_}
 use mathlib.Core.Path.{_≡_, refl, sym, ap, _∙_}
 use mathlib.Core.Logic.{_⊎_, inl, inr}
 use mathlib.Core.List.{List, _++_}
@@ -11,7 +11,7 @@ use borrow.Author.Tests.{ltb-false}
 use lib.ListN.{length, getD, drop, replicate, length-append, length-replicate}
 use Rattle.meanings.specs.declared.Writing.{Writing}
 use Rattle.meanings.specs.Lists.{AtMost}
-use Rattle.meanings.specs.Limits.{full, max-u16, row-width, max-output}
+use Rattle.meanings.specs.Limits.{full, max-u16, row-width, max-output, max-plain-output}
 use Rattle.meanings.specs.Moves.{moves}
 use Rattle.meanings.specs.Reports.{Fault, Answer, given, refused, first-of, buffer-checks}
 use Rattle.meanings.specs.Estimate.{estimate}
@@ -97,7 +97,7 @@ plain-text : (s : List ℕ) (c : Contents) → IsSheet full s c → either-progr
 plain-text s c i = program-goes-by s (given (doubled-contents c)) (form-is-read full s (doubled-contents c) (plain-sheet c i))
 
 -- 36 bytes for the names, 61 for each of 512 marks, 1 for the empty line, 12 for the names of the totals and 10 for these
-plain-lines-fit : (c : Contents) → AcceptedContents c → length (curve-text c) ≤ 31291
+plain-lines-fit : (c : Contents) → AcceptedContents c → length (curve-text c) ≤ max-plain-output
 unfolding curve-text
 plain-lines-fit c a =
     let lines = curve-lines-fit c a (length (c .points)) (le-refl _) in
@@ -106,7 +106,7 @@ plain-lines-fit c a =
     let total = decimal-length (passes (c .minutes) (c .values) fresh (moves (c .points) (c .bandwidths))) 3 (omega (arith, twice)) in
     simp length-append (omega arith)
 
-plain-fits : (s : List ℕ) (c : Contents) → IsSheet full s c → length (either-program s) ≤ 31291
+plain-fits : (s : List ℕ) (c : Contents) → IsSheet full s c → length (either-program s) ≤ max-plain-output
 plain-fits s c i = rw (plain-text s c i) (plain-lines-fit c (accepted-contents s c (printed-is-read full s c i)))
 
 range-text : (s : List ℕ) (c : RangeContents) → IsRangeSheet full s c → either-program s ≡ range-curve-text c

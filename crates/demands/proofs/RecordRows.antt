@@ -14,7 +14,7 @@ use Rattle.meanings.specs.declared.RunningSums.{RunningSums}
 use Rattle.meanings.specs.declared.Evaluation.{Evaluation}
 use Rattle.meanings.specs.declared.Evaluation.the-variants.{Row}
 use Rattle.meanings.specs.Lists.{AtMost, Ordered}
-use Rattle.meanings.specs.Limits.{full, max-u16, max-bandwidth}
+use Rattle.meanings.specs.Limits.{full, max-u16, max-bandwidth, row-width}
 use Rattle.meanings.specs.Moves.{Move}
 use Rattle.meanings.specs.Reports.{Fault, Answer, given, unless, accepted-or, bad-bandwidth, log-checks}
 use Rattle.meanings.specs.Estimate.{WithinLimits, left-of, right-of, value-of, estimate, fields}
@@ -158,15 +158,15 @@ answered-row (Row d) e q = let same : d ≡ e = cc in ap Row same
 answered-row (Evaluation.Refused f) e q = let z : _≡_ {A = ℕ} 0 1 = cc in absurd (omega arith)
 
 -- the exported calls, with lists of their lengths
-pub exported-record-row-gives : (xs : List ℕ) (z h : ℕ) (row : List ℕ) (c : ℕ) (row′ : List ℕ) → length xs ≡ record-length → length row ≡ 5
+pub exported-record-row-gives : (xs : List ℕ) (z h : ℕ) (row : List ℕ) (c : ℕ) (row′ : List ℕ) → length xs ≡ record-length → length row ≡ row-width
     → ExportedRecordRow xs z h row c row′ → (c ≡ 0) × (row′ ≡ fields (record-row (record-of xs) z h))
 exported-record-row-gives xs z h row c row′ nine five k =
     let t : Answer Estimate = given (record-row (record-of xs) z h) in
-    let open-answer = sym (right-size 5 row five t ∙ right-size record-length xs nine (sized 5 row t)) in
+    let open-answer = sym (right-size row-width row five t ∙ right-size record-length xs nine (sized row-width row t)) in
     (k .ensured .0 ∙ ap (answered no-detail) open-answer, k .ensured .1 ∙ ap (λ (a : Answer Estimate). stored fields a row) open-answer)
 
-pub exported-evaluate-gives : (ts vs : List ℕ) (z h : ℕ) (row : List ℕ) (c : ℕ) (row′ : List ℕ) (e : Estimate) → length row ≡ 5
+pub exported-evaluate-gives : (ts vs : List ℕ) (z h : ℕ) (row : List ℕ) (c : ℕ) (row′ : List ℕ) (e : Estimate) → length row ≡ row-width
     → evaluate full ts vs z h ≡ given e → ExportedEvaluate ts vs z h row c row′ → (c ≡ 0) × (row′ ≡ fields e)
 exported-evaluate-gives ts vs z h row c row′ e five q k =
-    let open-answer = sym (right-size 5 row five (evaluate full ts vs z h)) ∙ q in
+    let open-answer = sym (right-size row-width row five (evaluate full ts vs z h)) ∙ q in
     (k .ensured .0 ∙ ap (answered no-detail) open-answer, k .ensured .1 ∙ ap (λ (a : Answer Estimate). stored fields a row) open-answer)

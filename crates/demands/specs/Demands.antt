@@ -10,7 +10,7 @@ use Prim.Native.Nat.{ℕ, suc, _+_, _-_, _*_, _%_, _^_, _≤_, _<_}
 use mathlib.Core.Path.{_≡_}
 use mathlib.Core.Logic.{_↔_, _⊎_}
 use mathlib.Core.List.{List, [], _∷_, _++_, map}
-use mathlib.Core.Option.{Option, none, some}
+use mathlib.Core.Option.{none, some}
 use denote.Ref.{RefT}
 use lib.ListN.{length, getD, take, drop, replicate}
 use Rattle.meanings.specs.declared.Estimate.{Estimate}
@@ -28,7 +28,7 @@ use Rattle.meanings.specs.declared.Parsing.the-variants.{Used}
 use Rattle.meanings.specs.declared.Writing.{Writing}
 use Rattle.meanings.specs.declared.Writing.the-variants.{Written}
 use Rattle.meanings.specs.Lists.{AtMost, Ordered}
-use Rattle.meanings.specs.Limits.{full, preview, max-u16, row-width, max-sheet, max-output}
+use Rattle.meanings.specs.Limits.{full, preview, max-u16, row-width, max-sheet, max-output, max-plain-output}
 use Rattle.meanings.specs.Moves.{Move, moves}
 use Rattle.meanings.specs.Reports.{Fault, given}
 use Rattle.meanings.specs.Estimate.{left-of, right-of, missing, estimate}
@@ -120,7 +120,7 @@ pub record ProgramHolds (s : List ℕ) : Type 0 where
   -- it fits a buffer of 44,113 bytes
   pub fits : length (either-program s) ≤ max-output
   -- and for a plain sheet in 31,291 of them
-  pub plain-fits : (c : Contents) → IsSheet full s c → length (either-program s) ≤ 31291
+  pub plain-fits : (c : Contents) → IsSheet full s c → length (either-program s) ≤ max-plain-output
   -- two calls put just that in front of such a buffer: the first where there is a curve; else the second, with the report and place that the
   -- first has answered
   pub by-curve : (out out′ : List ℕ) (k : ℕ) → TextCall s out (Written k) out′
@@ -174,7 +174,7 @@ pub record Demand1 : Type 2 where
       → RefusedAndStays (refusal (writing-answer a)) (FirstFault (buffer-conditions out)) (out′ ≡ out)
   -- the same calls for C and Rust, whose lists of fixed length are looked at first
   pub exported-evaluate-refused : (ts vs : List ℕ) (z h : ℕ) (row : List ℕ) (c : ℕ) (row′ : List ℕ) → ExportedEvaluate ts vs z h row c row′
-      → RefusedAndStays (code-refusal c) (FirstFault (length-first 5 row (evaluate-conditions ts vs h))) (row′ ≡ row)
+      → RefusedAndStays (code-refusal c) (FirstFault (length-first row-width row (evaluate-conditions ts vs h))) (row′ ≡ row)
   pub exported-window-refused : (ts vs : List ℕ) (z h : ℕ) (bounds : List ℕ) (c : ℕ) (bounds′ : List ℕ)
       → ExportedWindow ts vs z h bounds c bounds′
       → RefusedAndStays (code-refusal c) (FirstFault (length-first 2 bounds (evaluate-conditions ts vs h))) (bounds′ ≡ bounds)
@@ -301,7 +301,7 @@ pub record Demand3 : Type 0 where
       → RecordRowCall r (m .point) (m .bandwidth) e → a ≡ Row e
   -- the same of the calls for C and Rust: both are accepted and store the same five numbers
   pub exported-steps-row : (ts vs : List ℕ) (ms : List Move) (m : Move) (xs row₁ : List ℕ) (c₁ : ℕ) (row₁′ row : List ℕ) (c : ℕ) (row′ : List ℕ)
-      → OrderedSteps ts vs ms → ExportedSteps ts vs zeros ms xs → last-accepted ts vs ms ≡ some m → length row₁ ≡ 5 → length row ≡ 5
+      → OrderedSteps ts vs ms → ExportedSteps ts vs zeros ms xs → last-accepted ts vs ms ≡ some m → length row₁ ≡ row-width → length row ≡ row-width
       → ExportedEvaluate ts vs (m .point) (m .bandwidth) row₁ c₁ row₁′ → ExportedRecordRow xs (m .point) (m .bandwidth) row c row′
       → (c₁ ≡ 0) × (c ≡ 0) × (row′ ≡ row₁′)
   -- an accepted sweep gives what one step a mark gives: the five numbers of mark k are the row of the record after k + 1 steps from fresh
@@ -363,7 +363,7 @@ pub record OtherCalls : Type 0 where
       × (out′ ≡ refusal-text (record { number = n; place = p }) ++ drop (length (refusal-text (record { number = n; place = p }))) out)
   -- the same of the calls for C and Rust
   pub exported-record-row-is : (xs : List ℕ) (z h : ℕ) (row : List ℕ) (c : ℕ) (row′ : List ℕ) → ExportedRecordRow xs z h row c row′
-      → code-refusal c ≡ none → (c ≡ 0) × (length row′ ≡ 5) × RowOfRecord (record-of xs) z h (stored-row row′ 0)
+      → code-refusal c ≡ none → (c ≡ 0) × (length row′ ≡ row-width) × RowOfRecord (record-of xs) z h (stored-row row′ 0)
   pub exported-fill-fills : (z₀ spacing preset : ℕ) (zs hs : List ℕ) (c : ℕ) (zs′ hs′ : List ℕ) → ExportedFill z₀ spacing preset zs hs c zs′ hs′
       → code-refusal c ≡ none → (c ≡ 0) × FilledGrid z₀ spacing preset (length zs) zs′ hs′
   pub exported-read-fills : (s ts vs zs hs ns : List ℕ) (c : ℕ) (ts′ vs′ zs′ hs′ ns′ : List ℕ)

@@ -128,16 +128,17 @@ module _ (ts vs : List ℕ) (z : ℕ) where
 
   -- the exported call
   module _ (row : List ℕ) where
-    sized-exactly : RefusedExactly (refusal (sized 5 row (biweight full ts vs z))) (FirstFault (length-first 5 row (biweight-conditions ts vs)))
+    sized-exactly : RefusedExactly (refusal (sized row-width row (biweight full ts vs z))) (FirstFault (length-first row-width row (biweight-conditions ts vs)))
     unfolding biweight
     sized-exactly =
-        decided-exactly (biweight-row ts vs z biweight-bandwidth) (length-first-finds 5 row (finds ts vs))
-        (sized-is-checked 5 row (series-checks full ts vs) (biweight-row ts vs z biweight-bandwidth))
+        decided-exactly (biweight-row ts vs z biweight-bandwidth) (length-first-finds row-width row (finds ts vs))
+        (sized-is-checked row-width row (series-checks full ts vs) (biweight-row ts vs z biweight-bandwidth))
 
-    coded : (c : ℕ) → c ≡ answered no-detail (sized 5 row (biweight full ts vs z)) → code-refusal c ≡ refusal (sized 5 row (biweight full ts vs z))
+    coded : (c : ℕ) → c ≡ answered no-detail (sized row-width row (biweight full ts vs z))
+        → code-refusal c ≡ refusal (sized row-width row (biweight full ts vs z))
     coded c q =
-        exported-refusal no-detail (sized 5 row (biweight full ts vs z)) c _ q
-        (first-numbered (length-first 5 row (biweight-conditions ts vs)) refl) sized-exactly
+        exported-refusal no-detail (sized row-width row (biweight full ts vs z)) c _ q
+        (first-numbered (length-first row-width row (biweight-conditions ts vs)) refl) sized-exactly
 
 -- the checks look at no value, and for ordered minutes the row does not go by places
 same-places : (ts vs vs′ : List ℕ) (z : ℕ) → Rearranged ts vs vs′ → biweight full ts vs z ≡ biweight full ts vs′ z
@@ -162,7 +163,7 @@ same-code (refused f) (given b) e = let n : _≡_ {A = ℕ} 0 1 = cc in absurd (
 same-code (refused f) (refused g) e = let same : f ≡ g = cc in ap (λ (x : Fault). answered {A = Estimate} no-detail (refused x)) same
 
 sized-alike : (xs ys : List ℕ) (t u : Answer Estimate) → length xs ≡ length ys → refusal t ≡ refusal u
-    → refusal (sized 5 xs t) ≡ refusal (sized 5 ys u)
+    → refusal (sized row-width xs t) ≡ refusal (sized row-width ys u)
 unfolding sized
 sized-alike xs ys t u l e = rw (← l) (by (eqb (length xs) 5))
   where
@@ -179,8 +180,8 @@ module _ (ts vs : List ℕ) (z : ℕ) where
       → (e : Estimate) × ((biweight full ts vs z ≡ given e) × (c ≡ 0) × (row′ ≡ fields e))
   tells row c row′ k r =
       let accepted = sym (coded ts vs z row c (k .ensured .0)) ∙ r in
-      let g = accepted-given (sized 5 row (biweight full ts vs z)) accepted in
-      let opens = sized-opens 5 row (biweight full ts vs z) accepted in (
+      let g = accepted-given (sized row-width row (biweight full ts vs z)) accepted in
+      let opens = sized-opens row-width row (biweight full ts vs z) accepted in (
         g .0,
         (
           sym opens ∙ g .1,
@@ -196,9 +197,9 @@ module _ (ts vs : List ℕ) (z : ℕ) where
       let t = tells row c row′ k r in
       ap given (five-are-row row′ 0 (t .0) (ap (λ (xs : List ℕ). take row-width (drop (row-width * 0) xs)) (t .1 .2))) ∙ sym (t .1 .0)
 
-  bounds-told : (bounds : List ℕ) (d : ℕ) (bounds′ : List ℕ) → length bounds ≡ 2 → ExportedWindow ts vs z biweight-bandwidth bounds d bounds′
+  bounds-stored : (bounds : List ℕ) (d : ℕ) (bounds′ : List ℕ) → length bounds ≡ 2 → ExportedWindow ts vs z biweight-bandwidth bounds d bounds′
       → (e : Estimate) → biweight full ts vs z ≡ given e → e .left ∷ e .right ∷ [] ≡ bounds′
-  bounds-told bounds d bounds′ two k e q =
+  bounds-stored bounds d bounds′ two k e q =
       let u = evaluate full ts vs z biweight-bandwidth in
       let none-refused : refusal u ≡ none = sym (alike z) ∙ ap refusal q in
       let g = accepted-given u none-refused in
@@ -230,8 +231,8 @@ biweights = record {
   value-among = λ ts vs z e k. among ts vs z e (k .ensured);
   may-change-places = λ ts vs vs′ z a b r k m. k .ensured ∙ same-places ts vs vs′ z r ∙ sym (m .ensured);
   exported-refused = λ ts vs z row c row′ k.
-      exported-stays (sized 5 row (biweight full ts vs z)) c _ (coded ts vs z row c (k .ensured .0)) (sized-exactly ts vs z row) (row′ ≡ row)
-      (λ e r. k .ensured .1 ∙ stored-stays fields (sized 5 row (biweight full ts vs z)) row e r);
+      exported-stays (sized row-width row (biweight full ts vs z)) c _ (coded ts vs z row c (k .ensured .0)) (sized-exactly ts vs z row) (row′ ≡ row)
+      (λ e r. k .ensured .1 ∙ stored-stays fields (sized row-width row (biweight full ts vs z)) row e r);
   exported-row = λ ts vs z row c row′ v k r.
       let t = tells ts vs z row c row′ k r in
       (t .1 .1, ap length (t .1 .2), published ts vs z (stored-row row′ 0) v (stored-is ts vs z row c row′ k r));
@@ -239,27 +240,27 @@ biweights = record {
   exported-among = λ ts vs z row c row′ k r. among ts vs z (stored-row row′ 0) (stored-is ts vs z row c row′ k r);
   exported-alike = λ ts vs vs′ z row c d row₁ row₂ r k l.
       let e = same-places ts vs vs′ z r in (
-        k .ensured .0 ∙ ap (λ (t : Answer Estimate). answered no-detail (sized 5 row t)) e ∙ sym (l .ensured .0),
-        k .ensured .1 ∙ ap (λ (t : Answer Estimate). stored fields (sized 5 row t) row) e ∙ sym (l .ensured .1),
+        k .ensured .0 ∙ ap (λ (t : Answer Estimate). answered no-detail (sized row-width row t)) e ∙ sym (l .ensured .0),
+        k .ensured .1 ∙ ap (λ (t : Answer Estimate). stored fields (sized row-width row t) row) e ∙ sym (l .ensured .1),
       );
   exported-tells = λ ts vs z row c row′ a k m r.
       let t = tells ts vs z row c row′ k r in
       (t .0, (answered-row a (t .0) (m .ensured ∙ t .1 .0), t .1 .1, t .1 .2));
   exported-as-evaluate = λ ts vs z y row c row′ row₁ d row₁′ l k m.
       k .ensured .0
-      ∙ same-code (sized 5 row (biweight full ts vs z)) (sized 5 row₁ (evaluate full ts vs y biweight-bandwidth))
+      ∙ same-code (sized row-width row (biweight full ts vs z)) (sized row-width row₁ (evaluate full ts vs y biweight-bandwidth))
       (sized-alike row row₁ (biweight full ts vs z) (evaluate full ts vs y biweight-bandwidth) l (alike ts vs z y))
       ∙ sym (m .ensured .0);
   exported-run = λ ts vs z row c row′ bounds d bounds′ five two k m.
       let u = evaluate full ts vs z biweight-bandwidth in (
         k .ensured .0
-            ∙ ap (answered no-detail) (sym (right-size 5 row five (biweight full ts vs z)))
+            ∙ ap (answered no-detail) (sym (right-size row-width row five (biweight full ts vs z)))
             ∙ same-code (biweight full ts vs z) u (alike ts vs z z)
             ∙ ap (answered no-detail) (right-size 2 bounds two u)
             ∙ sym (m .ensured .0),
         λ r.
             let t = tells ts vs z row c row′ k r in
-            ap (take 2) (t .1 .2) ∙ bounds-told ts vs z bounds d bounds′ two m (t .0) (t .1 .0),
+            ap (take 2) (t .1 .2) ∙ bounds-stored ts vs z bounds d bounds′ two m (t .0) (t .1 .0),
       );
   worked-cases = biweight-cases-hold;
 }

@@ -103,7 +103,7 @@ pub record Biweights : Type 2 where
       → evaluation-answer a ≡ evaluation-answer b
   -- the call for C and Rust is refused likewise, a row of another length first, and the row then stays
   pub exported-refused : (ts vs : List ℕ) (z : ℕ) (row : List ℕ) (c : ℕ) (row′ : List ℕ) → ExportedBiweight ts vs z row c row′
-      → RefusedAndStays (code-refusal c) (FirstFault (length-first 5 row (biweight-conditions ts vs))) (row′ ≡ row)
+      → RefusedAndStays (code-refusal c) (FirstFault (length-first row-width row (biweight-conditions ts vs))) (row′ ≡ row)
   -- accepted, it answers 0 and stores five numbers, the published row in its bounds, and both laws hold of what is stored
   pub exported-row : (ts vs : List ℕ) (z : ℕ) (row : List ℕ) (c : ℕ) (row′ : List ℕ) → AtMost max-u16 vs → ExportedBiweight ts vs z row c row′
       → code-refusal c ≡ none
@@ -120,7 +120,7 @@ pub record Biweights : Type 2 where
   -- beside the exported calls at one mark with that half width: the same answer, and the same edges
   pub exported-as-evaluate : (ts vs : List ℕ) (z y : ℕ) (row : List ℕ) (c : ℕ) (row′ row₁ : List ℕ) (d : ℕ) (row₁′ : List ℕ)
       → length row ≡ length row₁ → ExportedBiweight ts vs z row c row′ → ExportedEvaluate ts vs y biweight-bandwidth row₁ d row₁′ → c ≡ d
-  pub exported-run : (ts vs : List ℕ) (z : ℕ) (row : List ℕ) (c : ℕ) (row′ bounds : List ℕ) (d : ℕ) (bounds′ : List ℕ) → length row ≡ 5
+  pub exported-run : (ts vs : List ℕ) (z : ℕ) (row : List ℕ) (c : ℕ) (row′ bounds : List ℕ) (d : ℕ) (bounds′ : List ℕ) → length row ≡ row-width
       → length bounds ≡ 2 → ExportedBiweight ts vs z row c row′ → ExportedWindow ts vs z biweight-bandwidth bounds d bounds′
       → (c ≡ d) × (code-refusal c ≡ none → take 2 row′ ≡ bounds′)
   -- worked cases, accepted ones and each report

@@ -8,10 +8,11 @@ use mathlib.Core.Option.{Option, none}
 use native.Mathlib.Omega.{arith}
 use lib.Dec.{ltb}
 use lib.ListN.{length, getD}
+use Rattle.meanings.specs.Limits.{max-bandwidth}
 use Rattle.meanings.specs.Lists.{lowest}
 use Rattle.meanings.specs.Reports.{Fault, fault-or, first-of, outside-at, bandwidth-list-checks}
 use Rattle.meanings.proofs.Checks.{none-holds}
-use Rattle.meanings_boxes.specs.Boxes.{Axis, uneven-boxes, box-checks, box-refusal}
+use Rattle.meanings_boxes.specs.Boxes.{max-temperature-bandwidth, Axis, uneven-boxes, box-checks, box-refusal}
 use Rattle.laws_boxes.specs.Accepted.{BoxesAccepted}
 use Rattle.laws_boxes.proofs.Refusals.{bandwidths-within, boxes-accept}
 use Rattle.demands.proofs.CallChecks.{Decides, above, equal, unequal, either, either-not, same-condition, finds, finds-fall, bandwidth-list-finds, none-left}
@@ -62,7 +63,7 @@ module _ (q : TenLists) where
             finds-fall 5 (q .points),
             (
               finds-fall 17 (q .temperature-points),
-              bandwidth-list-finds 65536 (q .bandwidths) (bandwidth-list-finds 256 (q .temperature-bandwidths) none-left) .each,
+              bandwidth-list-finds max-bandwidth (q .bandwidths) (bandwidth-list-finds max-temperature-bandwidth (q .temperature-bandwidths) none-left) .each,
             ),
           ),
         ),
@@ -71,12 +72,12 @@ module _ (q : TenLists) where
   }
 
 -- lists that are not refused: half widths are above 0 besides
-pub record Accepted (A B : Axis) (vs : List ℕ) (b c s : ℕ) : Type 0 where
+pub record BoxesTaken (A B : Axis) (vs : List ℕ) (b c s : ℕ) : Type 0 where
   pub checked : BoxesAccepted A B vs b c s
   pub positive : (k : ℕ) → k < length (A .points) → 0 < getD (A .bandwidths) k 0
   pub positive-other : (k : ℕ) → k < length (B .points) → 0 < getD (B .bandwidths) k 0
 
-pub accepts : (A B : Axis) (vs : List ℕ) (b c s : ℕ) → box-refusal A B vs b c s ≡ none → Accepted A B vs b c s
+pub accepts : (A B : Axis) (vs : List ℕ) (b c s : ℕ) → box-refusal A B vs b c s ≡ none → BoxesTaken A B vs b c s
 accepts A B vs b c s e =
     let h = none-holds (box-checks A B vs b c s) e in
     let a = boxes-accept A B vs b c s e in

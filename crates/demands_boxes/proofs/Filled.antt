@@ -1,19 +1,19 @@
 -- What an accepted call leaves: the laws of the meaning, read at the places of the lists.
-use Prim.Native.Nat.{ℕ, zero, suc, _+_, _-_, _*_, _≤_, _<_, zero-le}
+use Prim.Native.Nat.{ℕ, zero, suc, _+_, _-_, _*_, _≤_, _<_}
 use mathlib.Core.Path.{_≡_, refl, sym, ap, _∙_}
 use mathlib.Core.Bool.{Bool, true, false, true≢false, _||_, _&&_, and-eq-true-iff}
 use mathlib.Core.Logic.{_↔_, _⊎_, inl, inr}
-use mathlib.Core.List.{List, [], _∷_}
+use mathlib.Core.List.{List}
 use native.Mathlib.Omega.{arith}
 use borrow.Author.Tests.{lt-ltb, ltb-true, le-leb, leb-true, eqb-true, eq-eqb, ne-eqb}
 use lib.Dec.{ltb, leb, eqb}
 use lib.ListN.{length, getD}
 use Rattle.meanings.specs.Limits.{max-u16}
-use Rattle.meanings.specs.Lists.{AtMost, total, pick}
+use Rattle.meanings.specs.Lists.{AtMost, pick}
 use Rattle.meanings.proofs.Totals.{total-ext, total-zero}
 use Rattle.meanings_neighbours.proofs.Sorting.{sorted-length}
 use Rattle.meanings_boxes.specs.Boxes.{Axis, shift, left-cut, right-cut, cuts-to, cuts, member, distinct, strip, strip-of, inside, gathered, one, value}
-use Rattle.meanings_boxes.specs.Boxes.{strips, cells, cell-of, cell, cell-list, box, box-list}
+use Rattle.meanings_boxes.specs.Boxes.{strips, cell-of, cell, cell-list, box, box-list}
 use Rattle.laws_boxes.specs.Published.{rising-cuts, grid-size, grid-point, place}
 use Rattle.laws_boxes.specs.Windows.{first-strip, end-strip, Narrow}
 use Rattle.laws_boxes.proofs.Strips.{distinct-length, cuts-length, left-cut-member, right-cut-member, strips-stay}
@@ -28,7 +28,7 @@ use Rattle.laws_boxes.proofs.Published.{strip-to-rising, rising-positive, grid-
 use Rattle.laws_boxes.proofs.Published.{local-sum-is-cell, uniform-density-is-box}
 use Rattle.demands_boxes.specs.Filled.{TenLists, along-minutes, along-temperatures, readings, block-of, Weighed, OneDirection, FilledIn, IsCut}
 use Rattle.demands_boxes.proofs.Positions.{box-list-length, count-stands, sum-stands}
-use Rattle.demands_boxes.proofs.Accepted.{Accepted}
+use Rattle.demands_boxes.proofs.Accepted.{BoxesTaken}
 
 -- ---- cuts
 edge-of : (s : ℕ) (zs hs : List ℕ) (n c : ℕ) → member c (cuts-to s zs hs n) ≡ true
@@ -113,7 +113,7 @@ gathered-nothing : (test : ℕ → Bool) (w : ℕ → ℕ) (n : ℕ) → ((i : �
 unfolding gathered
 gathered-nothing test w n f = total-zero _ 0 n (λ i u o. ap (λ b. pick b (w i) 0) (f i (omega arith)))
 
-module _ (A B : Axis) (vs : List ℕ) {b c s : ℕ} (a : Accepted A B vs b c s) (w : ℕ → ℕ) (n : ℕ) (at : ℕ → ℕ → ℕ) (bs : List ℕ)
+module _ (A B : Axis) (vs : List ℕ) {b c s : ℕ} (a : BoxesTaken A B vs b c s) (w : ℕ → ℕ) (n : ℕ) (at : ℕ → ℕ → ℕ) (bs : List ℕ)
     (stands : (j k : ℕ) → j < length (A .points) → k < length (B .points) → getD bs (at j k) 0 ≡ box A B w n j k) where
   box-is : (j k : ℕ) → box A B w n j k ≡ gathered (λ i. inside A j i && inside B k i) w n
   unfolding box
@@ -194,7 +194,7 @@ module _ (A B : Axis) (vs : List ℕ) {b c s : ℕ} (a : Accepted A B vs b c s) 
 
 -- ---- the three lists
 module _ (q : TenLists) (small : AtMost max-u16 (q .values)) {b c s : ℕ}
-    (a : Accepted (along-minutes q) (along-temperatures q) (q .values) b c s) where
+    (a : BoxesTaken (along-minutes q) (along-temperatures q) (q .values) b c s) where
   abbrev A : Axis
   A = along-minutes q
 

@@ -14,9 +14,9 @@ use Rattle.meanings.specs.Claim.{refusal}
 use Rattle.meanings.specs.Calls.{filling-answer}
 use Rattle.meanings.specs.Codes.{answered, no-detail}
 use Rattle.meanings.proofs.Checks.{given-accepted}
-use Rattle.meanings_boxes.specs.Boxes.{Axis, shift, cuts, strip-of, gathered, one, value, cell-list, box, box-list, boxes, boxes-then}
+use Rattle.meanings_boxes.specs.Boxes.{Axis, shift, cuts, gathered, one, value, cell-list, box, box-list, boxes, boxes-then}
 use Rattle.meanings_boxes.specs.Boxes.{counts-then, sums-then}
-use Rattle.meanings_boxes.specs.Cases.{Outcome, outcome, four}
+use Rattle.meanings_boxes.specs.Cases.{Outcome, four}
 use Rattle.meanings_boxes.proofs.Cases.{strips-cases-hold, pairs-cases-hold, refusal-cases-hold, four-readings}
 use Rattle.laws_boxes.proofs.Strips.{strip-is-tally}
 use Rattle.boxes.proofs.boxes.Met as boxes-met

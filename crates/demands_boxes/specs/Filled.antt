@@ -7,10 +7,11 @@ use mathlib.Core.Logic.{_↔_, _⊎_}
 use mathlib.Core.List.{List}
 use lib.Dec.{eqb}
 use lib.ListN.{length, getD}
+use Rattle.meanings.specs.Limits.{max-bandwidth}
 use Rattle.meanings.specs.Lists.{total}
 use Rattle.meanings.specs.Published.{whole, _⊗_, _≈_}
 use Rattle.meanings_boxes.specs.Boxes.{Axis, minute-axis, temperature-axis, shift, left-cut, right-cut, cuts-to, cuts, member, strip, strip-of, inside}
-use Rattle.meanings_boxes.specs.Boxes.{gathered, one, value, cell-of, cell-list, box-list}
+use Rattle.meanings_boxes.specs.Boxes.{max-temperature-bandwidth, gathered, one, value, cell-of, cell-list, box-list}
 use Rattle.laws_boxes.specs.Published.{grid-size, grid-point, local-sum, uniform-density}
 use Rattle.laws_boxes.specs.Windows.{first-strip, end-strip, to-right-edge, below-left-edge}
 use Rattle.demands.specs.Conditions.{Conditions, no-more, condition, AtZero, FallsAt, bandwidth-list-conditions}
@@ -57,8 +58,8 @@ box-conditions q =
     (condition 7 (AtZero ((length (q .points) ≡ 0) ⊎ (length (q .temperature-points) ≡ 0)))
     (condition 5 (FallsAt (q .points))
     (condition 17 (FallsAt (q .temperature-points))
-    (bandwidth-list-conditions 65536 (q .bandwidths)
-    (bandwidth-list-conditions 256 (q .temperature-bandwidths) no-more))))))
+    (bandwidth-list-conditions max-bandwidth (q .bandwidths)
+    (bandwidth-list-conditions max-temperature-bandwidth (q .temperature-bandwidths) no-more))))))
 
 -- where count and sum of minute mark j and temperature mark k stand, among m temperature marks
 abbrev pub count-place : ℕ → ℕ → ℕ → ℕ

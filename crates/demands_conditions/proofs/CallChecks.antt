@@ -1,5 +1,5 @@
 -- Each call's list of checks finds the conditions of specs/Conditions.antt: test by test, what the meaning computes is what the condition says.
-use Prim.Native.Nat.{ℕ, zero, suc, _+_, _-_, _*_, _≤_, _<_}
+use Prim.Native.Nat.{ℕ, zero, suc, _+_, _*_, _≤_, _<_}
 use mathlib.Core.Path.{_≡_, refl, sym, _∙_}
 use mathlib.Core.Bool.{Bool, true, false, true≢false, _||_}
 use mathlib.Core.Logic.{_⊎_, inl, inr}

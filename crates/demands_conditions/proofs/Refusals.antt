@@ -11,12 +11,12 @@ use borrow.Author.Tests.{eq-eqb, ne-eqb, eqb-true, eqb-false, leb-true, ltb-true
 use lib.Dec.{eqb, ltb, leb}
 use lib.ListN.{length}
 use Rattle.meanings.specs.Lists.{pick}
-use Rattle.meanings.specs.Limits.{full}
+use Rattle.meanings.specs.Limits.{full, row-width}
 use Rattle.meanings.specs.Sheet.{EvaluationPoint}
 use Rattle.meanings.specs.Reports.{Fault, Answer, given, refused, unless, accepted-or, Check, at, check, first-of}
 use Rattle.meanings.specs.Claim.{refusal}
 use Rattle.meanings.specs.Sheet.{Injection, Contents, Outcome, or-next, read-sheet}
-use Rattle.meanings.specs.Calls.{counts, curve-size, filled-front}
+use Rattle.meanings.specs.Calls.{counts, filled-front}
 use Rattle.meanings.specs.SheetForm.{PointFault, SampleFault, Refused, too-long, no-point-header, no-empty-line}
 use Rattle.meanings.specs.SheetForm.{malformed-point, faulty-point, no-point, no-sample-header, malformed-sample, faulty-sample}
 use Rattle.meanings.proofs.Claim.{refusal-unless}
@@ -99,11 +99,11 @@ sized-is-checked {A} n xs ks a = by (eqb (length xs) n)
 
 -- the row of a record of nine numbers, behind a list of five
 pub record-row-exactly : {A : Type 0} (xs row : List ℕ) (a : A)
-    → RefusedExactly (refusal (sized record-length xs (sized 5 row (given a)))) (FirstFault (record-row-conditions xs row))
+    → RefusedExactly (refusal (sized record-length xs (sized row-width row (given a)))) (FirstFault (record-row-conditions xs row))
 record-row-exactly xs row a =
     let nothing : FindAll [] no-more = record { each = tt } in
-    decided-exactly a (length-first-finds record-length xs (length-first-finds 5 row nothing))
-    (ap (sized record-length xs) (sized-is-checked 5 row [] a) ∙ sized-is-checked record-length xs (length-check 5 row ∷ []) a)
+    decided-exactly a (length-first-finds record-length xs (length-first-finds row-width row nothing))
+    (ap (sized record-length xs) (sized-is-checked row-width row [] a) ∙ sized-is-checked record-length xs (length-check row-width row ∷ []) a)
 
 pub sized-sheet-is-checked : (n : ℕ) (xs : List ℕ) (ks : List Check) (o : Outcome)
     → sized n xs (or-next (first-of ks) o) ≡ or-next (first-of (length-check n xs ∷ ks)) o
@@ -192,14 +192,10 @@ pub first-or-else-numbered : (cs : Conditions) → numbered cs ≡ true → (s :
 first-or-else-numbered cs a s n p (inl f) = first-numbered cs a n p f
 first-or-else-numbered cs a s n p (inr f) = sheet-numbered s n p (f .1)
 
--- a reader's counts, a text's size and their lists at exit go by the outcome
+-- a reader's counts and its lists at exit go by the outcome
 pub counts-refused : (o : Outcome) → refusal (counts o) ≡ refusal o
 counts-refused (given c) = refl
 counts-refused (refused e) = refl
-
-pub size-refused : (o : Outcome) → refusal (curve-size o) ≡ refusal o
-size-refused (given c) = refl
-size-refused (refused e) = refl
 
 pub front-stays : (o : Outcome) (part : Contents → List ℕ) (xs : List ℕ) (e : Fault) → refusal o ≡ some e → filled-front o part xs ≡ xs
 front-stays (given c) part xs e q = let z : _≡_ {A = ℕ} 0 1 = cc in absurd (omega arith)

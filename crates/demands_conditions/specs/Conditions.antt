@@ -148,7 +148,7 @@ length-first n xs cs = condition 8 (AtZero (¬ (length xs ≡ n))) cs
 
 -- the row of a record, as exported: nine numbers, then five, and nothing else is refused
 abbrev pub record-row-conditions : List ℕ → List ℕ → Conditions
-record-row-conditions xs row = length-first record-length xs (length-first 5 row no-more)
+record-row-conditions xs row = length-first record-length xs (length-first row-width row no-more)
 
 -- what the one number of an exported answer says: a report, its number and its place as detail, or that the call is accepted
 abbrev pub code-refusal : ℕ → Option Fault

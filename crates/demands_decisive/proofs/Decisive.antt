@@ -1,8 +1,8 @@
 -- The call's contract with the laws of its meaning: what it finds is by the rows of the meaning, which are the published ones and those that the
 -- question at one mark gives.
-use Prim.Native.Nat.{ℕ, _+_, _-_, _*_, _≤_, _<_}
+use Prim.Native.Nat.{ℕ, _≤_, _<_}
 use mathlib.Core.Path.{_≡_, refl, sym, ap, _∙_}
-use mathlib.Core.Logic.{_↔_, _⊎_, inl, inr}
+use mathlib.Core.Logic.{inl, inr}
 use mathlib.Core.Bool.{Bool, true, false, true≢false}
 use mathlib.Core.List.{List}
 use mathlib.Core.Option.{Option, none, some}
@@ -12,13 +12,13 @@ use lib.ListN.{length, getD}
 use Rattle.meanings.specs.declared.Estimate.{Estimate}
 use Rattle.meanings.specs.declared.Evaluation.{Evaluation}
 use Rattle.meanings.specs.declared.Evaluation.the-variants.{Row}
-use Rattle.meanings.specs.Limits.{full, max-u16}
-use Rattle.meanings.specs.Lists.{distance, AtMost}
+use Rattle.meanings.specs.Limits.{full, max-u16, row-width}
+use Rattle.meanings.specs.Lists.{AtMost}
 use Rattle.meanings.specs.PublishedRow.{PublishedRow}
 use Rattle.meanings.specs.Reports.{Fault, Answer, given, unless, evaluate-checks}
-use Rattle.meanings.specs.Estimate.{WithinLimits, estimate, kernel, left-of, right-of, weight-of, missing}
+use Rattle.meanings.specs.Estimate.{WithinLimits, estimate, left-of, right-of, missing}
 use Rattle.meanings.specs.Claim.{refusal}
-use Rattle.meanings.specs.Calls.{evaluation-answer, evaluate, evaluate-refusal}
+use Rattle.meanings.specs.Calls.{evaluate, evaluate-refusal}
 use Rattle.meanings.specs.Codes.{answered, no-detail}
 use Rattle.meanings.proofs.Bounds.{missing-exactly}
 use Rattle.meanings.proofs.Checks.{EvaluateAccepted, same-limits, evaluate-accepts, given-accepted}
@@ -41,14 +41,13 @@ use Rattle.decisive.proofs.decisive_sample.Met as decisive-met
 use Rattle.abi_decisive.proofs.tankcurve_decisive.Met as exported-met
 use Rattle.demands.specs.Calls.{EvaluateCall, ExportedEvaluate}
 use Rattle.demands.specs.Conditions.{RefusedExactly, FirstFault, evaluate-conditions, length-first, code-refusal}
-use Rattle.demands.specs.Crossing.{LowEnough}
 use Rattle.demands.proofs.CallChecks.{evaluate-finds}
 use Rattle.demands.proofs.Crossing.{test-says, test-denies}
 use Rattle.demands.proofs.RecordRows.{answered-row, exported-evaluate-gives}
 use Rattle.demands.proofs.Refusals.{decided-exactly, sized-is-checked, length-first-finds, first-numbered, exported-refusal, stored-stays}
 use Rattle.demands.proofs.Refusals.{accepted-given, sized-opens}
-use Rattle.demands_decisive.specs.Decisive.{DecisiveCall, ExportedDecisive, Without, Changes, Stays, WithPublished, BeforeAnswer}
-use Rattle.demands_decisive.specs.Decisive.{BothRows, BothLists, share, LessItsShare, SameSums, DecisiveReadings}
+use Rattle.demands_decisive.specs.Decisive.{ExportedDecisive, Without, Changes, Stays, WithPublished, BeforeAnswer}
+use Rattle.demands_decisive.specs.Decisive.{BothRows, BothLists, LessItsShare, SameSums, DecisiveReadings}
 
 -- what two tests say together
 changes-by : (limit : ℕ) (e e′ : Estimate) → differs (low-enough limit e′) (low-enough limit e) ≡ true → Changes limit e e′
@@ -75,10 +74,10 @@ not-both limit e e′ (inl a) (inr b) = b .0 (a .0)
 not-both limit e e′ (inr a) (inl b) = a .0 (b .0)
 not-both limit e e′ (inr a) (inr b) = b .1 (a .1)
 
-said-none : (a : Decisive) → decisive-answer a ≡ given none → a ≡ NoSample
-said-none NoSample q = refl
-said-none (Sample i) q = let z : _≡_ {A = ℕ} 0 1 = cc in absurd (omega arith)
-said-none (Decisive.Refused r) q = let z : _≡_ {A = ℕ} 0 1 = cc in absurd (omega arith)
+none-answered : (a : Decisive) → decisive-answer a ≡ given none → a ≡ NoSample
+none-answered NoSample q = refl
+none-answered (Sample i) q = let z : _≡_ {A = ℕ} 0 1 = cc in absurd (omega arith)
+none-answered (Decisive.Refused r) q = let z : _≡_ {A = ℕ} 0 1 = cc in absurd (omega arith)
 
 -- the question over accepted lists
 module _ (ts vs : List ℕ) (z h : ℕ) where
@@ -147,7 +146,7 @@ module _ (ts vs : List ℕ) (z h : ℕ) (a : EvaluateAccepted ts vs h) (R : Esti
   }
 
   of-exports : (i : ℕ) (ts′ vs′ : List ℕ) → Without i ts vs ts′ vs′ → R (estimate ts vs z h) (estimate ts′ vs′ z h)
-      → (row : List ℕ) (c : ℕ) (row₁ row′ : List ℕ) (c′ : ℕ) (row₂ : List ℕ) → length row ≡ 5 → length row′ ≡ 5
+      → (row : List ℕ) (c : ℕ) (row₁ row′ : List ℕ) (c′ : ℕ) (row₂ : List ℕ) → length row ≡ row-width → length row′ ≡ row-width
       → ExportedEvaluate ts vs z h row c row₁ → ExportedEvaluate ts′ vs′ z h row′ c′ row₂ → BothLists R c row₁ c′ row₂
   of-exports i ts′ vs′ w r row c row₁ row′ c′ row₂ five five′ k k′ =
       let x = exported-evaluate-gives ts vs z h row c row₁ (estimate ts vs z h) five (row-asked ts vs z h a) k in
@@ -262,7 +261,7 @@ module _ (ts vs : List ℕ) (z h limit : ℕ) where
       let a = row-given ts vs z h e g in
       let f : WithinLimits ts vs h = record { even = a .0 .even; few = a .0 .few; values = v; bandwidth = a .0 .bandwidth } in
       let n = missing-exactly ts vs z h f .0 (sym (ap (λ (x : Estimate). x .value) (a .1)) ∙ m) in
-      said-none d (q ∙ accepted-answer (a .0) ∙ ap given (missing-keeps ts vs z h limit (a .0 .ordered) n))
+      none-answered d (q ∙ accepted-answer (a .0) ∙ ap given (missing-keeps ts vs z h limit (a .0 .ordered) n))
 
   module _ (xs : List ℕ) where
     sized-exactly : RefusedExactly (refusal (sized 1 xs (decisive full ts vs z h limit))) (FirstFault (length-first 1 xs (evaluate-conditions ts vs h)))
@@ -287,15 +286,15 @@ module _ (ts vs : List ℕ) (z h limit : ℕ) where
       rw (ne-eqb i no-position (λ (e : i ≡ no-position). omega arith))
 
   -- an accepted export, opened
-  record Told (c : ℕ) (xs′ : List ℕ) : Type 0 where
+  record ExportOpened (c : ℕ) (xs′ : List ℕ) : Type 0 where
     position : Option ℕ
     tells : given position ≡ decisive full ts vs z h limit
     zero-is : c ≡ 0
     one : length xs′ ≡ 1
     back : position-of (getD xs′ 0 0) ≡ position
 
-  told : (xs : List ℕ) (c : ℕ) (xs′ : List ℕ) → ExportedDecisive ts vs z h limit xs c xs′ → code-refusal c ≡ none → Told c xs′
-  told xs c xs′ k r =
+  export-opened : (xs : List ℕ) (c : ℕ) (xs′ : List ℕ) → ExportedDecisive ts vs z h limit xs c xs′ → code-refusal c ≡ none → ExportOpened c xs′
+  export-opened xs c xs′ k r =
       let t = sized 1 xs (decisive full ts vs z h limit) in
       let accepted = sym (coded xs c (k .ensured .0)) ∙ r in
       let g = accepted-given t accepted in
@@ -363,9 +362,9 @@ decisive-readings = record {
         λ e r. k .ensured .1 ∙ stored-stays position-numbers (sized 1 xs (decisive full ts vs z h limit)) xs e (sym same ∙ r),
       );
   exported-tells = λ ts vs z h limit xs c xs′ a k d r.
-      let t = told ts vs z h limit xs c xs′ k r in (t .position, (d .ensured ∙ sym (t .tells), t .zero-is, t .one, t .back));
+      let t = export-opened ts vs z h limit xs c xs′ k r in (t .position, (d .ensured ∙ sym (t .tells), t .zero-is, t .one, t .back));
   exported-asked-again = λ ts vs z h limit i xs c xs′ ts′ vs′ row c₁ row₁ row′ c₂ row₂ k r p w five five′ d d′.
-      let t = told ts vs z h limit xs c xs′ k r in
+      let t = export-opened ts vs z h limit xs c xs′ k r in
       let o = opened ts vs z h limit (some i) (ap given (sym p ∙ t .back) ∙ t .tells) in
       of-exports ts vs z h (o .0) (Changes limit) i ts′ vs′ w
       (removal-changes i ts vs ts′ vs′ w z h limit (found-decides ts vs z h limit i (o .1))) row c₁ row₁ row′ c₂ row₂ five five′ d d′;

@@ -12,7 +12,7 @@ use lib.ListN.{length, getD}
 use Rattle.meanings.specs.declared.Estimate.{Estimate}
 use Rattle.meanings.specs.declared.Evaluation.{Evaluation}
 use Rattle.meanings.specs.declared.Evaluation.the-variants.{Row}
-use Rattle.meanings.specs.Limits.{max-u16}
+use Rattle.meanings.specs.Limits.{max-u16, row-width}
 use Rattle.meanings.specs.Lists.{distance, AtMost}
 use Rattle.meanings.specs.PublishedRow.{PublishedRow}
 use Rattle.meanings.specs.Reports.{Fault, given}
@@ -164,5 +164,5 @@ pub record DecisiveReadings : Type 2 where
   -- without the reading that it names the exported question has the other answer
   pub exported-asked-again : (ts vs : List ℕ) (z h limit i : ℕ) (xs : List ℕ) (c : ℕ) (xs′ ts′ vs′ row : List ℕ) (c₁ : ℕ) (row₁ row′ : List ℕ) (c₂ : ℕ)
       (row₂ : List ℕ) → ExportedDecisive ts vs z h limit xs c xs′ → code-refusal c ≡ none → position-of (getD xs′ 0 0) ≡ some i
-      → Without i ts vs ts′ vs′ → length row ≡ 5 → length row′ ≡ 5 → ExportedEvaluate ts vs z h row c₁ row₁
+      → Without i ts vs ts′ vs′ → length row ≡ row-width → length row′ ≡ row-width → ExportedEvaluate ts vs z h row c₁ row₁
       → ExportedEvaluate ts′ vs′ z h row′ c₂ row₂ → BothLists (Changes limit) c₁ row₁ c₂ row₂

@@ -17,7 +17,7 @@ use Rattle.meanings.specs.declared.Turning.{Turning}
 use Rattle.meanings.specs.Claim.{refusal}
 use Rattle.meanings.specs.Codes.{detail-unit, answered}
 use Rattle.meanings.specs.Estimate.{fields}
-use Rattle.meanings.specs.Limits.{full, preview, LimitsWithin, max-u16}
+use Rattle.meanings.specs.Limits.{full, preview, LimitsWithin, max-u16, row-width}
 use Rattle.meanings.specs.Lists.{pick, AtMost}
 use Rattle.meanings.specs.Calls.{smooth, smooth-rows}
 use Rattle.meanings.specs.Reports.{Fault, Answer, given, refused, unless, first-of, at, Check, check}
@@ -33,7 +33,7 @@ use Rattle.laws_turn.proofs.Motions.{motions-direct, fresh-direct, turn-gives-r
 use Rattle.abi_answers.specs.Answers.{sized, record-length, record-of}
 use Rattle.abi_answers.proofs.Answered.{right-size}
 use Rattle.abi_doubles.specs.Lists.{used, in-front, filled, read-back}
-use Rattle.abi_doubles.proofs.Filling.{told-back, others-stay, length-stays}
+use Rattle.abi_doubles.proofs.Filling.{doubles-read-back, others-stay, length-stays}
 use Rattle.text.specs.Table.{stored-row}
 use Rattle.doubles.proofs.number_cell.Met as number-cell-met
 use Rattle.doubles.proofs.row_cells.Met as row-cells-met
@@ -50,8 +50,8 @@ use Rattle.demands.proofs.Refusals.{decided-exactly, exported-refusal, exported
 use Rattle.demands.proofs.Rows.{five-are-row}
 use Rattle.demands_turn.specs.Turns.{TurnCall, ExportedTurn, ExportedMotions}
 use Rattle.demands_turn.proofs.Turns.{numbers-turn, turns-hold}
-use Rattle.demands_doubles.specs.Doubles.{RowCellsCall, ExportedDoubles, ExportedRow, doubles-conditions, told}
-use Rattle.demands_doubles.specs.Doubles.{RowHadBack, ToldBack, HoldsWindow, DoublesHold}
+use Rattle.demands_doubles.specs.Doubles.{RowCellsCall, ExportedDoubles, ExportedRow, doubles-conditions, doubles-of-answer}
+use Rattle.demands_doubles.specs.Doubles.{RowHadBack, ExportedHadBack, HoldsWindow, DoublesHold}
 use Rattle.demands_doubles.proofs.Rows.{foreign-tellable, evaluated-tellable, swept-tellable, record-tellable, steps-hold, turn-holds}
 use Rattle.demands_doubles.proofs.Rows.{behind-holds, behind-tellable}
 
@@ -110,17 +110,17 @@ module _ (w n : ℕ) (xs : List Float) where
     list-is : xs′ ≡ in-front (handed w n) xs
     list-is = call .ensured .1 ∙ sym (ap (λ (a : Answer Doubles). filled a xs) (right-size 2 xs two (given (handed w n))))
 
-    told-is : told c xs′ ≡ handed w n
-    told-is =
+    doubles-are : doubles-of-answer c xs′ ≡ handed w n
+    doubles-are =
         ap (λ (k : ℕ). read-back k xs′) detail-is
         ∙ ap (λ (ys : List Float). read-back (used (handed w n)) ys) list-is
-        ∙ told-back (handed w n) xs
+        ∙ doubles-read-back (handed w n) xs
 
     others-are : drop (c / detail-unit) xs′ ≡ drop (c / detail-unit) xs
     others-are = rw (detail-is, list-is) (others-stay (handed w n) xs)
 
-    told-had-back : n < 2 ^ 64 → (w ≡ 0 → n ≡ 0) → HadBack (told c xs′) n
-    told-had-back l zero = subst (λ (d : Doubles). HadBack d n) (sym told-is) (handed-had-back w n l zero)
+    doubles-had-back : n < 2 ^ 64 → (w ≡ 0 → n ≡ 0) → HadBack (doubles-of-answer c xs′) n
+    doubles-had-back l zero = subst (λ (d : Doubles). HadBack d n) (sym doubles-are) (handed-had-back w n l zero)
 
 -- ---- rows
 row-back : (e : Estimate) (c : RowCells) → Tellable e → RowCellsCall e c → RowHadBack e c
@@ -132,16 +132,17 @@ row-back e c t k =
       sum-had-back = subst (λ (d : Doubles). HadBack d (e .sum)) (sym s) (handed-had-back (e .weight) (e .sum) (t .sum-fits) (t .no-sum-alone));
     }
 
-row-told : (e : Estimate) (c : ℕ) (xs′ : List Float) (d : ℕ) (ys′ : List Float) → Tellable e → ExportedRow e c xs′ d ys′ → ToldBack e c xs′ d ys′
-row-told e c xs′ d ys′ t k = record {
-  weight-told =
-      told-had-back (e .weight) (e .weight) (k .weight-list) c xs′ (k .weight-room) (k .weight-call) (t .weight-fits) (λ z. z);
-  sum-told = told-had-back (e .weight) (e .sum) (k .sum-list) d ys′ (k .sum-room) (k .sum-call) (t .sum-fits) (t .no-sum-alone);
+exported-row-back : (e : Estimate) (c : ℕ) (xs′ : List Float) (d : ℕ) (ys′ : List Float) → Tellable e → ExportedRow e c xs′ d ys′
+    → ExportedHadBack e c xs′ d ys′
+exported-row-back e c xs′ d ys′ t k = record {
+  weight-had-back =
+      doubles-had-back (e .weight) (e .weight) (k .weight-list) c xs′ (k .weight-room) (k .weight-call) (t .weight-fits) (λ z. z);
+  sum-had-back = doubles-had-back (e .weight) (e .sum) (k .sum-list) d ys′ (k .sum-room) (k .sum-call) (t .sum-fits) (t .no-sum-alone);
 }
 
 -- five numbers that are a row's
 stored-five : (row : List ℕ) (e : Estimate) → row ≡ fields e → stored-row row 0 ≡ e
-stored-five row e q = five-are-row row 0 e (ap (λ (r : List ℕ). take 5 r) q)
+stored-five row e q = five-are-row row 0 e (ap (λ (r : List ℕ). take row-width r) q)
 
 -- a coded sweep, under limits at most the full ones
 coded-tellable : (L : Limits) → LimitsWithin L full → (ts vs zs hs rs rs′ : List ℕ) (k i : ℕ) → AtMost max-u16 vs
@@ -228,25 +229,26 @@ doubles-hold = record {
       let d = l .ensured in (
         code-is w n xs c xs′ two k ∙ ap (λ (x : Doubles). detail-unit * used x) (sym d),
         ap length (list-is w n xs c xs′ two k) ∙ length-stays (handed w n) xs two,
-        told-is w n xs c xs′ two k ∙ sym d,
+        doubles-are w n xs c xs′ two k ∙ sym d,
         others-are w n xs c xs′ two k,
       );
-  exported-had-back = λ w n xs c xs′ l zero two k. told-had-back w n xs c xs′ two k l zero;
-  exported-row-had-back = row-told;
+  exported-had-back = λ w n xs c xs′ l zero two k. doubles-had-back w n xs c xs′ two k l zero;
+  exported-row-had-back = exported-row-back;
   exported-evaluated-had-back = λ ts vs z h row k row′ c xs′ d ys′ v x q r.
-      let e = stored-five row′ (given-row 5 ts vs z h row k (x .ensured .0) q .0) (x .ensured .1 ∙ row-stored 5 ts vs z h row k (x .ensured .0) q fields) in
-      row-told (stored-row row′ 0) c xs′ d ys′
-      (subst Tellable (sym e) (evaluated-tellable ts vs z h _ v (row-is-evaluate 5 ts vs z h row k (x .ensured .0) q))) r;
+      let e = stored-five row′ (given-row row-width ts vs z h row k (x .ensured .0) q .0)
+      (x .ensured .1 ∙ row-stored row-width ts vs z h row k (x .ensured .0) q fields) in
+      exported-row-back (stored-row row′ 0) c xs′ d ys′
+      (subst Tellable (sym e) (evaluated-tellable ts vs z h _ v (row-is-evaluate row-width ts vs z h row k (x .ensured .0) q))) r;
   exported-swept-had-back = λ ts vs zs hs rs k rs′ i c xs′ d ys′ v x q l r.
-      row-told (stored-row rs′ i) c xs′ d ys′
+      exported-row-back (stored-row rs′ i) c xs′ d ys′
       (coded-tellable full (same-limits full) ts vs zs hs rs rs′ k i v (x .ensured .0) (x .ensured .1) q l) r;
   exported-previewed-had-back = λ ts vs zs hs rs k rs′ i c xs′ d ys′ v x q l r.
-      row-told (stored-row rs′ i) c xs′ d ys′
+      exported-row-back (stored-row rs′ i) c xs′ d ys′
       (coded-tellable preview preview-within-full ts vs zs hs rs rs′ k i v (x .ensured .0) (x .ensured .1) q l) r;
   exported-record-had-back = λ ts vs xs ms z h row k row′ c xs′ d ys′ m v s w five x r.
       let l = turns-hold .exported-motions-leave ts vs zeros xs ms refl s in
       let g = exported-record-row-gives xs z h row k row′ (l .0) five x in
-      row-told (stored-row row′ 0) c xs′ d ys′
+      exported-row-back (stored-row row′ 0) c xs′ d ys′
       (subst Tellable (sym (stored-five row′ _ (g .1))) (motions-tellable ts vs m v (record-of xs) ms z h (l .1) w)) r;
   exported-steps-hold-window = λ ts vs ms m xs o s last.
       steps-hold ts vs ms m o last (record-of xs) (demand-3-of-calls .exported-steps-leave ts vs zeros xs ms refl s .1);
@@ -260,7 +262,7 @@ doubles-hold = record {
   exported-behind-turn-had-back = λ ts vs xs xs′ xs″ ms m n a ns row k row′ c ds d es mi v s t q w o last five x y.
       let b = numbers-behind ts vs xs xs′ xs″ ms m a ns s t q w in
       let g = exported-record-row-gives xs″ (n .point) (n .bandwidth) row k row′ (b .nine) five x in
-      row-told (stored-row row′ 0) c ds d es
+      exported-row-back (stored-row row′ 0) c ds d es
       (subst Tellable (sym (stored-five row′ _ (g .1)))
       (behind-tellable ts vs mi v (record-of xs) (record-of xs″) m n ns (turns-hold .exported-reached-direct ts vs xs ms mi v s) (b .took) o last (b .led))) y;
   number-cases-hold = number-cases-hold;

@@ -24,7 +24,7 @@ use Rattle.meanings_doubles.specs.Doubles.{Tellable}
 use Rattle.text.specs.Table.{stored-row}
 use Rattle.demands.proofs.Rows.{five-are-row}
 use Rattle.demands_neighbours.proofs.ByNeighbours.{by-neighbours}
-use Rattle.demands_doubles.specs.Neighbours.{NeighboursTold}
+use Rattle.demands_doubles.specs.Neighbours.{NeighboursHadBack}
 use Rattle.demands_doubles.proofs.Doubles.{doubles-hold}
 use Rattle.demands_doubles.proofs.Rows.{window-tellable}
 
@@ -79,8 +79,8 @@ unfolding neighbours numbered
 given-by-zero ts vs zs k hs rs q =
     ap (λ (o : Option Fault). unless o tt) (accepted-by-zero (neighbours-checks full ts vs zs k hs (length rs)) refl q)
 
-pub neighbours-told : NeighboursTold
-neighbours-told = record {
+pub neighbours-rows-had-back : NeighboursHadBack
+neighbours-rows-had-back = record {
   neighbours-had-back = λ ts vs zs k hs rs hs′ rs′ i c m v p x l r.
       doubles-hold .row-had-back (stored-row rs′ i) c
       (rows-tellable ts vs zs k hs rs m v p (sym (x .ensured .0)) rs′ (x .ensured .1 .1) i l) r;

@@ -1,9 +1,8 @@
 -- A row over ranges is two rows of windows, that of the lowest values and that of the highest, so each of its sums can be told.
-use Prim.Native.Nat.{ℕ, _≤_, _<_}
+use Prim.Native.Nat.{ℕ, _<_}
 use mathlib.Core.Path.{_≡_, sym, ap, _∙_, subst}
 use mathlib.Core.List.{List}
 use lib.ListN.{length, getD}
-use Rattle.meanings.specs.declared.Estimate.{Estimate}
 use Rattle.meanings.specs.Estimate.{estimate}
 use Rattle.meanings.specs.Limits.{full, max-u16}
 use Rattle.meanings.specs.Lists.{AtMost}
@@ -16,7 +15,7 @@ use Rattle.meanings_ranges.proofs.Within.{lows-small, lows-chosen}
 use Rattle.meanings_ranges.proofs.Sweeps.{lows-accepted, highs-accepted}
 use Rattle.demands_ranges.specs.OverRanges.{stored-range-row, low-row, high-row}
 use Rattle.demands_ranges.proofs.OverRanges.{free, found, row-is, low-row-is, high-row-is, code-given}
-use Rattle.demands_doubles.specs.Ranges.{RangesTold}
+use Rattle.demands_doubles.specs.Ranges.{RangesHadBack}
 use Rattle.demands_doubles.proofs.Doubles.{doubles-hold}
 use Rattle.demands_doubles.proofs.Rows.{window-tellable}
 
@@ -39,8 +38,8 @@ module _ (ts ls us zs hs rs : List ℕ) (n : ℕ) (q : smooth-ranges full ts ls 
       subst Tellable (sym (ap high-row (row-is ts ls us zs hs rs n q rs′ e k l) ∙ high-row-is ts ls us (getD zs k 0) (getD hs k 0)))
       (curve-tellable ts us zs hs k (highs-accepted full (same-limits full) ts ls us zs hs rs (free ts ls us zs hs rs n q)) highs l)
 
-pub ranges-told : RangesTold
-ranges-told = record {
+pub range-rows-had-back : RangesHadBack
+range-rows-had-back = record {
   ranges-had-back = λ ts ls us zs hs rs n rs′ k w l u highs x i c.
       let low = low-tellable ts ls us zs hs rs n (sym (x .ensured .0)) rs′ (x .ensured .1) highs k i in
       let high = high-tellable ts ls us zs hs rs n (sym (x .ensured .0)) rs′ (x .ensured .1) highs k i in

@@ -12,11 +12,11 @@ use Rattle.meanings_doubles.specs.declared.RowCells.{RowCells}
 use Rattle.text.specs.Table.{stored-row}
 use Rattle.demands.specs.Conditions.{code-refusal}
 use Rattle.demands_biweight.specs.Biweights.{BiweightCall, ExportedBiweight}
-use Rattle.demands_doubles.specs.Doubles.{RowCellsCall, RowHadBack, ExportedRow, ToldBack}
+use Rattle.demands_doubles.specs.Doubles.{RowCellsCall, RowHadBack, ExportedRow, ExportedHadBack}
 
-pub record BiweightTold : Type 0 where
+pub record BiweightHadBack : Type 0 where
   pub biweight-had-back : (ts vs : List ℕ) (z : ℕ) (e : Estimate) (c : RowCells) → AtMost max-u16 vs → BiweightCall ts vs z (Row e) → RowCellsCall e c
       → RowHadBack e c
   pub exported-biweight-had-back : (ts vs : List ℕ) (z : ℕ) (row : List ℕ) (k : ℕ) (row′ : List ℕ) (c : ℕ) (xs′ : List Float) (d : ℕ)
       (ys′ : List Float) → AtMost max-u16 vs → ExportedBiweight ts vs z row k row′ → code-refusal k ≡ none
-      → ExportedRow (stored-row row′ 0) c xs′ d ys′ → ToldBack (stored-row row′ 0) c xs′ d ys′
+      → ExportedRow (stored-row row′ 0) c xs′ d ys′ → ExportedHadBack (stored-row row′ 0) c xs′ d ys′

@@ -17,7 +17,7 @@ use Rattle.meanings.specs.declared.Turning.{Turning}
 use Rattle.meanings.specs.Claim.{NoEdgeBackAfter, accepted-after, last-accepted}
 use Rattle.meanings.specs.Codes.{detail-unit}
 use Rattle.meanings.specs.Estimate.{left-of, right-of}
-use Rattle.meanings.specs.Limits.{max-u16, max-bandwidth}
+use Rattle.meanings.specs.Limits.{max-u16, max-bandwidth, row-width}
 use Rattle.meanings.specs.Lists.{AtMost, Ordered}
 use Rattle.meanings.specs.Moves.{Move}
 use Rattle.meanings.specs.Reports.{verdict-fault}
@@ -82,17 +82,17 @@ abbrev pub doubles-conditions : List Float → Conditions
 doubles-conditions xs = condition 8 (AtZero (¬ (length xs ≡ 2))) no-more
 
 -- what an answer and its list tell
-abbrev pub told : ℕ → List Float → Doubles
-told c xs = read-back (c / detail-unit) xs
+abbrev pub doubles-of-answer : ℕ → List Float → Doubles
+doubles-of-answer c xs = read-back (c / detail-unit) xs
 
 -- weight and sum are had back
 pub record RowHadBack (e : Estimate) (c : RowCells) : Type 0 where
   pub weight-had-back : HadBack (cell-doubles (c .weight)) (e .weight)
   pub sum-had-back : HadBack (cell-doubles (c .sum)) (e .sum)
 
-pub record ToldBack (e : Estimate) (c : ℕ) (xs′ : List Float) (d : ℕ) (ys′ : List Float) : Type 0 where
-  pub weight-told : HadBack (told c xs′) (e .weight)
-  pub sum-told : HadBack (told d ys′) (e .sum)
+pub record ExportedHadBack (e : Estimate) (c : ℕ) (xs′ : List Float) (d : ℕ) (ys′ : List Float) : Type 0 where
+  pub weight-had-back : HadBack (doubles-of-answer c xs′) (e .weight)
+  pub sum-had-back : HadBack (doubles-of-answer d ys′) (e .sum)
 
 -- the record holds the window of z and h, over ordered readings
 pub record HoldsWindow (ts : List ℕ) (z h : ℕ) (r : RunningSums) : Type 0 where
@@ -162,26 +162,26 @@ pub record DoublesHold : Type 2 where
   -- else it tells what the call below hands over: the detail is how many doubles are used, they stand in front, and the others stay
   pub exported-tells : (w n : ℕ) (xs : List Float) (c : ℕ) (xs′ : List Float) (a : Cell) → length xs ≡ 2 → ExportedDoubles w n xs c xs′
       → NumberCellCall w n a
-      → (c ≡ detail-unit * used (cell-doubles a)) × (length xs′ ≡ 2) × (told c xs′ ≡ cell-doubles a)
+      → (c ≡ detail-unit * used (cell-doubles a)) × (length xs′ ≡ 2) × (doubles-of-answer c xs′ ≡ cell-doubles a)
       × (drop (c / detail-unit) xs′ ≡ drop (c / detail-unit) xs)
   pub exported-had-back : (w n : ℕ) (xs : List Float) (c : ℕ) (xs′ : List Float) → n < 2 ^ 64 → (w ≡ 0 → n ≡ 0) → length xs ≡ 2
-      → ExportedDoubles w n xs c xs′ → HadBack (told c xs′) n
+      → ExportedDoubles w n xs c xs′ → HadBack (doubles-of-answer c xs′) n
   -- so the rows that the calls for C and Rust store are had back
   pub exported-row-had-back : (e : Estimate) (c : ℕ) (xs′ : List Float) (d : ℕ) (ys′ : List Float) → Tellable e → ExportedRow e c xs′ d ys′
-      → ToldBack e c xs′ d ys′
+      → ExportedHadBack e c xs′ d ys′
   pub exported-evaluated-had-back : (ts vs : List ℕ) (z h : ℕ) (row : List ℕ) (k : ℕ) (row′ : List ℕ) (c : ℕ) (xs′ : List Float) (d : ℕ)
       (ys′ : List Float) → AtMost max-u16 vs → ExportedEvaluate ts vs z h row k row′ → code-refusal k ≡ none
-      → ExportedRow (stored-row row′ 0) c xs′ d ys′ → ToldBack (stored-row row′ 0) c xs′ d ys′
+      → ExportedRow (stored-row row′ 0) c xs′ d ys′ → ExportedHadBack (stored-row row′ 0) c xs′ d ys′
   pub exported-swept-had-back : (ts vs zs hs rs : List ℕ) (k : ℕ) (rs′ : List ℕ) (i c : ℕ) (xs′ : List Float) (d : ℕ) (ys′ : List Float)
       → AtMost max-u16 vs → ExportedSmooth ts vs zs hs rs k rs′ → code-refusal k ≡ none → i < length zs
-      → ExportedRow (stored-row rs′ i) c xs′ d ys′ → ToldBack (stored-row rs′ i) c xs′ d ys′
+      → ExportedRow (stored-row rs′ i) c xs′ d ys′ → ExportedHadBack (stored-row rs′ i) c xs′ d ys′
   pub exported-previewed-had-back : (ts vs zs hs rs : List ℕ) (k : ℕ) (rs′ : List ℕ) (i c : ℕ) (xs′ : List Float) (d : ℕ) (ys′ : List Float)
       → AtMost max-u16 vs → ExportedPreview ts vs zs hs rs k rs′ → code-refusal k ≡ none → i < length zs
-      → ExportedRow (stored-row rs′ i) c xs′ d ys′ → ToldBack (stored-row rs′ i) c xs′ d ys′
+      → ExportedRow (stored-row rs′ i) c xs′ d ys′ → ExportedHadBack (stored-row rs′ i) c xs′ d ys′
   pub exported-record-had-back : (ts vs xs : List ℕ) (ms : List Motion) (z h : ℕ) (row : List ℕ) (k : ℕ) (row′ : List ℕ) (c : ℕ)
       (xs′ : List Float) (d : ℕ) (ys′ : List Float) → AtMost max-u16 ts → AtMost max-u16 vs → ExportedMotions ts vs zeros ms xs
-      → HoldsWindow ts z h (record-of xs) → length row ≡ 5 → ExportedRecordRow xs z h row k row′
-      → ExportedRow (stored-row row′ 0) c xs′ d ys′ → ToldBack (stored-row row′ 0) c xs′ d ys′
+      → HoldsWindow ts z h (record-of xs) → length row ≡ row-width → ExportedRecordRow xs z h row k row′
+      → ExportedRow (stored-row row′ 0) c xs′ d ys′ → ExportedHadBack (stored-row row′ 0) c xs′ d ys′
   -- whose window such a record holds
   pub exported-steps-hold-window : (ts vs : List ℕ) (ms : List Move) (m : Move) (xs : List ℕ) → OrderedSteps ts vs ms → ExportedSteps ts vs zeros ms xs
       → last-accepted ts vs ms ≡ some m → HoldsWindow ts (m .point) (m .bandwidth) (record-of xs)
@@ -195,8 +195,8 @@ pub record DoublesHold : Type 2 where
   pub exported-behind-turn-had-back : (ts vs xs xs′ xs″ : List ℕ) (ms : List Motion) (m n : Move) (a : ℕ) (ns : List Move) (row : List ℕ) (k : ℕ)
       (row′ : List ℕ) (c : ℕ) (ds : List Float) (d : ℕ) (es : List Float) → AtMost max-u16 ts → AtMost max-u16 vs → ExportedMotions ts vs zeros ms xs
       → ExportedTurn xs ts vs (m .point) (m .bandwidth) a xs′ → code-refusal a ≡ none → ExportedSteps ts vs xs′ ns xs″
-      → NoEdgeBackAfter ts vs (some m) ns → accepted-after ts vs (some m) ns ≡ some n → length row ≡ 5
-      → ExportedRecordRow xs″ (n .point) (n .bandwidth) row k row′ → ExportedRow (stored-row row′ 0) c ds d es → ToldBack (stored-row row′ 0) c ds d es
+      → NoEdgeBackAfter ts vs (some m) ns → accepted-after ts vs (some m) ns ≡ some n → length row ≡ row-width
+      → ExportedRecordRow xs″ (n .point) (n .bandwidth) row k row′ → ExportedRow (stored-row row′ 0) c ds d es → ExportedHadBack (stored-row row′ 0) c ds d es
   -- worked cases, by bit patterns
   pub number-cases-hold : map (λ (c : NumberCase). number-result c) number-cases ≡ map (λ (c : NumberCase). c .expected) number-cases
   pub weight-cases-hold : map (λ (c : RowCase). weight-result c) row-cases ≡ map (λ (c : RowCase). c .weight-expected) row-cases

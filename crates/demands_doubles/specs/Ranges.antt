@@ -13,7 +13,7 @@ use Rattle.meanings_doubles.specs.Doubles.{cell-doubles, HadBack}
 use Rattle.meanings_ranges.specs.declared.RangeEstimate.{RangeEstimate}
 use Rattle.demands.specs.Conditions.{code-refusal}
 use Rattle.demands_ranges.specs.OverRanges.{RangesCall, ExportedRanges, stored-range-row}
-use Rattle.demands_doubles.specs.Doubles.{NumberCellCall, ExportedDoubles, told}
+use Rattle.demands_doubles.specs.Doubles.{NumberCellCall, ExportedDoubles, doubles-of-answer}
 
 -- each of the row's three numbers, handed over under the row's weight
 pub record RangeCells (r : RangeEstimate) (w l u : Cell) : Type 0 where
@@ -26,7 +26,7 @@ pub record RangeHadBack (r : RangeEstimate) (w l u : Cell) : Type 0 where
   pub low-had-back : HadBack (cell-doubles l) (r .sum .low)
   pub high-had-back : HadBack (cell-doubles u) (r .sum .high)
 
-pub record RangesTold : Type 0 where
+pub record RangesHadBack : Type 0 where
   pub ranges-had-back : (ts ls us zs hs rs : List ℕ) (n : ℕ) (rs′ : List ℕ) (k : ℕ) (w l u : Cell) → AtMost max-u16 us
       → RangesCall ts ls us zs hs rs (Passes n) rs′ → k < length zs → RangeCells (stored-range-row rs′ k) w l u
       → RangeHadBack (stored-range-row rs′ k) w l u
@@ -34,8 +34,8 @@ pub record RangesTold : Type 0 where
   pub exported-low-had-back : (ts ls us zs hs rs : List ℕ) (a : ℕ) (rs′ : List ℕ) (k : ℕ) (xs : List Float) (c : ℕ) (xs′ : List Float)
       → AtMost max-u16 us → ExportedRanges ts ls us zs hs rs a rs′ → code-refusal a ≡ none → k < length zs → length xs ≡ 2
       → ExportedDoubles (stored-range-row rs′ k .weight) (stored-range-row rs′ k .sum .low) xs c xs′
-      → HadBack (told c xs′) (stored-range-row rs′ k .sum .low)
+      → HadBack (doubles-of-answer c xs′) (stored-range-row rs′ k .sum .low)
   pub exported-high-had-back : (ts ls us zs hs rs : List ℕ) (a : ℕ) (rs′ : List ℕ) (k : ℕ) (xs : List Float) (c : ℕ) (xs′ : List Float)
       → AtMost max-u16 us → ExportedRanges ts ls us zs hs rs a rs′ → code-refusal a ≡ none → k < length zs → length xs ≡ 2
       → ExportedDoubles (stored-range-row rs′ k .weight) (stored-range-row rs′ k .sum .high) xs c xs′
-      → HadBack (told c xs′) (stored-range-row rs′ k .sum .high)
+      → HadBack (doubles-of-answer c xs′) (stored-range-row rs′ k .sum .high)

@@ -1,9 +1,8 @@
 -- What is promised of two tanks follows from the contracts of the calls, which answer as the meanings do, and from the laws of the comparison.
 use Prim.Native.Nat.{ℕ, _+_, _*_, _<_}
 use mathlib.Core.Path.{_≡_, refl, sym, ap, _∙_}
-use mathlib.Core.Bool.{Bool, true, false, true≢false}
-use mathlib.Core.Logic.{_⊎_, _↔_}
-use mathlib.Core.List.{List, [], _∷_, _++_}
+use mathlib.Core.Bool.{false, true≢false}
+use mathlib.Core.List.{List, []}
 use mathlib.Core.Option.{Option, none, some}
 use native.Mathlib.Omega.{arith}
 use lib.ListN.{length, getD}
@@ -11,21 +10,17 @@ use denote.Ref.{RefT}
 use Rattle.meanings.specs.declared.Smoothing.the-variants.{Passes}
 use Rattle.meanings.specs.Claim.{refusal}
 use Rattle.meanings.specs.Calls.{smooth, smooth-refusal, smooth-rows}
-use Rattle.meanings.specs.Codes.{detail-unit, answered}
-use Rattle.meanings.specs.Estimate.{left-of, right-of, run-of, rows}
-use Rattle.meanings.specs.Limits.{full, max-u16, max-bandwidth}
-use Rattle.meanings.specs.Lists.{AtMost}
+use Rattle.meanings.specs.Codes.{answered}
+use Rattle.meanings.specs.Estimate.{rows}
+use Rattle.meanings.specs.Limits.{full, max-bandwidth}
 use Rattle.meanings.specs.Moves.{moves}
-use Rattle.meanings.specs.Reports.{Fault, Answer, given, refused, unless, accepted-or, Check, check, first-of, series-checks}
+use Rattle.meanings.specs.Reports.{Fault, Answer, given, refused, unless, accepted-or, check, first-of, series-checks}
 use Rattle.meanings.specs.Running.{fresh, passes}
 use Rattle.meanings.proofs.Claim.{refusal-unless}
 use Rattle.meanings.proofs.Checks.{same-limits, given-accepted}
-use Rattle.meanings_pair.specs.declared.Comparison.{Comparison}
-use Rattle.meanings_pair.specs.declared.Comparison.the-variants.{Apart, Alike}
 use Rattle.meanings_pair.specs.declared.Tank.{Tank}
-use Rattle.meanings_pair.specs.Comparison.{Parting, Bounded, comparison-answer, of-tank, compare, fault-place, second-checks, compare-checks, compare-refusal}
+use Rattle.meanings_pair.specs.Comparison.{Parting, Bounded, of-tank, compare, fault-place, compare-checks, compare-refusal}
 use Rattle.meanings_pair.specs.Comparison.{parted, run-in, tank-in, start-in, bounded, with-bounds, compare-bounds, compare-run, run-tank, run-start}
-use Rattle.meanings_pair.specs.Order.{NoHigher, exchanged, SameValues, position-in, RowsPartAt}
 use Rattle.meanings_pair.proofs.Cases.{missing-is-higher}
 use Rattle.laws_pair.proofs.Order.{FitTank, both-fit, fit-compared, fit-by-sweep, no-higher-reflexive, no-higher-transitive, no-higher-total}
 use Rattle.laws_pair.proofs.Order.{no-higher-both, exchanged-answer, parts-by-rows, higher-by-rows}
@@ -36,12 +31,11 @@ use Rattle.pair.proofs.compare.Met as compare-met
 use Rattle.pair.proofs.compare_run.Met as compare-run-met
 use Rattle.abi_pair.proofs.tankcurve_compare.Met as exported-compare-met
 use Rattle.demands.specs.Calls.{Place, SmoothCall}
-use Rattle.demands.specs.Conditions.{Conditions, no-more, FirstFault, RefusedExactly, series-conditions, length-first, code-refusal}
-use Rattle.demands.specs.Demands.{RefusedAndStays}
+use Rattle.demands.specs.Conditions.{no-more, FirstFault, RefusedExactly, series-conditions, length-first, code-refusal}
 use Rattle.demands.proofs.CallChecks.{Decides, series-finds, curve-size-finds, order-finds, bandwidth-list-finds, edge-finds}
 use Rattle.demands.proofs.FirstFaults.{Finds, FindAll, first-found, none-found, one-first, none-or-first}
 use Rattle.demands.proofs.Refusals.{decided-exactly, length-first-finds, sized-is-checked, exported-refusal, exported-stays, first-numbered}
-use Rattle.demands_pair.specs.Pairs.{CompareCall, CompareRunCall, ExportedCompare, SecondEarns, compare-conditions, EmptyAtFirst, RunOfTank, Pairs}
+use Rattle.demands_pair.specs.Pairs.{CompareRunCall, SecondEarns, compare-conditions, EmptyAtFirst, RunOfTank, Pairs}
 
 -- ---- the checks find the conditions
 no-checks : FindAll [] no-more

@@ -2,11 +2,11 @@
 use Prim.Native.Nat.{ℕ, zero, suc, _+_, _*_, _≤_, _<_, zero-le}
 use mathlib.Core.Path.{_≡_, refl, sym, ap, subst, _∙_}
 use mathlib.Core.Bool.{Bool, true, false, true≢false, _||_}
-use mathlib.Core.List.{List, [], _∷_, _++_}
+use mathlib.Core.List.{List, [], _∷_}
 use mathlib.Core.Option.{Option, none, some}
 use native.Mathlib.Nat.{le-refl, add-zero}
 use native.Mathlib.Omega.{arith}
-use borrow.Author.Tests.{ltb-true, ltb-false, lt-ltb, le-ltb}
+use borrow.Author.Tests.{ltb-true, lt-ltb, le-ltb}
 use lib.ListN.{length, getD, take, drop, replicate, length-replicate}
 use lib.Seq.{getD-take, getD-drop}
 use Rattle.meanings.specs.declared.Estimate.{Estimate}
@@ -15,7 +15,7 @@ use Rattle.meanings.specs.declared.Smoothing.the-variants.{Passes}
 use Rattle.meanings.specs.Limits.{full, max-u16, max-bandwidth, row-width}
 use Rattle.meanings.specs.Lists.{AtMost, lowest}
 use Rattle.meanings.specs.Moves.{moves}
-use Rattle.meanings.specs.Reports.{Fault, Answer, given, refused, unless, accepted-or, first-of, uneven-samples, uneven-rows, order-checks}
+use Rattle.meanings.specs.Reports.{Fault, given, refused, unless, accepted-or, uneven-samples, uneven-rows}
 use Rattle.meanings.specs.Reports as reports
 use Rattle.meanings.specs.Estimate.{missing, estimate, rows}
 use Rattle.meanings.specs.Running.{fresh, passes}
@@ -30,7 +30,7 @@ use Rattle.meanings.proofs.PublishedRows.{published-row}
 use Rattle.meanings.proofs.SmoothRows.{row-at-point}
 use Rattle.meanings.proofs.SmoothLog.{smooth-passes}
 use Rattle.meanings_ranges.specs.declared.RangeEstimate.{RangeEstimate}
-use Rattle.meanings_ranges.specs.Ranges.{range-estimate, range-row-width, range-fields, range-rows, crossed, crossed-checks, range-checks}
+use Rattle.meanings_ranges.specs.Ranges.{range-estimate, range-row-width, range-fields, range-rows, crossed, range-checks}
 use Rattle.meanings_ranges.specs.Ranges.{range-refusal, smooth-ranges, smooth-ranges-rows}
 use Rattle.meanings_ranges.specs.RangeLaws.{Choice, LiesWithin, MissingTogether}
 use Rattle.meanings_ranges.proofs.Cases.{range-cases-hold}
@@ -45,15 +45,14 @@ use Rattle.laws_rows.proofs.AmongReadings.{estimate-among}
 use Rattle.laws_rows.proofs.Rearranged.{same-curves}
 use Rattle.text.specs.Table.{stored-row}
 use Rattle.text_ranges.specs.RangeTable.{stored-range-row}
-use Rattle.demands.specs.Calls.{SmoothCall, ExportedSmooth}
 use Rattle.demands.specs.Demands.{log-passes}
-use Rattle.demands.specs.Conditions.{no-more, FirstFault, RefusedExactly, code-refusal}
+use Rattle.demands.specs.Conditions.{FirstFault, RefusedExactly, code-refusal}
 use Rattle.demands.proofs.CallChecks.{Decides, none-left, curve-size-finds, order-finds, bandwidth-list-finds, edge-finds}
 use Rattle.demands.proofs.FirstFaults.{Finds, FindAll, lowest-finds}
 use Rattle.demands.proofs.Refusals.{decided-exactly, decided-stays, exported-refusal, exported-stays, first-numbered, accepted-given}
 use Rattle.demands.proofs.Rows.{five-are-row}
 use Rattle.demands_ranges.specs.OverRanges.{CrossedAt, range-conditions, low-row, high-row, twice, RowsWithin, SweptRanges}
-use Rattle.demands_ranges.specs.OverRanges.{RangesCall, ExportedRanges, OverRanges}
+use Rattle.demands_ranges.specs.OverRanges.{OverRanges}
 
 -- ---- what the checks find
 module _ (ts ls us zs hs : List ℕ) (n : ℕ) where

@@ -7,7 +7,7 @@ use mathlib.Core.List.{List, [], _∷_, map}
 use mathlib.Core.Option.{none}
 use contract.Lifetimes.{Lfts}
 use borrow.Fn.Kinds.{Dens}
-use lib.ListN.{length, getD, take, drop}
+use lib.ListN.{length, getD}
 use Rattle.meanings.specs.declared.Estimate.{Estimate}
 use Rattle.meanings.specs.declared.Smoothing.{Smoothing}
 use Rattle.meanings.specs.declared.Smoothing.the-variants.{Passes}

@@ -1,6 +1,6 @@
 -- The reader's contract with the laws of its meaning: its answer and lists are those of the meaning, which by the second reading is what the bytes are
 -- printed from, and by the front that both readers share is the plain reader's but for sheets of ranges.
-use Prim.Native.Nat.{ℕ, _+_, _*_, _<_}
+use Prim.Native.Nat.{ℕ, _*_, _<_}
 use mathlib.Core.Path.{_≡_, refl, sym, ap, subst, _∙_}
 use mathlib.Core.Bool.{Bool, true, false, true≢false, not, _||_}
 use mathlib.Core.Logic.{_⊎_, inl, inr}
@@ -15,14 +15,14 @@ use Rattle.meanings.specs.declared.Smoothing.{Smoothing}
 use Rattle.meanings.specs.declared.Smoothing.the-variants.{Passes}
 use Rattle.meanings.specs.Limits.{full, row-width}
 use Rattle.meanings.specs.Moves.{moves}
-use Rattle.meanings.specs.Reports.{Fault, Answer, given, refused, Check, at, first-of, differ, read-checks}
+use Rattle.meanings.specs.Reports.{Fault, Answer, given, refused, Check, at, first-of, differ}
 use Rattle.meanings.specs.Reports as reports
 use Rattle.meanings.specs.Running.{fresh, passes}
 use Rattle.meanings.specs.SheetForm.{said-by, Each}
 use Rattle.meanings.specs.Claim.{refusal}
 use Rattle.meanings.specs.Output.{program}
-use Rattle.meanings.specs.Sheet.{Contents, Outcome, or-next, read-sheet}
-use Rattle.meanings.specs.Calls.{smoothing-answer, parsing-answer, counts, read, read-minutes, read-values, read-evaluation-points, read-bandwidths}
+use Rattle.meanings.specs.Sheet.{Outcome, or-next, read-sheet}
+use Rattle.meanings.specs.Calls.{smoothing-answer, counts, read, read-minutes, read-values, read-evaluation-points, read-bandwidths}
 use Rattle.meanings.specs.Codes.{answered, no-detail}
 use Rattle.meanings.specs.Lists.{pick}
 use Rattle.meanings.proofs.Checks.{differ-false, differ-same}
@@ -42,7 +42,7 @@ use Rattle.meanings_ranges.specs.RangeCalls.{points-of, bandwidths-of}
 use Rattle.meanings_ranges.specs.RangeCalls as calls
 use Rattle.meanings_ranges.specs.RangeOutput.{plain-contents, either-program}
 use Rattle.meanings_ranges.proofs.Cases.{sheet-cases-hold}
-use Rattle.laws_ranges.proofs.RangesSwept.{AcceptedRanges, accepted-ranges, accepted-sheet-has-passes}
+use Rattle.laws_ranges.proofs.RangesSwept.{accepted-ranges, accepted-sheet-has-passes}
 use Rattle.laws_ranges.proofs.RangeText.{plain-text-stays}
 use Rattle.laws_range_form.specs.RangeForm.{NamesRanges, IsRangeSheet, EitherSheet, plain-sheet, range-sheet, EitherRefused, low-sheet, EqualEnds}
 use Rattle.laws_range_form.specs.RangeForm.{RangeFault, malformed-range, faulty-range, as-plain, for-a-range}
@@ -53,11 +53,11 @@ use Rattle.sheet_ranges.proofs.read_ranges.Met as read-met
 use Rattle.abi_sheet_ranges.specs.KindNumbers.{kind-number, range-count-numbers}
 use Rattle.abi_sheet_ranges.proofs.tankcurve_read_ranges.Met as exported-met
 use Rattle.demands.specs.Calls.{SmoothCall, ReadCall}
-use Rattle.demands.specs.Conditions.{Conditions, no-more, condition, FirstOrElse, RefusedExactly, AtZero, length-first, code-refusal}
+use Rattle.demands.specs.Conditions.{Conditions, FirstOrElse, RefusedExactly, length-first, code-refusal}
 use Rattle.demands.proofs.FirstFaults.{FindAll, first-found, none-found, one-first, none-or-first, exactly, at-finds}
 use Rattle.demands.proofs.Refusals.{accepted-given, length-check, length-first-finds, numbered, first-numbered, sheet-numbered}
 use Rattle.demands.proofs.Refusals.{exported-refusal, exported-stays, stored-stays, sized-opens}
-use Rattle.demands_ranges.specs.OverRanges.{RangesCall, ExportedRanges, stored-range-row, twice}
+use Rattle.demands_ranges.specs.OverRanges.{RangesCall, stored-range-row, twice}
 use Rattle.demands_ranges.proofs.OverRanges.{over-ranges, coded}
 use Rattle.demands_sheet_ranges.specs.BothKinds.{ReadRangesCall, Roomy, read-range-conditions, FilledIn, plain-counts, ReadAlike, RefusedThere}
 use Rattle.demands_sheet_ranges.specs.BothKinds.{ExportedReadRanges, ReadAsPlain}
@@ -366,10 +366,10 @@ module _ (s ts ls us vs zs hs : List ℕ) (a : RangeParsing) (b : Parsing) (ts�
       by : (o : Outcome) → read-sheet full s ≡ o → calls.read-ranges full s ts ls us zs hs ≡ doubled o → read full s ts vs zs hs ≡ o
           → ReadAlike a b ts′ ls′ us′ zs′ hs′ ts″ vs″ zs″ hs″
       by (refused f) q h g =
-          let told : range-parsing-answer a ≡ refused f = x .ensured .0 ∙ ap range-counts h in
-          let never : (n m : ℕ) (k : Kind) → ¬ (a ≡ Used n m k) = λ n m k u. never-used n m k u told in
+          let answer-is : range-parsing-answer a ≡ refused f = x .ensured .0 ∙ ap range-counts h in
+          let never : (n m : ℕ) (k : Kind) → ¬ (a ≡ Used n m k) = λ n m k u. never-used n m k u answer-is in
           record {
-            answers = told ∙ sym (ap plain-counts (y .ensured .0 ∙ ap counts g));
+            answers = answer-is ∙ sym (ap plain-counts (y .ensured .0 ∙ ap counts g));
             minutes = x .ensured .1 .0 ∙ ap (λ (o : Answer RangeContents). range-front o minutes-of ts) h
                 ∙ sym (y .ensured .1 .0 ∙ ap (λ (o : Outcome). read-minutes o ts) g);
             points = x .ensured .1 .1 .1 .1 .0 ∙ ap (λ (o : Answer RangeContents). range-front o points-of zs) h
@@ -383,10 +383,10 @@ module _ (s ts ls us vs zs hs : List ℕ) (a : RangeParsing) (b : Parsing) (ts�
           never-used : (n m : ℕ) (k : Kind) → a ≡ Used n m k → range-parsing-answer a ≡ refused f → ⊥
           never-used n m k u w = let q : range-parsing-answer (Used n m k) ≡ refused f = rw u at w in let z : _≡_ {A = ℕ} 0 1 = cc in omega arith
       by (given c) q h g =
-          let told : range-parsing-answer a ≡ range-counts (given (doubled-contents c)) = x .ensured .0 ∙ ap range-counts h in
+          let answer-is : range-parsing-answer a ≡ range-counts (given (doubled-contents c)) = x .ensured .0 ∙ ap range-counts h in
           let values : vs″ ≡ c .values ++ drop (length (c .values)) vs = y .ensured .1 .1 .0 ∙ ap (λ (o : Outcome). read-values o vs) g in
           record {
-            answers = told ∙ sym (ap plain-counts (y .ensured .0 ∙ ap counts g));
+            answers = answer-is ∙ sym (ap plain-counts (y .ensured .0 ∙ ap counts g));
             minutes = x .ensured .1 .0 ∙ ap (λ (o : Answer RangeContents). range-front o minutes-of ts) h
                 ∙ sym (y .ensured .1 .0 ∙ ap (λ (o : Outcome). read-minutes o ts) g);
             points = x .ensured .1 .1 .1 .1 .0 ∙ ap (λ (o : Answer RangeContents). range-front o points-of zs) h
@@ -394,11 +394,11 @@ module _ (s ts ls us vs zs hs : List ℕ) (a : RangeParsing) (b : Parsing) (ts�
             bandwidths = x .ensured .1 .1 .1 .1 .1 ∙ ap (λ (o : Answer RangeContents). range-front o bandwidths-of hs) h
                 ∙ sym (y .ensured .1 .1 .1 .1 ∙ ap (λ (o : Outcome). read-bandwidths o hs) g);
             lows = λ n m k u.
-                let l = values-count n m k u told in
+                let l = values-count n m k u answer-is in
                 front-taken (c .values) _ ls′ n (x .ensured .1 .1 .0 ∙ ap (λ (o : Answer RangeContents). range-front o lows-of ls) h) l
                 ∙ sym (front-taken (c .values) _ vs″ n values l);
             highs = λ n m k u.
-                let l = values-count n m k u told in
+                let l = values-count n m k u answer-is in
                 front-taken (c .values) _ us′ n (x .ensured .1 .1 .1 .0 ∙ ap (λ (o : Answer RangeContents). range-front o highs-of us) h) l
                 ∙ sym (front-taken (c .values) _ vs″ n values l);
           }
@@ -412,12 +412,12 @@ module _ (s ts ls us vs zs hs : List ℕ) (a : RangeParsing) (b : Parsing) (ts�
               let fit = accepted-ranges full s (doubled-contents c) (e ∙ ap doubled q) in
               sym (fit .even-lows) ∙ sym (ap (λ (a : RangeCounts). a .samples) same)
 
-  said : NamesRanges full s ⊎ (¬ NamesRanges full s × (read-either full s ≡ doubled (read-sheet full s)))
+  either-way : NamesRanges full s ⊎ (¬ NamesRanges full s × (read-either full s ≡ doubled (read-sheet full s)))
       → (¬ NamesRanges full s × ReadAlike a b ts′ ls′ us′ zs′ hs′ ts″ vs″ zs″ hs″) ⊎ RefusedThere s b
-  said (inl n) =
+  either-way (inl n) =
       inr
       (record { names = n; with-two = ap refusal (y .ensured .0 ∙ ap counts (plain-outcome ∙ named-refused full s n)) })
-  said (inr e) = inl (e .0, alike (e .1))
+  either-way (inr e) = inl (e .0, alike (e .1))
 
 -- the plain sheet of a sheet whose ranges are one value each
 module _ (s : List ℕ) (c : RangeContents) (i : IsRangeSheet full s c) (ts ls us vs zs hs : List ℕ) (n m : ℕ) (k : Kind) (ts′ ls′ us′ zs′ hs′ : List ℕ)
@@ -502,7 +502,7 @@ both-kinds = record {
       let c = exported-taken s ts ls us zs hs ns a ts′ ls′ us′ zs′ hs′ ns′ x e in
       (c .0, (read-is-form full s (c .0) (c .1 .0), c .1 .1));
   both-readers = λ s ts ls us vs zs hs a b ts′ ls′ us′ zs′ hs′ ts″ vs″ zs″ hs″ room even x y.
-      said s ts ls us vs zs hs a b ts′ ls′ us′ zs′ hs′ ts″ vs″ zs″ hs″ room even x y (of-ranges-or-plain full s);
+      either-way s ts ls us vs zs hs a b ts′ ls′ us′ zs′ hs′ ts″ vs″ zs″ hs″ room even x y (of-ranges-or-plain full s);
   same-text = text-stays;
   accepted-is-swept = λ s ts ls us zs hs n m k ts′ ls′ us′ zs′ hs′ rs a rs′ x.
       let c = taken s ts ls us zs hs n m k ts′ ls′ us′ zs′ hs′ x in

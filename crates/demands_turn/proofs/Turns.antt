@@ -1,7 +1,7 @@
 -- What is promised of the turn follows from the contracts of the calls, which leave what the meanings leave, and from the laws of motions.
 use Prim.Native.Nat.{ℕ, _+_}
 use mathlib.Core.Path.{_≡_, refl, sym, ap, _∙_}
-use mathlib.Core.List.{List, [], _∷_}
+use mathlib.Core.List.{List}
 use mathlib.Core.Option.{Option, none, some}
 use lib.ListN.{length}
 use Rattle.meanings.specs.declared.Advance.{Advance}

@@ -16,7 +16,7 @@ use Rattle.meanings.specs.declared.Turning.{Turning}
 use Rattle.meanings.specs.Calls.{advance-answer}
 use Rattle.meanings.specs.Claim.{NoEdgeBackAfter, accepted-after, window-direct, log-after-steps, refusal}
 use Rattle.meanings.specs.EventLog.{insertion-count, eviction-count}
-use Rattle.meanings.specs.Limits.{full, max-u16}
+use Rattle.meanings.specs.Limits.{full, max-u16, row-width}
 use Rattle.meanings.specs.Lists.{AtMost}
 use Rattle.meanings.specs.Moves.{Move}
 use Rattle.meanings.specs.Reports.{verdict-fault}
@@ -113,7 +113,7 @@ pub record Turns : Type 2 where
       → RecordRowCall (t .running) z h e → a ≡ Row e
   pub exported-turn-row : (ts vs xs : List ℕ) (ms : List Motion) (z h c₀ : ℕ) (xs′ row₁ : List ℕ) (c₁ : ℕ) (row₁′ row : List ℕ) (c : ℕ) (row′ : List ℕ)
       → AtMost max-u16 ts → AtMost max-u16 vs → ExportedMotions ts vs zeros ms xs → ExportedTurn xs ts vs z h c₀ xs′ → code-refusal c₀ ≡ none
-      → length row₁ ≡ 5 → length row ≡ 5 → ExportedEvaluate ts vs z h row₁ c₁ row₁′ → ExportedRecordRow xs′ z h row c row′
+      → length row₁ ≡ row-width → length row ≡ row-width → ExportedEvaluate ts vs z h row₁ c₁ row₁′ → ExportedRecordRow xs′ z h row c row′
       → (c₁ ≡ 0) × (c ≡ 0) × (row′ ≡ row₁′)
   -- an accepted turn of the nine numbers answers 0
   pub exported-turn-accepted : (xs ts vs : List ℕ) (z h c : ℕ) (xs′ : List ℕ) → ExportedTurn xs ts vs z h c xs′ → code-refusal c ≡ none → c ≡ 0

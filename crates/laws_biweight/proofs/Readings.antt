@@ -1,6 +1,6 @@
 -- The biweight row stays among its readings, and its readings of equal minute may change places: a weight above zero is that of a reading nearer than
 -- the half width, so weight and sum are totals over all readings, of which the laws for any weights and for any sum over readings speak.
-use Prim.Native.Nat.{ℕ, _-_, _*_, _<_}
+use Prim.Native.Nat.{ℕ, _*_, _<_}
 use mathlib.Core.Path.{_≡_, sym, ap, _∙_}
 use mathlib.Core.Logic.{_↔_}
 use mathlib.Core.List.{List}

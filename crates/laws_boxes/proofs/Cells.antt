@@ -1,24 +1,21 @@
 -- Boxes by cells: a mark's window is a run of strips, so a box is the block of cells of its two runs, and by equation (18) of the source the
 -- signed sum of four corners. All cells together hold all readings, and no cell more than 32 bits.
-use Prim.Native.Nat.{ℕ, zero, suc, _+_, _-_, _*_, _≤_, _<_, zero-le}
-use mathlib.Core.Path.{_≡_, refl, sym, ap, _∙_}
-use mathlib.Core.Bool.{Bool, true, false, true≢false, _&&_}
-use mathlib.Core.List.{List, [], _∷_}
+use Prim.Native.Nat.{ℕ, zero, suc, _+_, _-_, _*_, _≤_, _<_}
+use mathlib.Core.Path.{_≡_, refl, sym, _∙_}
+use mathlib.Core.Bool.{Bool, true, false, _&&_}
+use mathlib.Core.List.{List}
 use native.Mathlib.Decide.{decLt, decLe}
-use native.Mathlib.Nat.{zero-add, add-sub-of-le}
 use native.Mathlib.Omega.{arith}
-use borrow.Author.Tests.{lt-ltb, le-ltb, le-leb, lt-leb, leb-true, leb-false, ltb-true, ltb-false}
+use borrow.Author.Tests.{lt-ltb, le-ltb, le-leb, lt-leb}
 use lib.Dec.{ltb, leb, eqb}
 use lib.ListN.{length, getD}
 use Rattle.meanings.specs.Lists.{pick, total, distance}
-use Rattle.meanings.proofs.Totals.{total-ext}
-use Rattle.meanings_boxes.specs.Boxes.{Axis, shift, left-cut, right-cut, cuts-to, cuts, strip, strip-of, inside, gathered, one, value}
-use Rattle.meanings_boxes.specs.Boxes.{strips, cells, cell-of, cell, cell-list, box}
+use Rattle.meanings_boxes.specs.Boxes.{Axis, shift, strip-of, inside, gathered, one, value}
+use Rattle.meanings_boxes.specs.Boxes.{strips, cells, cell-of, cell, box}
 use Rattle.laws_boxes.specs.Windows.{first-strip, end-strip, to-right-edge, below-left-edge, Narrow}
 use Rattle.laws_boxes.proofs.Strips.{inside-by-strips, window-strips-in-order, end-strip-most, axis-strip-most}
-use Rattle.laws_boxes.proofs.Strips.{cut-at-or-below, cut-above, left-cut-member, right-cut-member}
-use Rattle.laws_boxes.proofs.Sums.{among, gathered-ext, gathered-more, gathered-none, gathered-most, total-ones, block-gathered, all-gathered}
-use Rattle.laws_boxes.proofs.Sums.{listed-at, pair-told}
+use Rattle.laws_boxes.proofs.Sums.{among, gathered-ext, gathered-more, gathered-none, gathered-most, block-gathered, all-gathered}
+use Rattle.laws_boxes.proofs.Sums.{pair-by-one-number}
 
 -- the cells of m minute strips from a on and k temperature strips from b on, added up
 unfoldable pub block : Axis → Axis → (ℕ → ℕ) → ℕ → ℕ → ℕ → ℕ → ℕ → ℕ
@@ -34,7 +31,7 @@ cell-at-most A B l m i = let p = strip-at-most A l i in let q = strip-at-most B 
 
 pub cell-tells-strips : (A B : Axis) → length (B .points) ≤ 32 → (i x y : ℕ) → y < strips
     → eqb (cell-of A B i) (strips * x + y) ≡ eqb (strip-of A i) x && eqb (strip-of B i) y
-cell-tells-strips A B m i x y l = let q = strip-at-most B m i in pair-told strips (strip-of A i) (strip-of B i) x y (omega arith) l
+cell-tells-strips A B m i x y l = let q = strip-at-most B m i in pair-by-one-number strips (strip-of A i) (strip-of B i) x y (omega arith) l
 
 -- a block of cells, by readings
 pub block-by-readings : (A B : Axis) (w : ℕ → ℕ) (n a m b k : ℕ) → length (B .points) ≤ 32 → b + k ≤ strips

@@ -1,8 +1,8 @@
 -- Each of the four sums of (18) is a block of cells from the first one on, so a box is four cumulative sums of cells; and the lists of cells add
 -- up to all readings.
-use Prim.Native.Nat.{ℕ, _+_, _-_, _*_, _≤_, _<_, zero-le}
+use Prim.Native.Nat.{ℕ, _+_, _≤_, _<_, zero-le}
 use mathlib.Core.Path.{_≡_, refl, sym, ap, _∙_}
-use mathlib.Core.Bool.{Bool, true, false, _&&_}
+use mathlib.Core.Bool.{_&&_}
 use mathlib.Core.List.{List}
 use native.Mathlib.Decide.{decLt, decLe}
 use native.Mathlib.Nat.{zero-add}

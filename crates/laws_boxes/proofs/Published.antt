@@ -5,20 +5,19 @@ use mathlib.Core.Path.{_≡_, refl, sym, ap, _∙_}
 use mathlib.Core.Bool.{Bool, true, false, true≢false, _&&_}
 use mathlib.Core.List.{List}
 use native.Mathlib.Decide.{decLt, decLe, ℕ-discrete}
-use native.Mathlib.Nat.{zero-add, mul-pos}
+use native.Mathlib.Nat.{mul-pos}
 use native.Mathlib.Omega.{arith}
 use borrow.Author.Tests.{lt-ltb, le-ltb, le-leb, lt-leb, leb-true, eq-eqb, ne-eqb}
 use lib.Dec.{ltb, leb, eqb}
 use lib.ListN.{length, getD}
-use Rattle.meanings.specs.Lists.{pick, count, total, distance, Ordered}
+use Rattle.meanings.specs.Lists.{pick, count, Ordered}
 use Rattle.meanings.specs.Published.{Fraction, whole, _⊗_, _≈_, sum-all}
 use Rattle.meanings.proofs.Window.{front-is-counted, count-at-most-length}
 use Rattle.meanings.proofs.Published.{same-den-adds}
-use Rattle.meanings_neighbours.specs.Neighbours.{sorted}
 use Rattle.meanings_neighbours.proofs.Sorting.{sorted-is-ordered, sorted-counts}
-use Rattle.meanings_boxes.specs.Boxes.{Axis, shift, cuts-to, cuts, member, distinct, strip, strip-of, tally, inside, gathered, strips, cell, cell-of, box}
-use Rattle.laws_boxes.specs.Published.{rising-cuts, grid-size, grid-point, above-grid, to-grid, place, local-sum}
-use Rattle.laws_boxes.specs.Published.{uniform, scaled-uniform, uniform-density}
+use Rattle.meanings_boxes.specs.Boxes.{Axis, shift, cuts, member, distinct, strip, tally, inside, gathered, strips, cell, box}
+use Rattle.laws_boxes.specs.Published.{rising-cuts, grid-size, above-grid, to-grid, place, local-sum}
+use Rattle.laws_boxes.specs.Published.{scaled-uniform, uniform-density}
 use Rattle.laws_boxes.specs.Windows.{Narrow}
 use Rattle.laws_boxes.proofs.Strips.{strip-is-tally, no-cut-is-zero}
 use Rattle.laws_boxes.proofs.Sums.{gathered-ext, gathered-more, gathered-none}

@@ -9,7 +9,6 @@ use native.Mathlib.Omega.{arith}
 use borrow.Author.Tests.{ltb-false, eqb-false}
 use lib.Dec.{ltb, eqb}
 use lib.ListN.{length, getD}
-use Rattle.meanings.specs.Lists.{Ordered}
 use Rattle.meanings.specs.Reports.{first-of, differ, outside-at, point-order-checks, bandwidth-list-checks}
 use Rattle.meanings.proofs.Checks.{none-holds, none-of-both, at-none, or-false, differ-false, no-decrease-ordered}
 use Rattle.meanings.proofs.Search.{lowest-none}

@@ -3,11 +3,10 @@
 use Prim.Native.Nat.{ℕ, zero, suc, _+_, _*_, _≤_, _<_, zero-le}
 use mathlib.Core.Path.{_≡_, refl, sym, ap, _∙_}
 use mathlib.Core.Bool.{Bool, true, false, _&&_}
-use mathlib.Core.List.{List, [], _∷_}
 use native.Mathlib.Decide.{decLt, decLe, ℕ-discrete}
-use native.Mathlib.Nat.{zero-add, add-zero, add-suc}
+use native.Mathlib.Nat.{zero-add, add-zero}
 use native.Mathlib.Omega.{arith}
-use borrow.Author.Tests.{lt-ltb, le-ltb, le-leb, lt-leb, eqb-true, eqb-false, eq-eqb, ne-eqb}
+use borrow.Author.Tests.{lt-ltb, le-ltb, le-leb, lt-leb, eq-eqb, ne-eqb}
 use lib.Dec.{ltb, leb, eqb}
 use lib.ListN.{length, getD}
 use Rattle.meanings.specs.Lists.{pick, total}
@@ -34,11 +33,6 @@ gathered-none test w = refl
 pub gathered-ext : (p q : ℕ → Bool) (w : ℕ → ℕ) (n : ℕ) → ((i : ℕ) → i < n → p i ≡ q i) → gathered p w n ≡ gathered q w n
 unfolding gathered
 gathered-ext p q w n same = total-ext _ _ 0 n (λ i l r. ap (λ b. pick b (w i) 0) (same i (omega arith)))
-
--- all readings
-pub gathered-all : (w : ℕ → ℕ) (n : ℕ) → gathered (λ i. true) w n ≡ total w 0 n
-unfolding gathered
-gathered-all w n = refl
 
 pub total-ones : (a n : ℕ) → total (λ i. 1) a n ≡ n
 total-ones a zero = refl
@@ -77,8 +71,8 @@ total-hit p v a (suc n) = by (decLe a p) (decLt p (a + n)) (ℕ-discrete p (a + 
         rw (h, le-leb a p l, le-ltb p (a + n) (omega arith), le-ltb p (a + suc n) (omega arith), ne-eqb p (a + n) e) refl
 
 -- two numbers, the second below width, are told by one
-pub pair-told : (width p q x y : ℕ) → q < width → y < width → eqb (width * p + q) (width * x + y) ≡ eqb p x && eqb q y
-pair-told width p q x y l m = by (ℕ-discrete p x) (ℕ-discrete q y)
+pub pair-by-one-number : (width p q x y : ℕ) → q < width → y < width → eqb (width * p + q) (width * x + y) ≡ eqb p x && eqb q y
+pair-by-one-number width p q x y l m = by (ℕ-discrete p x) (ℕ-discrete q y)
   where
     apart : (a b u v : ℕ) → a < b → u < width → width * a + u < width * b + v
     apart a b u v d e = let s : width * (a + 1) ≤ width * b = scaled width (a + 1) b (omega arith) in omega (arith, s, once width a)
@@ -120,9 +114,9 @@ block-hit width p q v a m b n l r =
     row : (x : ℕ) (e : Bool) → eqb p x ≡ e
         → total (λ y. pick (eqb (width * p + q) (width * x + y)) v 0) b n ≡ pick e (pick (among b n q) v 0) 0
     row x true e =
-        total-ext _ (λ y. pick (eqb q y) v 0) b n (λ y u o. first-true _ _ _ (pair-told width p q x y l (omega arith)) e)
+        total-ext _ (λ y. pick (eqb q y) v 0) b n (λ y u o. first-true _ _ _ (pair-by-one-number width p q x y l (omega arith)) e)
         ∙ total-hit q v b n
-    row x false e = total-zero _ b n (λ y u o. first-false _ _ _ (pair-told width p q x y l (omega arith)) e)
+    row x false e = total-zero _ b n (λ y u o. first-false _ _ _ (pair-by-one-number width p q x y l (omega arith)) e)
 
     nested : (s t : Bool) → pick s (pick t v 0) 0 ≡ pick (s && t) v 0
     nested true t = refl

@@ -1,9 +1,9 @@
 -- N. Langrené and X. Warin, "Fast multivariate empirical cumulative distribution function with connection to kernel density estimation" (2021), in
 -- two dimensions: the local sums (4), without their factor 1/N, at the grid of the distinct cuts less 1 in each direction; and the uniform kernel
 -- (13) with its density estimator (17), as exact fractions over N readings.
-use Prim.Native.Nat.{ℕ, zero, suc, _+_, _-_, _*_}
-use mathlib.Core.Bool.{Bool, true, false, _&&_}
-use mathlib.Core.List.{List, [], _∷_}
+use Prim.Native.Nat.{ℕ, zero, suc, _+_, _-_}
+use mathlib.Core.Bool.{Bool, true, _&&_}
+use mathlib.Core.List.{List}
 use lib.Dec.{ltb, leb}
 use lib.ListN.{length, getD}
 use Rattle.meanings.specs.Lists.{pick, distance}

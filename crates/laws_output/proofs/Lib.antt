@@ -1,7 +1,6 @@
 pub mod AcceptedSheet
 pub mod ByPosition
 pub mod CurveLines
-pub mod Front
 pub mod KeptLines
 pub mod KeptRules
 pub mod OutputFits

@@ -1,5 +1,5 @@
--- No output has more than 31,291 bytes: 36 for the names, 61 for each of 512 marks, 1 for the empty line, 12 for the names of the totals, and
--- 10 for the totals, since there are at most 1,024 readings and two passes a reading. A refusal is shorter.
+-- No text of a plain sheet has more than 31,291 bytes: 36 for the names, 61 for each of 512 marks, 1 for the empty line, 12 for the names of
+-- the totals, and 10 for the totals, since there are at most 1,024 readings and two passes a reading. A refusal is shorter.
 use Prim.Native.Nat.{ℕ, _≤_}
 use mathlib.Core.Path.{_≡_, refl}
 use mathlib.Core.List.{List}

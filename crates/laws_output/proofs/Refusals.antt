@@ -1,5 +1,5 @@
--- A refused sheet's report is one of the thirteen, and its place is at most 32,768: it lies in the sheet or at its end, or the sheet is too
--- long. So its text has at most 23 bytes, and that of any two numbers of 64 bits at most 56.
+-- A refused sheet's report is at most 13, and its place is at most 32,768: it lies in the sheet or at its end, or the sheet is too long. So
+-- its text has at most 23 bytes, and that of any two numbers of 64 bits at most 56.
 use Prim.Native.Nat.{ℕ, _^_, _≤_, _<_}
 use mathlib.Core.Path.{_≡_, ap}
 use mathlib.Core.List.{List, _∷_, _++_}

@@ -1,29 +1,28 @@
 -- For fixed marks, "no higher" is the order of the two tanks' values by their first difference. So it is an order up to equal curves, and to
 -- exchange the tanks is to exchange the answer.
-use Prim.Native.Nat.{ℕ, _+_, _*_, _≤_, _<_, zero-le}
+use Prim.Native.Nat.{ℕ, _*_, _<_, zero-le}
 use mathlib.Core.Path.{_≡_, refl, sym, ap, _∙_}
 use mathlib.Core.Logic.{_⊎_, inl, inr, _↔_}
-use mathlib.Core.Bool.{Bool, true, false}
-use mathlib.Core.List.{List, [], _∷_, _++_}
+use mathlib.Core.Bool.{true, false}
+use mathlib.Core.List.{List}
 use mathlib.Core.Option.{Option, none, some}
 use native.Mathlib.Omega.{arith}
 use borrow.Author.Tests.{le-ltb, ne-eqb}
 use lib.ListN.{length, getD, drop}
 use lib.Seq.{getD-take, getD-drop}
-use Rattle.meanings.specs.declared.Estimate.{Estimate}
 use Rattle.meanings.specs.declared.Limits.{Limits}
 use Rattle.meanings.specs.Limits.{full, LimitsWithin, max-u16, row-width}
 use Rattle.meanings.specs.Lists.{AtMost, lowest}
-use Rattle.meanings.specs.Reports.{Fault, Answer, given, refused, unless, first-of, size-checks, sample-order-checks, series-checks}
-use Rattle.meanings.specs.Reports.{uneven-rows, curve-size-checks, order-checks, point-order-checks, windows-checks, curve-checks, smooth-checks}
-use Rattle.meanings.specs.Estimate.{WithinLimits, estimate, rows}
+use Rattle.meanings.specs.Reports.{Fault, Answer, given, unless, first-of, size-checks, sample-order-checks, series-checks}
+use Rattle.meanings.specs.Reports.{uneven-rows, point-order-checks, windows-checks, curve-checks, smooth-checks}
+use Rattle.meanings.specs.Estimate.{estimate, rows}
 use Rattle.meanings.proofs.Checks.{none-of-both, none-holds, first-of-rest, differ-same, differ-false, differ-true, size-accepts, curve-sizes-accept}
 use Rattle.meanings.proofs.Search.{lowest-none, lowest-some, none-lowest, lowest-at}
-use Rattle.meanings.proofs.SmoothSteps.{CurveAccepted, none-of-three}
+use Rattle.meanings.proofs.SmoothSteps.{none-of-three}
 use Rattle.meanings.proofs.SmoothRows.{row-at-point}
 use Rattle.meanings_pair.specs.declared.Tank.{Tank}
 use Rattle.meanings_pair.specs.declared.Tank.the-variants.{First, Second}
-use Rattle.meanings_pair.specs.Comparison.{Parting, of-tank, higher-of, unlike, unlike-at, parting-at, parted, tank-in, second-checks, compare-refusal, compare}
+use Rattle.meanings_pair.specs.Comparison.{Parting, of-tank, unlike, unlike-at, parting-at, parted, tank-in, second-checks, compare-refusal, compare}
 use Rattle.meanings_pair.specs.Order.{NoHigher, exchanged, SameValues, position-in, value-field, RowsPartAt}
 use Rattle.meanings_pair.proofs.Accepted.{PairAccepted, none-earned, pair-accepts}
 use Rattle.laws_pair.proofs.Ranks.{Ranked, row-ranked, first-by-number, second-by-number}

@@ -1,19 +1,17 @@
 -- A row's value as one number ranks it: 65,536, missing, is above every number that a present value can be. So the higher of two rows is the one
 -- with the greater number.
 use Prim.Native.Nat.{ℕ, _≤_, _<_}
-use mathlib.Core.Path.{_≡_, refl, sym, ap, _∙_}
+use mathlib.Core.Path.{_≡_, refl, sym}
 use mathlib.Core.List.{List}
 use mathlib.Core.Bool.{Bool, true, false}
 use native.Mathlib.Omega.{arith}
 use borrow.Author.Tests.{lt-ltb, le-ltb, eqb-true, eqb-false}
-use lib.Dec.{ltb, eqb}
-use lib.ListN.{length, getD}
+use lib.Dec.{ltb}
 use Rattle.meanings.specs.declared.Estimate.{Estimate}
 use Rattle.meanings.specs.Limits.{max-u16}
 use Rattle.meanings.specs.Lists.{pick}
-use Rattle.meanings.specs.Estimate.{WithinLimits, estimate, missing, weight-of, sum-of, value-of}
+use Rattle.meanings.specs.Estimate.{WithinLimits, estimate, missing, weight-of}
 use Rattle.meanings.proofs.Bounds.{value-bound, missing-exactly}
-use Rattle.meanings_pair.specs.declared.Tank.{Tank}
 use Rattle.meanings_pair.specs.declared.Tank.the-variants.{First, Second}
 use Rattle.meanings_pair.specs.Comparison.{lacks-value, above, higher-of}
 

@@ -1,5 +1,5 @@
 -- Sequences of numbers in the order of their first difference: f is not above g up to n if they agree, or f is below where they first differ.
-use Prim.Native.Nat.{ℕ, _≤_, _<_, zero-le}
+use Prim.Native.Nat.{ℕ, _<_, zero-le}
 use mathlib.Core.Path.{_≡_, refl, sym, _∙_}
 use mathlib.Core.Logic.{_⊎_, inl, inr}
 use mathlib.Core.Bool.{Bool, true, false}
@@ -8,7 +8,7 @@ use borrow.Author.Tests.{ltb-true, ltb-false}
 use lib.Dec.{ltb}
 use Rattle.meanings.specs.Lists.{first}
 use Rattle.meanings.specs.Reports.{differ}
-use Rattle.meanings.proofs.Checks.{differ-false, or-false}
+use Rattle.meanings.proofs.Checks.{differ-false}
 use Rattle.meanings.proofs.Search.{IsFirst, first-is-first}
 
 abbrev pub AgreeBelow : (ℕ → ℕ) → (ℕ → ℕ) → ℕ → Type 0

@@ -1,10 +1,9 @@
 -- The second reading says of worked sheets what SPECIFICATION has them give: each way to be refused behind the header line of ranges has a sheet here,
 -- and a sheet that is refused before it.
 use Prim.Native.Nat.{ℕ}
-use mathlib.Core.Path.{_≡_, refl}
-use mathlib.Core.List.{List, [], _∷_}
+use mathlib.Core.Path.{refl}
+use mathlib.Core.List.{[], _∷_}
 use native.Mathlib.Omega.{arith}
-use Rattle.meanings.specs.declared.Limits.{Limits}
 use Rattle.meanings.specs.Limits.{full}
 use Rattle.meanings.specs.Bytes.{ascii, feed, return-feed}
 use Rattle.meanings.specs.Sheet.{EvaluationPoint}
@@ -12,9 +11,8 @@ use Rattle.meanings.specs.SheetForm.{Ended}
 use Rattle.meanings.specs.Output.{decimal, decimal-with}
 use Rattle.meanings_ranges.specs.declared.Kind.the-variants.{Ranges}
 use Rattle.meanings_ranges.specs.RangeSheet.{RangeInjection, RangeContents, sheet-front, read-either}
-use Rattle.laws_range_form.specs.RangeForm.{NamesRanges, IsRangeSheet, RangeRefused, malformed-range, faulty-range, RangeFault, EitherRefused}
-use Rattle.laws_range_form.specs.RangeForm.{as-plain, for-a-range}
-use Rattle.laws_range_form.proofs.RangeLines.{no-range-begins}
+use Rattle.laws_range_form.specs.RangeForm.{NamesRanges, IsRangeSheet, faulty-range, RangeFault, EitherRefused}
+use Rattle.laws_range_form.specs.RangeForm.{for-a-range}
 use Rattle.laws_range_form.proofs.EitherForms.{read-is-refused-form}
 
 mark-line : ℕ → ℕ → Ended EvaluationPoint

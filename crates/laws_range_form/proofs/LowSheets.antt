@@ -12,7 +12,7 @@ use Rattle.meanings.specs.Limits.{max-sheet}
 use Rattle.meanings.specs.Bytes.{ending-bytes, sample-header}
 use Rattle.meanings.specs.Sheet.{Injection}
 use Rattle.meanings.specs.SheetForm.{Ended, said-by, sample-text, print-sample, print-samples, empty-front, kept-of, SampleForm, Neighbours, Each}
-use Rattle.meanings.specs.SheetForm.{FitSamples, IsSheet}
+use Rattle.meanings.specs.SheetForm.{IsSheet}
 use Rattle.meanings.specs.SheetForm as plain
 use Rattle.meanings_ranges.specs.RangeSheet.{range-header, RangeInjection, kept-range, RangeContents}
 use Rattle.meanings_ranges.specs.RangeOutput.{plain-contents}

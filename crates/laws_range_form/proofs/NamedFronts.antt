@@ -27,11 +27,11 @@ use Rattle.laws_sheet.proofs.ValueLines.{point-line-of-text, lines-of-point}
 use Rattle.laws_sheet.proofs.Outcomes.{refused-is-refused}
 use Rattle.meanings_ranges.specs.declared.Kind.the-variants.{Ranges}
 use Rattle.meanings_ranges.specs.RangeSheet.{range-header, Front, front-points, sheet-front, no-readings, read-readings, range-contents}
-use Rattle.meanings_ranges.specs.RangeSheet.{RangeContents, read-either-from, read-either}
+use Rattle.meanings_ranges.specs.RangeSheet.{read-either-from, read-either}
 use Rattle.meanings_ranges.specs.EitherKind.{RangesNamed}
 use Rattle.meanings_ranges.proofs.Fronts.{front-then}
 use Rattle.laws_ranges.proofs.EitherReader.{plain-of}
-use Rattle.laws_range_form.specs.RangeForm.{range-head, range-front, NamesRanges, printed-to}
+use Rattle.laws_range_form.specs.RangeForm.{range-head, NamesRanges, printed-to}
 use Rattle.laws_range_form.proofs.RangePassed.{line-length}
 
 -- refused before the second header line, a sheet is refused so whatever follows that line

@@ -12,7 +12,7 @@ use Rattle.meanings.specs.Lists.{pick}
 use Rattle.meanings.specs.Limits.{max-u16}
 use Rattle.meanings.specs.Bytes.{line-feed, carriage-return, LineEnding, ending-bytes, comma, zero-digit}
 use Rattle.meanings.specs.Sheet.{Lines, unended, line, lines, parts, parsed, Injection, ranged-sample, sample-line}
-use Rattle.meanings.specs.SheetForm.{Ended, sample-text, SampleForm, Begins}
+use Rattle.meanings.specs.SheetForm.{Ended, sample-text, Begins}
 use Rattle.meanings.specs.Output.{decimal}
 use Rattle.laws_text.proofs.Numbers.{decimal-parsed, parsed-decimal}
 use Rattle.laws_text.proofs.Texts.{Free, free-append, decimal-free, Plain, lines-of-line, parts-before-comma, parts-of-one, first-part}

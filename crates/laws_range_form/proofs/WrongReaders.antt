@@ -1,7 +1,7 @@
 -- Wrong readers and rows of another shape than the code, each shut out on a concrete input: what it would answer, or leave in a lent list, is not what
 -- the meaning says.
 use Prim.Native.Nat.{ℕ, _+_, _/_}
-use mathlib.Core.Path.{_≡_, refl, ap}
+use mathlib.Core.Path.{_≡_, ap}
 use mathlib.Core.List.{List, [], _∷_}
 use mathlib.Core.Option.{Option, none, some}
 use native.Mathlib.Omega.{arith}
@@ -11,11 +11,11 @@ use Rattle.meanings.specs.Limits.{full}
 use Rattle.meanings.specs.Bytes.{ascii}
 use Rattle.meanings.specs.Estimate.{estimate, left-of, right-of, kernel, weight-of, sum-of, value-of, rounded}
 use Rattle.meanings.specs.Reports.{Answer, given, refused}
-use Rattle.meanings.specs.Sheet.{Lines, end, unended, line, sample-line, refused-at, read-sheet}
+use Rattle.meanings.specs.Sheet.{Lines, end, unended, line, sample-line, read-sheet}
 use Rattle.meanings_ranges.specs.declared.Kind.{Kind}
 use Rattle.meanings_ranges.specs.declared.Kind.the-variants.{Plain, Ranges}
 use Rattle.meanings_ranges.specs.Ranges.{range-estimate}
-use Rattle.meanings_ranges.specs.RangeSheet.{Front, sheet-front, no-readings, read-readings, second-header, range-contents, RangeContents, read-either}
+use Rattle.meanings_ranges.specs.RangeSheet.{sheet-front, no-readings, read-readings, second-header, range-contents, RangeContents, read-either}
 use Rattle.meanings_ranges.specs.RangeCalls.{read-ranges, range-front, minutes-of, highs-of}
 
 -- the kind that the first reading line would tell
@@ -33,9 +33,9 @@ number-of-kind : Kind → ℕ
 number-of-kind Plain = 0
 number-of-kind Ranges = 1
 
-kind-told : Answer RangeContents → ℕ
-kind-told (given c) = number-of-kind (c .kind)
-kind-told (refused e) = 2
+kind-seen : Answer RangeContents → ℕ
+kind-seen (given c) = number-of-kind (c .kind)
+kind-seen (refused e) = 2
 
 -- the kind taken from the first reading line
 pub no-kind-by-the-first-line :
@@ -45,9 +45,9 @@ pub no-kind-by-the-first-line :
     second-header (f .place) (f .rest)
     (λ k p ls. read-readings full (kind-of-first ls) p no-readings ls (λ r. given (range-contents (kind-of-first ls) f r))))
     ≡ read-either full s)
-unfolding sheet-front read-either kind-of-first number-of-kind kind-told
+unfolding sheet-front read-either kind-of-first number-of-kind kind-seen
 no-kind-by-the-first-line h =
-    let n : _≡_ {A = ℕ} 0 1 = ap kind-told (h (ascii "mark,half\n1,1\n\nminute,inj,low,high\n")) in omega arith
+    let n : _≡_ {A = ℕ} 0 1 = ap kind-seen (h (ascii "mark,half\n1,1\n\nminute,inj,low,high\n")) in omega arith
 
 -- the middles of ranges
 abbrev middles : List ℕ → List ℕ → List ℕ

@@ -8,17 +8,16 @@ use mathlib.Core.Option.{Option, none, some}
 use native.Mathlib.Nat.{le-refl}
 use borrow.Author.Tests.{le-ltb}
 use lib.ListN.{length}
-use Rattle.meanings.specs.Lists.{pick}
 use Rattle.meanings.specs.declared.Limits.{Limits}
 use Rattle.meanings.specs.Bytes.{LineEnding, sample-header}
 use Rattle.meanings.specs.Reports.{Fault, Answer, given, refused, first-of}
-use Rattle.meanings.specs.Sheet.{Lines, end, unended, line, next-place, same, refused-at, or-next, Injection, kept, add-kept, sample-line, sample-checks}
+use Rattle.meanings.specs.Sheet.{Lines, end, unended, line, next-place, same, or-next, Injection, kept, add-kept, sample-line, sample-checks}
 use Rattle.meanings.specs.Sheet.{with-sample, read-samples, Outcome, read-sheet}
 use Rattle.laws_sheet.proofs.Headers.{same-true}
-use Rattle.meanings_ranges.specs.declared.Kind.the-variants.{Plain, Ranges}
-use Rattle.meanings_ranges.specs.RangeSheet.{Front, sheet-front, range-header, standing-twice, Readings, no-readings, with-reading, read-readings}
-use Rattle.meanings_ranges.specs.RangeSheet.{second-header, range-contents, RangeContents, read-either-from, read-either}
-use Rattle.meanings_ranges.specs.EitherKind.{doubled, and-then, RangesNamed, RangesRefused, EitherKind, plain, of-ranges}
+use Rattle.meanings_ranges.specs.declared.Kind.the-variants.{Plain}
+use Rattle.meanings_ranges.specs.RangeSheet.{Front, sheet-front, range-header, standing-twice, Readings, with-reading, read-readings}
+use Rattle.meanings_ranges.specs.RangeSheet.{range-contents, RangeContents, read-either-from, read-either}
+use Rattle.meanings_ranges.specs.EitherKind.{doubled, and-then, EitherKind, plain, of-ranges}
 use Rattle.meanings_ranges.proofs.Fronts.{front-then, plain-from, plain-is-front}
 
 -- the readings of plain lines

@@ -14,7 +14,7 @@ use Rattle.meanings.specs.declared.Limits.{Limits}
 use Rattle.meanings.specs.Lists.{pick, AtMost}
 use Rattle.meanings.specs.Limits.{max-u16, max-sheet}
 use Rattle.meanings.specs.Bytes.{point-header}
-use Rattle.meanings.specs.Reports.{Fault, Answer, given, refused, first-of, decreases, bad-bandwidth, edge-decreases}
+use Rattle.meanings.specs.Reports.{Fault, Answer, given, first-of, decreases, bad-bandwidth, edge-decreases}
 use Rattle.meanings.specs.Sheet.{Lines, end, unended, line, lines, next-place, same, EvaluationPoint, point-line, point-checks, refused-at, or-next}
 use Rattle.meanings.specs.Sheet.{with-point, header}
 use Rattle.meanings.proofs.Checks.{none-holds, at-none}

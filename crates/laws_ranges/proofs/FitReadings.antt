@@ -1,6 +1,6 @@
 -- What the reading lines hand on earns nothing: each kept reading has passed the checks of its line, and no kept minute is above a line's minute
 -- that comes later.
-use Prim.Native.Nat.{ℕ, zero, suc, _+_, _≤_, _<_}
+use Prim.Native.Nat.{ℕ, zero, suc, _≤_, _<_}
 use mathlib.Core.Path.{_≡_, refl, sym, _∙_}
 use mathlib.Core.Bool.{Bool, true, false, _&&_}
 use mathlib.Core.List.{List, [], _∷_, _++_}
@@ -13,7 +13,7 @@ use lib.ListN.{length, getD}
 use Rattle.meanings.specs.declared.Limits.{Limits}
 use Rattle.meanings.specs.Lists.{pick, AtMost}
 use Rattle.meanings.specs.Limits.{max-u16}
-use Rattle.meanings.specs.Reports.{Fault, Answer, given, refused, first-of, decreases}
+use Rattle.meanings.specs.Reports.{Fault, Answer, given, first-of, decreases}
 use Rattle.meanings.specs.Sheet.{Lines, end, unended, line, next-place, parts, parsed, or-next, Injection, ranged-sample, sample-line, add-kept}
 use Rattle.meanings.proofs.Checks.{none-holds, at-none}
 use Rattle.laws_sheet.proofs.ValueLines.{sample-line-text}

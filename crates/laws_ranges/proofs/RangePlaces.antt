@@ -12,7 +12,7 @@ use lib.ListN.{length}
 use Rattle.meanings.specs.declared.Limits.{Limits}
 use Rattle.meanings.specs.Lists.{pick}
 use Rattle.meanings.specs.Limits.{max-sheet}
-use Rattle.meanings.specs.Bytes.{line-feed, carriage-return, LineEnding, feed, return-feed, ending-bytes, point-header, sample-header}
+use Rattle.meanings.specs.Bytes.{line-feed, carriage-return, feed, return-feed, ending-bytes, point-header, sample-header}
 use Rattle.meanings.specs.Reports.{Fault, Answer, given, refused, at, first-of, decreases}
 use Rattle.meanings.specs.Sheet.{Lines, end, unended, line, with-text-byte, with-return, with-byte, lines, next-place, same, EvaluationPoint, point-line}
 use Rattle.meanings.specs.Sheet.{point-checks, with-point, header, refused-at, or-next}
@@ -20,7 +20,7 @@ use Rattle.laws_output.proofs.Refusals.{refusal-small}
 use Rattle.meanings_ranges.specs.declared.Kind.{Kind}
 use Rattle.meanings_ranges.specs.declared.Kind.the-variants.{Plain, Ranges}
 use Rattle.meanings_ranges.specs.RangeSheet.{Front, front-points, sheet-front, range-header, RangeInjection, reading-line, kept-range, reading-checks}
-use Rattle.meanings_ranges.specs.RangeSheet.{Readings, no-readings, with-line, with-reading, RangeContents, read-readings}
+use Rattle.meanings_ranges.specs.RangeSheet.{Readings, no-readings, with-line, with-reading, read-readings}
 use Rattle.meanings_ranges.specs.RangeSheet.{second-header, range-contents, read-either-from}
 use Rattle.meanings_ranges.specs.RangeSheet.{read-either}
 use Rattle.meanings_ranges.specs.EitherKind.{and-then}

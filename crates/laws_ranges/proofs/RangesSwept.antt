@@ -8,7 +8,7 @@ use native.Mathlib.Omega.{arith}
 use borrow.Author.Tests.{le-ltb, ne-eqb}
 use lib.ListN.{length, getD}
 use Rattle.meanings.specs.declared.Limits.{Limits}
-use Rattle.meanings.specs.Lists.{pick, lowest, AtMost}
+use Rattle.meanings.specs.Lists.{pick, AtMost}
 use Rattle.meanings.specs.Limits.{full, max-u16}
 use Rattle.meanings.specs.Bytes.{sample-header}
 use Rattle.meanings.specs.Moves.{moves}

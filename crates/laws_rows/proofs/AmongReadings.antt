@@ -1,7 +1,7 @@
 -- Outside of the run every weight is 0, so weight and sum of a row are totals over all readings, and a present value is their rounded quotient:
 -- it lies between the values with a weight above zero, by the law for any weights.
 use Prim.Native.Nat.{ℕ, _-_, _*_, _≤_, _<_}
-use mathlib.Core.Path.{_≡_, refl, sym, ap, _∙_}
+use mathlib.Core.Path.{_≡_, sym, ap, _∙_}
 use mathlib.Core.Logic.{_↔_}
 use mathlib.Core.List.{List}
 use native.Mathlib.Nat.{mul-le-mul, zero-mul}
@@ -12,12 +12,11 @@ use Rattle.meanings.specs.declared.Estimate.{Estimate}
 use Rattle.meanings.specs.Lists.{total, distance, Ordered}
 use Rattle.meanings.specs.Limits.{full}
 use Rattle.meanings.specs.Reports.{given}
-use Rattle.meanings.specs.Estimate.{Inside, kernel, weight-of, sum-of, rounded, missing, value-of, estimate}
+use Rattle.meanings.specs.Estimate.{kernel, weight-of, sum-of, missing, value-of, estimate}
 use Rattle.meanings.specs.Calls.{evaluate, evaluate-refusal}
 use Rattle.meanings.proofs.Checks.{same-limits, evaluate-accepts, given-accepted}
 use Rattle.meanings.proofs.Published.{outside-is-zero, total-is-over-run}
 use Rattle.meanings.proofs.Rounding.{value-present, value-missing}
-use Rattle.laws_rows.specs.Weighted.{Weighs}
 use Rattle.laws_rows.specs.AmongReadings.{weight-at, value-at, Among, StaysAmong}
 use Rattle.laws_rows.proofs.Weighted.{mean-among}
 

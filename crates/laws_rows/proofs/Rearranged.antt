@@ -4,7 +4,7 @@
 use Prim.Native.Nat.{ℕ, zero, suc, _+_, _*_, _<_}
 use mathlib.Core.Path.{_≡_, refl, sym, ap, _∙_}
 use mathlib.Core.Bool.{Bool, true, false, _&&_, and-eq-true-iff}
-use mathlib.Core.List.{List, [], _∷_, _++_}
+use mathlib.Core.List.{List, [], _∷_}
 use mathlib.Core.Option.{Option, none, some}
 use native.Mathlib.Omega.{arith}
 use borrow.Author.Tests.{eqb-true, eq-eqb}
@@ -16,13 +16,12 @@ use Rattle.meanings.specs.declared.RunningSums.{RunningSums}
 use Rattle.meanings.specs.Lists.{pick, total, Ordered}
 use Rattle.meanings.specs.Limits.{full, row-width}
 use Rattle.meanings.specs.Moves.{Move, moves}
-use Rattle.meanings.specs.Reports.{Fault, Answer, unless, accepted-or, first-of, size-checks, sample-order-checks, point-order-checks}
+use Rattle.meanings.specs.Reports.{Fault, unless, accepted-or, first-of, size-checks, sample-order-checks, point-order-checks}
 use Rattle.meanings.specs.Reports.{series-checks, bandwidth-checks, advance-checks, uneven-rows}
-use Rattle.meanings.specs.Estimate.{kernel, weight-of, sum-of, value-of, estimate, fields, rows}
-use Rattle.meanings.specs.Running.{fresh, moved, new-left, new-right, advance, next-record, after-step, after, passes}
+use Rattle.meanings.specs.Estimate.{kernel, sum-of, estimate, rows}
+use Rattle.meanings.specs.Running.{fresh, moved, new-left, new-right, advance, after-step, after, passes}
 use Rattle.meanings.specs.Calls.{evaluate, evaluate-refusal, smooth, smooth-refusal, smooth-rows}
-use Rattle.meanings.specs.Sheet.{Contents}
-use Rattle.meanings.specs.Output.{curve-lines, curve-line, curve-text}
+use Rattle.meanings.specs.Output.{curve-lines, curve-text}
 use Rattle.meanings.proofs.Checks.{none-of-both, sample-order-accepts}
 use Rattle.meanings.proofs.Passes.{passes-are-last-edges}
 use Rattle.meanings.proofs.SmoothSteps.{none-of-three}

@@ -3,18 +3,17 @@
 -- change places.
 use Prim.Native.Nat.{ℕ, zero, suc, _+_, _-_, _*_, _%_, _≤_, _<_}
 use mathlib.Core.Path.{_≡_, refl, sym, ap, _∙_}
-use mathlib.Core.Bool.{_||_, _&&_}
+use mathlib.Core.Bool.{_||_}
 use mathlib.Core.List.{List, [], _∷_}
-use native.Mathlib.Nat.{le-trans}
 use native.Mathlib.Omega.{arith}
-use lib.Dec.{ltb, leb, eqb}
-use lib.ListN.{length, getD}
+use lib.Dec.{eqb}
+use lib.ListN.{getD}
 use Rattle.meanings.specs.declared.Estimate.{Estimate}
 use Rattle.meanings.specs.Lists.{pick, distance, Ordered}
 use Rattle.meanings.specs.Reports.{differ}
 use Rattle.meanings.specs.Estimate.{left-of, right-of, kernel, over-run, weight-of, sum-of, rounded, missing, value-of, estimate}
 use Rattle.meanings.proofs.Checks.{no-decrease-ordered}
-use Rattle.laws_rows.specs.Weighted.{Weighs, Extreme, Between}
+use Rattle.laws_rows.specs.Weighted.{Weighs, Between}
 use Rattle.laws_rows.specs.AmongReadings.{RowFunction, weight-at, value-at, Among, StaysAmong}
 use Rattle.laws_rows.specs.Rearranged.{Rearranged, MayChangePlaces}
 use Rattle.laws_rows.proofs.AmongReadings.{estimate-among}

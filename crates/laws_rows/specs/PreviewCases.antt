@@ -1,9 +1,9 @@
 -- Cases of the preview: at its limits and one over, where report 6 meets the reports around it, and the rows of SPECIFICATION 7.9.
 use Prim.Native.Nat.{ℕ, zero, suc}
-use mathlib.Core.List.{List, [], _∷_, _++_}
+use mathlib.Core.List.{List, [], _∷_}
 use lib.ListN.{replicate}
 use Rattle.meanings.specs.Limits.{preview}
-use Rattle.meanings.specs.Reports.{Answer, given}
+use Rattle.meanings.specs.Reports.{given}
 use Rattle.meanings.specs.Cases.{Case, Call, _⇒_, smooth-over, smooth-gives, is-report}
 
 abbrev pub sevens : ℕ → List ℕ

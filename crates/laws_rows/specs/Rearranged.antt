@@ -10,7 +10,6 @@ use lib.ListN.{length, getD}
 use Rattle.meanings.specs.declared.Limits.{Limits}
 use Rattle.meanings.specs.Lists.{pick, total, Ordered}
 use Rattle.meanings.specs.Estimate.{estimate}
-use Rattle.meanings.specs.Sheet.{Contents}
 use Rattle.meanings.specs.Calls.{evaluate, smooth, smooth-rows}
 use Rattle.meanings.specs.Output.{curve-text}
 use Rattle.laws_rows.specs.AmongReadings.{RowFunction}

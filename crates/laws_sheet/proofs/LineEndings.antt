@@ -2,7 +2,7 @@
 -- cut: a carriage return that is met there belongs to a text either way. And a sheet without a fault is read as its lists, which know nothing
 -- of endings, so the same lines under other endings are read as the same.
 use Prim.Native.Nat.{ℕ, _≤_}
-use mathlib.Core.Path.{_≡_, refl, sym, ap, _∙_}
+use mathlib.Core.Path.{_≡_, refl, ap, _∙_}
 use mathlib.Core.List.{List, [], _∷_}
 use native.Mathlib.Omega.{arith}
 use borrow.Author.Tests.{eq-eqb}
@@ -13,7 +13,7 @@ use Rattle.meanings.specs.Bytes.{ascii, line-feed, carriage-return, LineEnding,
 use Rattle.meanings.specs.Reports.{given}
 use Rattle.meanings.specs.Sheet.{EvaluationPoint}
 use Rattle.meanings.specs.Sheet.{Lines, line, lines, Injection, refused-at, read-lines, read-sheet}
-use Rattle.meanings.specs.SheetForm.{Ended, said-by, print-sheet, contents-of, FitPoints, FitSamples, IsSheet}
+use Rattle.meanings.specs.SheetForm.{Ended, said-by, print-sheet, contents-of, FitPoints, FitSamples}
 use Rattle.meanings.specs.FeedSheet.{feed-lines, read-feed-sheet, NoReturnFeed}
 use Rattle.laws_text.proofs.Texts.{FirstByte, is-feed, is-return, is-text, first-byte, first-line}
 use Rattle.laws_sheet.proofs.Printed.{printed-is-read}

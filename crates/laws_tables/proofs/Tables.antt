@@ -5,7 +5,7 @@ use mathlib.Core.List.{List}
 use native.Mathlib.Omega.{arith}
 use lib.ListN.{length, getD}
 use Rattle.meanings.proofs.Totals.{total-ext}
-use Rattle.meanings_boxes.specs.Boxes.{Axis, strips, cell-list, box}
+use Rattle.meanings_boxes.specs.Boxes.{Axis, cell-list, box}
 use Rattle.laws_boxes.specs.Windows.{first-strip, end-strip, Narrow}
 use Rattle.laws_boxes.proofs.Strips.{end-strip-most, window-strips-in-order}
 use Rattle.laws_boxes.proofs.Sums.{gathered-most}

@@ -1,7 +1,7 @@
 -- Steps and turns over the same readings, from a fresh record. Each keeps that the sums are direct sums over the run: a step by what its edges pass, a
 -- turn since the old run goes and the new one comes. No sum of 1,024 readings reaches 2^64, so nothing that wraps is lost. Passes are looked at by no
 -- check and enter no other field.
-use Prim.Native.Nat.{ℕ, zero, suc, _+_, _-_, _*_, _^_, _≤_, _<_}
+use Prim.Native.Nat.{ℕ, _+_, _-_, _*_, _≤_, _<_}
 use mathlib.Core.Path.{_≡_, refl, sym, ap, _∙_}
 use mathlib.Core.Bool.{Bool}
 use mathlib.Core.List.{List, [], _∷_, _++_}
@@ -11,14 +11,14 @@ use lib.ListN.{length}
 use Rattle.meanings.specs.declared.PowerSums.{PowerSums}
 use Rattle.meanings.specs.declared.RunningSums.{RunningSums}
 use Rattle.meanings.specs.Calls.{evaluate, evaluate-refusal}
-use Rattle.meanings.specs.Claim.{NoEdgeBack, NoEdgeBackAfter, accepted-after, window-direct, record-after, log-after-steps}
+use Rattle.meanings.specs.Claim.{NoEdgeBack, NoEdgeBackAfter, accepted-after, window-direct, log-after-steps}
 use Rattle.meanings.specs.Estimate.{WithinLimits, left-of, right-of}
 use Rattle.meanings.specs.EventLog.{insertion-count, eviction-count}
 use Rattle.meanings.specs.Limits.{full, max-u16}
 use Rattle.meanings.specs.Lists.{distance, Ordered, AtMost}
 use Rattle.meanings.specs.Moves.{Move}
 use Rattle.meanings.specs.Reports.{Fault, given, unless, accepted-or, first-of, series-checks, record-checks, bandwidth-checks, advance-checks}
-use Rattle.meanings.specs.Running.{six, sum-at, plus, minus, power-sum, window-sum, window-sums, new-right, moved-to, moved, advance, next-record}
+use Rattle.meanings.specs.Running.{sum-at, plus, minus, power-sum, window-sum, new-right, moved-to, moved, advance, next-record}
 use Rattle.meanings.specs.Running.{after-step, after, fresh, passes, record-row}
 use Rattle.meanings.specs.Turn.{turned, turn-refusal, turn-record, Motion, step, turn, after-motion, after-motions, Reached}
 use Rattle.meanings.proofs.Checks.{TurnAccepted, turn-accepts, advance-accepts, same-limits, first-of-rest, none-of-both}

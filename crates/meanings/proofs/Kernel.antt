@@ -1,6 +1,6 @@
 -- Inside the window the weight h² − (minute − z)² cuts nothing off at 0, and its square opens into powers of the minute: with d the distance
 -- of t and z, one of them is the other plus d.
-use Prim.Native.Nat.{ℕ, _+_, _-_, _*_, _≤_}
+use Prim.Native.Nat.{ℕ, _+_, _*_, _≤_}
 use mathlib.Core.Path.{_≡_}
 use native.Mathlib.Nat.{mul-le-mul}
 use native.Mathlib.Omega.{arith}

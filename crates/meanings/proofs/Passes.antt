@@ -13,7 +13,6 @@ use Rattle.meanings.specs.Limits.{full}
 use Rattle.meanings.specs.Moves.{Move}
 use Rattle.meanings.specs.Reports.{Fault, unless, first-of, advance-checks}
 use Rattle.meanings.specs.Running.{new-right, moved-to, moved, advance, next-record, after-step, after, fresh, passes}
-use Rattle.meanings.specs.EventLog.{EventLog, log-step, log-after}
 use Rattle.meanings.proofs.Search.{IsFirst, first-is-first}
 
 -- no foreign record: left ≤ right ≤ readings
@@ -81,10 +80,6 @@ module _ (ts vs : List ℕ) where
   pub after-append : (r : RunningSums) (ms ns : List Move) → after ts vs r (ms ++ ns) ≡ after ts vs (after ts vs r ms) ns
   after-append r [] ns = refl
   after-append r (m ∷ ms) ns = after-append (after-step ts vs r m) ms ns
-
-  pub log-after-append : (b : EventLog) (ms ns : List Move) → log-after ts vs b (ms ++ ns) ≡ log-after ts vs (log-after ts vs b ms) ns
-  log-after-append b [] ns = refl
-  log-after-append b (m ∷ ms) ns = log-after-append (log-step ts vs b m) ms ns
 
   -- so the edges of a list of steps from fresh are not below those of any front of it
   pub later-onward : (ms ns : List Move) → Onward ts (after ts vs fresh ms) (after ts vs fresh (ms ++ ns))

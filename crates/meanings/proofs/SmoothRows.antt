@@ -1,6 +1,6 @@
 -- Each row of an accepted sweep is the one that the question at one mark gives, and each record on the way is the one that one step a mark
 -- gives from a fresh record.
-use Prim.Native.Nat.{ℕ, zero, suc, _+_, _*_, _≤_, _<_}
+use Prim.Native.Nat.{ℕ, zero, suc, _*_, _≤_, _<_}
 use mathlib.Core.Path.{_≡_, refl, sym, ap, _∙_}
 use mathlib.Core.Logic.{_⊎_, inl, inr}
 use mathlib.Core.Option.{none}
@@ -25,7 +25,7 @@ use Rattle.meanings.proofs.Modulo.{combined-exact}
 use Rattle.meanings.proofs.Moments.{weight-formula, sum-formula}
 use Rattle.meanings.proofs.Passes.{after-append}
 use Rattle.meanings.proofs.Search.{lowest-none}
-use Rattle.meanings.proofs.Steps.{Small, at-window}
+use Rattle.meanings.proofs.Steps.{Small}
 use Rattle.meanings.proofs.SmoothSteps.{CurveAccepted, none-of-three, smooth-accepts, running-at, step-accepted}
 
 pub rows-length : (ts vs zs hs : List ℕ) (n : ℕ) → length (rows ts vs zs hs n) ≡ row-width * n

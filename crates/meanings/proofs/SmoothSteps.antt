@@ -1,6 +1,6 @@
 -- An accepted sweep takes one step a mark, each of which lands on its mark's window: minutes are ordered and no edge falls, so no edge of
 -- the record has passed the next window's.
-use Prim.Native.Nat.{ℕ, zero, suc, _+_, _-_, _*_, _≤_, _<_, zero-le}
+use Prim.Native.Nat.{ℕ, zero, suc, _+_, _*_, _≤_, _<_, zero-le}
 use mathlib.Core.Path.{_≡_, refl, ap, _∙_}
 use mathlib.Core.Bool.{Bool, false}
 use mathlib.Core.Option.{none}

@@ -1,5 +1,5 @@
 -- Each call's whole outcome: its answer, and what each lent list holds at exit, for every input. On a refusal a lent list holds what it
--- held. A call's enum is read through its told definition, which gives the report's number and place, or the values.
+-- held. A call's enum is read through its `…-answer` definition, which gives the report's number and place, or the values.
 use Prim.Native.Nat.{ℕ}
 use mathlib.Core.List.{List, [], _++_}
 use mathlib.Core.Option.{Option}

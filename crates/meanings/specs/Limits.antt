@@ -31,6 +31,10 @@ row-width = 5
 abbrev pub max-sheet : ℕ
 max-sheet = 32768
 
+-- the greatest length of a plain sheet's text, in bytes: none is longer, by the demand plain-fits of crates/demands
+abbrev pub max-plain-output : ℕ
+max-plain-output = 31291
+
 -- the length of the buffer that a text is written into: none is longer, by the laws either-program-fits of
 -- crates/laws_ranges and any-refusal-fits of crates/laws_output
 abbrev pub max-output : ℕ

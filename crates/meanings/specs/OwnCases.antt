@@ -13,7 +13,7 @@ use Rattle.meanings.specs.Moves.{Move}
 use Rattle.meanings.specs.Reports.{Fault, given}
 use Rattle.meanings.specs.EventLog.{EventLog}
 use Rattle.meanings.specs.Sheet.{Contents}
-use Rattle.meanings.specs.Turn.{Motion, step as a-step, turn as a-turn}
+use Rattle.meanings.specs.Turn.{step as a-step, turn as a-turn}
 use Rattle.meanings.specs.Cases.{Case, _⇒_, row, run, sums, step, record-gives, steps, smooth-over, filler, sheet}
 use Rattle.meanings.specs.Cases.{reader, output, curve-into, refusal-into, estimated, part, powers, stepped, logged, smooth-gives, filled}
 use Rattle.meanings.specs.Cases.{outcome, read-into, written, holds, is-row, is-report, is-sums, is-record, is-counted, contents}

@@ -1,5 +1,5 @@
--- What makes five numbers the published row of an evaluation point z with bandwidth h: the window's edges, and weight and sum as the source
--- paper's estimators have them, constant factors apart. At most one row is published; the law one-published-row says so.
+-- What makes five numbers the published row of an evaluation point z with bandwidth h: the window's edges, and weight and sum as the
+-- estimators of the paper of SPECIFICATION 2.10 have them, constant factors apart. At most one row is published; the law one-published-row says so.
 use Prim.Native.Nat.{ℕ, _+_, _-_, _*_, _%_, _^_, _≤_, _<_}
 use mathlib.Core.Path.{_≡_}
 use mathlib.Core.Logic.{_↔_}

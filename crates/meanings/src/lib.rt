@@ -4,6 +4,9 @@
 // The length of the buffer that a text is written into: max-output of specs/Limits.antt.
 pub const MAX_OUTPUT: usize = 44113;
 
+// The greatest half width: max-bandwidth of specs/Limits.antt.
+pub const MAX_BANDWIDTH: u32 = 65536;
+
 // How many numbers a row has: row-width of specs/Limits.antt.
 pub const ROW_WIDTH: usize = 5;
 

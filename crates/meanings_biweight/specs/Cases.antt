@@ -30,8 +30,8 @@ asked ts vs z a = record { minutes = ts; values = vs; point = z; expected = a }
 abbrev pub row : ℕ → ℕ → ℕ → ℕ → ℕ → Answer Estimate
 row l r w s v = given (record { left = l; right = r; weight = w; sum = s; value = v })
 
-abbrev pub report : ℕ → ℕ → Answer Estimate
-report n p = refused (record { number = n; place = p })
+abbrev pub is-report : ℕ → ℕ → Answer Estimate
+is-report n p = refused (record { number = n; place = p })
 
 -- one reading of value 7 at this minute, for mark 1,000
 abbrev one : ℕ → Answer Estimate → BiweightCase
@@ -72,10 +72,10 @@ biweight-cases =
     ∷ asked (9 ∷ 10 ∷ []) (2 ∷ 3 ∷ []) 10 (row 0 2 537476083201 1343690726402 3)
     ∷ asked (9 ∷ 10 ∷ []) (3 ∷ 2 ∷ []) 10 (row 0 2 537476083201 1343689689603 2)
     -- 8, 6, 4, each with the faults of those behind it; 1,025 readings are one too many
-    ∷ asked (2 ∷ 1 ∷ []) (1 ∷ []) 0 (report 8 0)
-    ∷ asked [] (1 ∷ []) 0 (report 8 0)
-    ∷ asked (replicate 1025 0) (replicate 1026 0) 0 (report 8 0)
-    ∷ asked (1 ∷ replicate 1024 0) (replicate 1025 0) 0 (report 6 0)
-    ∷ asked (2 ∷ 1 ∷ []) (1 ∷ 1 ∷ []) 0 (report 4 1)
-    ∷ asked (1 ∷ 2 ∷ 1 ∷ 0 ∷ []) (1 ∷ 1 ∷ 1 ∷ 1 ∷ []) 0 (report 4 2)
+    ∷ asked (2 ∷ 1 ∷ []) (1 ∷ []) 0 (is-report 8 0)
+    ∷ asked [] (1 ∷ []) 0 (is-report 8 0)
+    ∷ asked (replicate 1025 0) (replicate 1026 0) 0 (is-report 8 0)
+    ∷ asked (1 ∷ replicate 1024 0) (replicate 1025 0) 0 (is-report 6 0)
+    ∷ asked (2 ∷ 1 ∷ []) (1 ∷ 1 ∷ []) 0 (is-report 4 1)
+    ∷ asked (1 ∷ 2 ∷ 1 ∷ 0 ∷ []) (1 ∷ 1 ∷ 1 ∷ 1 ∷ []) 0 (is-report 4 2)
     ∷ []

@@ -5,13 +5,13 @@ use mathlib.Core.Bool.{Bool, true, _&&_}
 use mathlib.Core.List.{List, [], _∷_}
 use native.Mathlib.Omega.{arith}
 use lib.Dec.{ltb, leb, eqb}
-use lib.ListN.{length, getD, replicate}
+use lib.ListN.{length, getD}
 use Rattle.meanings.specs.Lists.{pick, count, distance}
-use Rattle.meanings.specs.Reports.{Answer, given, refused, Fault, differ}
+use Rattle.meanings.specs.Reports.{Answer, given, refused, differ}
 use Rattle.meanings.proofs.Checks.{differ-true}
 use Rattle.meanings_boxes.specs.Boxes.{Axis, minute-axis, temperature-axis, shift, left-cut, right-cut, cuts-to, cuts, distinct, strip, strip-of}
 use Rattle.meanings_boxes.specs.Boxes.{inside, gathered, one, value, cells, strips, cell, cell-list, box, box-places, box-list, joined}
-use Rattle.meanings_boxes.specs.Boxes.{boxes, boxes-then, counts-then, sums-then}
+use Rattle.meanings_boxes.specs.Boxes.{boxes, boxes-then, counts-then}
 use Rattle.meanings_boxes.specs.Cases.{four-minutes, four-temperatures, four-values, sevens, minutes-with, temperatures-with}
 
 -- Strips: what makes one of a direction and a reading.

@@ -1,23 +1,22 @@
 -- What follows of removals: accepted lists stay accepted; a reading without weight never decides; where the value is missing none does.
 -- And the second reading of removal: it is the one list of SPECIFICATION's words.
-use Prim.Native.Nat.{ℕ, zero, suc, _+_, _*_, _≤_, _<_}
+use Prim.Native.Nat.{ℕ, zero, suc, _≤_, _<_}
 use mathlib.Core.Path.{_≡_, refl, sym, ap, _∙_}
-use mathlib.Core.Logic.{_↔_}
 use mathlib.Core.Bool.{Bool, true, false, true≢false}
 use mathlib.Core.List.{List, [], _∷_, _++_}
-use mathlib.Core.Option.{Option, none, some}
+use mathlib.Core.Option.{none, some}
 use native.Mathlib.Nat.{not-suc-le-zero, le-of-suc-le-suc}
 use native.Mathlib.Decide.{decLt}
 use native.Mathlib.Omega.{arith}
 use borrow.Author.Tests.{le-ltb, ne-eqb}
-use lib.ListN.{length, getD, take, drop}
-use Rattle.meanings.specs.Limits.{full, max-u16, max-bandwidth}
+use lib.ListN.{length, getD}
+use Rattle.meanings.specs.Limits.{full, max-bandwidth}
 use Rattle.meanings.specs.Lists.{lowest, Ordered, AtMost}
 use Rattle.meanings.specs.Reports.{decreases}
-use Rattle.meanings.specs.Estimate.{estimate, kernel, weight-of, sum-of}
+use Rattle.meanings.specs.Estimate.{estimate, kernel, weight-of}
 use Rattle.meanings.specs.Calls.{evaluate-refusal}
 use Rattle.meanings.proofs.Checks.{EvaluateAccepted, differ-same}
-use Rattle.meanings.proofs.Search.{NoneBelow, none-lowest, lowest-some}
+use Rattle.meanings.proofs.Search.{none-lowest, lowest-some}
 use Rattle.meanings_decisive.specs.Decisive.{without, Removed, verdict, differs, decides, first-decisive}
 use Rattle.meanings_decisive.proofs.Removal.{length-without, before-removed, behind-removed, without-ordered, weight-without, weight-stays, sum-stays}
 

@@ -28,8 +28,8 @@ at i = given (some i)
 abbrev pub nobody : Answer (Option ℕ)
 nobody = given none
 
-abbrev pub report : ℕ → ℕ → Answer (Option ℕ)
-report n p = refused (record { number = n; place = p })
+abbrev pub is-report : ℕ → ℕ → Answer (Option ℕ)
+is-report n p = refused (record { number = n; place = p })
 
 -- the sheet of SPECIFICATION 7.9
 abbrev sheet : ℕ → ℕ → ℕ → Answer (Option ℕ) → DecisiveCase
@@ -72,9 +72,9 @@ decisive-cases =
     ∷ asked (4 ∷ 4 ∷ []) (0 ∷ 65535 ∷ []) 4 1 0 (at 1)
     ∷ asked (4 ∷ []) (65535 ∷ []) 4 1 65535 (at 0)
     -- 8, 6, 4, 9
-    ∷ asked (2 ∷ 1 ∷ []) (1 ∷ []) 0 0 0 (report 8 0)
-    ∷ asked (1 ∷ replicate 1024 0) (replicate 1025 0) 0 0 0 (report 6 0)
-    ∷ asked (1 ∷ 2 ∷ 1 ∷ []) (1 ∷ 1 ∷ 1 ∷ []) 0 0 0 (report 4 2)
-    ∷ asked (1 ∷ 1 ∷ []) (1 ∷ 1 ∷ []) 0 0 0 (report 9 0)
-    ∷ asked (1 ∷ 1 ∷ []) (1 ∷ 1 ∷ []) 0 65537 0 (report 9 0)
+    ∷ asked (2 ∷ 1 ∷ []) (1 ∷ []) 0 0 0 (is-report 8 0)
+    ∷ asked (1 ∷ replicate 1024 0) (replicate 1025 0) 0 0 0 (is-report 6 0)
+    ∷ asked (1 ∷ 2 ∷ 1 ∷ []) (1 ∷ 1 ∷ 1 ∷ []) 0 0 0 (is-report 4 2)
+    ∷ asked (1 ∷ 1 ∷ []) (1 ∷ 1 ∷ []) 0 0 0 (is-report 9 0)
+    ∷ asked (1 ∷ 1 ∷ []) (1 ∷ 1 ∷ []) 0 65537 0 (is-report 9 0)
     ∷ []

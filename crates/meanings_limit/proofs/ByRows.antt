@@ -6,23 +6,22 @@ use mathlib.Core.List.{List}
 use mathlib.Core.Option.{Option, none, some}
 use native.Mathlib.Nat.{add-comm}
 use native.Mathlib.Omega.{arith}
-use lib.ListN.{length, getD, take, drop}
+use lib.ListN.{length, getD, drop}
 use lib.Seq.{getD-take, getD-drop}
 use Rattle.meanings.specs.declared.Limits.{Limits}
 use Rattle.meanings.specs.Limits.{full, LimitsWithin, max-u16, row-width}
 use Rattle.meanings.specs.Lists.{lowest, AtMost}
 use Rattle.meanings.specs.Moves.{moves}
-use Rattle.meanings.specs.Reports.{Fault, Answer, given, unless, accepted-or, first-of, uneven-rows, curve-checks}
+use Rattle.meanings.specs.Reports.{Fault, given, unless, accepted-or, first-of, curve-checks}
 use Rattle.meanings.specs.Estimate.{estimate, fields, left-of, right-of, rows}
 use Rattle.meanings.specs.Running.{fresh, passes}
 use Rattle.meanings.specs.Calls.{smooth, smooth-refusal, smooth-rows}
 use Rattle.meanings.proofs.Checks.{differ-same}
-use Rattle.meanings.proofs.Search.{NoneBelow, lowest-none, lowest-some, none-lowest, lowest-at}
+use Rattle.meanings.proofs.Search.{lowest-none, lowest-some, none-lowest, lowest-at}
 use Rattle.meanings.proofs.Steps.{Small}
 use Rattle.meanings.proofs.SmoothSteps.{CurveAccepted, curve-accepts}
 use Rattle.meanings.proofs.SmoothRows.{row-at-point}
-use Rattle.meanings_limit.specs.Threshold.{at-or-below}
-use Rattle.meanings_limit.specs.Crossing.{Located, low-at, first-low, steps-to, located, crossing-refusal, first-at-most}
+use Rattle.meanings_limit.specs.Crossing.{low-at, first-low, steps-to, located, crossing-refusal, first-at-most}
 use Rattle.meanings_limit.specs.Crossing.{low-row, passes-by-rows, located-by-rows, answer-by-rows}
 use Rattle.meanings_limit.proofs.Passes.{passes-to-point}
 

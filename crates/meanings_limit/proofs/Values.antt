@@ -22,7 +22,7 @@ use Rattle.meanings.proofs.SmoothSteps.{CurveAccepted, curve-accepts, right-gro
 use Rattle.meanings.proofs.Totals.{total-ext}
 use Rattle.meanings.proofs.Window.{left-at-most-right}
 use Rattle.meanings_limit.specs.Threshold.{low-enough}
-use Rattle.meanings_limit.specs.Crossing.{Located, low-at, first-low, steps-to, located, crossing-refusal, first-at-most, reach}
+use Rattle.meanings_limit.specs.Crossing.{low-at, first-low, located, crossing-refusal, first-at-most, reach}
 use Rattle.meanings_limit.proofs.Passes.{passes-to-point}
 
 -- two lists agree before position r

@@ -1,7 +1,7 @@
 -- Wrong programs of another shape than the code, each shut out on a concrete input: what it would answer is not what the meaning says.
 use Prim.Native.Nat.{ℕ}
 use mathlib.Core.Path.{_≡_, ap}
-use mathlib.Core.List.{List, [], _∷_}
+use mathlib.Core.List.{[], _∷_}
 use mathlib.Core.Option.{Option, none, some}
 use native.Mathlib.Omega.{arith}
 use Rattle.meanings.specs.Limits.{full}
@@ -10,7 +10,7 @@ use Rattle.meanings.specs.Reports.{Answer, given, refused}
 use Rattle.meanings.specs.Estimate.{estimate, left-of, right-of, kernel, weight-of, sum-of, value-of, rounded}
 use Rattle.meanings.specs.Running.{moved, advance}
 use Rattle.meanings_limit.specs.Crossing.{Located, low-at, first-at-most}
-use Rattle.meanings_limit.specs.Cases.{at, nowhere}
+use Rattle.meanings_limit.specs.Cases.{at}
 
 -- the numbers that tell such answers apart: the position, or 1,000 for none; the passes; of a report both 2,000
 place : Answer Located → ℕ

@@ -1,7 +1,7 @@
 -- Worked cases of the questions with a limit.
 use Prim.Native.Nat.{ℕ}
 use mathlib.Core.List.{List, [], _∷_}
-use mathlib.Core.Option.{Option, none, some}
+use mathlib.Core.Option.{none, some}
 use lib.ListN.{replicate}
 use Rattle.meanings.specs.Limits.{full}
 use Rattle.meanings.specs.Reports.{Answer, given, refused}
@@ -29,8 +29,8 @@ at k n = given (record { position = some k; passes = n })
 abbrev pub nowhere : ℕ → Answer Located
 nowhere n = given (record { position = none; passes = n })
 
-abbrev pub report : ℕ → ℕ → Answer Located
-report n p = refused (record { number = n; place = p })
+abbrev pub is-report : ℕ → ℕ → Answer Located
+is-report n p = refused (record { number = n; place = p })
 
 -- the sheet of SPECIFICATION 7.9, whose values are 70, 58 and missing
 abbrev sheet : ℕ → Answer Located → CrossingCase
@@ -60,16 +60,16 @@ crossing-cases =
     -- C7: a half goes to the even neighbour
     ∷ asked (0 ∷ 0 ∷ []) (2 ∷ 3 ∷ []) (0 ∷ []) (1 ∷ []) 2 (at 0 2)
     -- 8, 6, 7, 4, 5, 9, 10, each with the faults of those behind it
-    ∷ asked (2 ∷ 1 ∷ []) (1 ∷ []) [] [] 65535 (report 8 0)
-    ∷ asked (2 ∷ 1 ∷ []) (1 ∷ 1 ∷ []) (1 ∷ 0 ∷ []) (0 ∷ []) 65535 (report 8 0)
-    ∷ asked (1 ∷ replicate 1024 0) (replicate 1025 0) [] [] 65535 (report 6 0)
-    ∷ asked (2 ∷ 1 ∷ []) (1 ∷ 1 ∷ []) (replicate 513 0) (replicate 513 0) 65535 (report 6 0)
-    ∷ asked (2 ∷ 1 ∷ []) (1 ∷ 1 ∷ []) [] [] 65535 (report 7 0)
-    ∷ asked (1 ∷ 2 ∷ 1 ∷ []) (1 ∷ 1 ∷ 1 ∷ []) (1 ∷ 0 ∷ []) (0 ∷ 1 ∷ []) 65535 (report 4 2)
-    ∷ low (7 ∷ 8 ∷ 7 ∷ []) (0 ∷ 9 ∷ 9 ∷ []) (report 5 2)
+    ∷ asked (2 ∷ 1 ∷ []) (1 ∷ []) [] [] 65535 (is-report 8 0)
+    ∷ asked (2 ∷ 1 ∷ []) (1 ∷ 1 ∷ []) (1 ∷ 0 ∷ []) (0 ∷ []) 65535 (is-report 8 0)
+    ∷ asked (1 ∷ replicate 1024 0) (replicate 1025 0) [] [] 65535 (is-report 6 0)
+    ∷ asked (2 ∷ 1 ∷ []) (1 ∷ 1 ∷ []) (replicate 513 0) (replicate 513 0) 65535 (is-report 6 0)
+    ∷ asked (2 ∷ 1 ∷ []) (1 ∷ 1 ∷ []) [] [] 65535 (is-report 7 0)
+    ∷ asked (1 ∷ 2 ∷ 1 ∷ []) (1 ∷ 1 ∷ 1 ∷ []) (1 ∷ 0 ∷ []) (0 ∷ 1 ∷ []) 65535 (is-report 4 2)
+    ∷ low (7 ∷ 8 ∷ 7 ∷ []) (0 ∷ 9 ∷ 9 ∷ []) (is-report 5 2)
     -- though mark 0 would answer
-    ∷ low (7 ∷ 7 ∷ 7 ∷ []) (9 ∷ 8 ∷ 0 ∷ []) (report 9 2)
-    ∷ low (7 ∷ 7 ∷ 7 ∷ []) (9 ∷ 9 ∷ 65537 ∷ []) (report 9 2)
-    ∷ low (7 ∷ 7 ∷ 7 ∷ []) (9 ∷ 9 ∷ 8 ∷ []) (report 10 2)
+    ∷ low (7 ∷ 7 ∷ 7 ∷ []) (9 ∷ 8 ∷ 0 ∷ []) (is-report 9 2)
+    ∷ low (7 ∷ 7 ∷ 7 ∷ []) (9 ∷ 9 ∷ 65537 ∷ []) (is-report 9 2)
+    ∷ low (7 ∷ 7 ∷ 7 ∷ []) (9 ∷ 9 ∷ 8 ∷ []) (is-report 10 2)
     ∷ low (7 ∷ 7 ∷ 7 ∷ []) (9 ∷ 9 ∷ 9 ∷ []) (at 0 1)
     ∷ []

@@ -5,7 +5,6 @@ use mathlib.Core.Bool.{Bool, false}
 use mathlib.Core.List.{List}
 use mathlib.Core.Option.{Option, none, some}
 use lib.ListN.{length, getD, take}
-use Rattle.meanings.specs.declared.Estimate.{Estimate}
 use Rattle.meanings.specs.declared.Limits.{Limits}
 use Rattle.meanings.specs.Limits.{row-width}
 use Rattle.meanings.specs.Lists.{lowest}

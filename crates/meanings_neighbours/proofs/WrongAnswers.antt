@@ -37,7 +37,7 @@ minutes = 10 ∷ 20 ∷ 20 ∷ 35 ∷ []
 pub runs-find-the-last : by-runs by-sums (λ n k. n - k) minutes 60 1 ≡ 26
 runs-find-the-last = refl
 
--- the source paper's loop ends before the last run of readings: 41 for 26
+-- the loop of the paper of SPECIFICATION 2.10 ends before the last run of readings: 41 for 26
 pub no-end-before-the-last-run : ¬ IsByNeighbours (by-runs by-sums (λ n k. n - k - 1))
 unfolding kth-distance distance
 no-end-before-the-last-run f = let e : _≡_ {A = ℕ} 41 26 = f minutes 60 1 in omega arith

@@ -44,8 +44,8 @@ asked ts vs zs k hs rs o = record {
 abbrev pub filled : List ℕ → List ℕ → Outcome
 filled hs rs = record { answer = given tt; bandwidths = hs; rows = rs }
 
-abbrev pub report : ℕ → ℕ → List ℕ → List ℕ → Outcome
-report n p hs rs = record { answer = refused (record { number = n; place = p }); bandwidths = hs; rows = rs }
+abbrev pub is-report : ℕ → ℕ → List ℕ → List ℕ → Outcome
+is-report n p hs rs = record { answer = refused (record { number = n; place = p }); bandwidths = hs; rows = rs }
 
 -- lists at entry hold nines and sevens
 abbrev nines : ℕ → List ℕ
@@ -56,7 +56,7 @@ sevens n = replicate n 7
 
 -- refused, both lists with so many numbers
 abbrev refuses : List ℕ → List ℕ → List ℕ → ℕ → ℕ → ℕ → ℕ → ℕ → NeighboursCase
-refuses ts vs zs k h r n p = asked ts vs zs k (nines h) (sevens r) (report n p (nines h) (sevens r))
+refuses ts vs zs k h r n p = asked ts vs zs k (nines h) (sevens r) (is-report n p (nines h) (sevens r))
 
 -- the readings of SPECIFICATION 7.9
 abbrev minutes : List ℕ

@@ -17,8 +17,8 @@ apart k t = given (some (record { position = k; higher = t }))
 abbrev alike : Answer (Option Parting)
 alike = given none
 
-abbrev report : ℕ → ℕ → Answer (Option Parting)
-report n p = refused (record { number = n; place = p })
+abbrev is-report : ℕ → ℕ → Answer (Option Parting)
+is-report n p = refused (record { number = n; place = p })
 
 -- a comparison with the tank, the first position and the values of its run
 abbrev Gives : List ℕ → List ℕ → List ℕ → List ℕ → List ℕ → List ℕ → Answer (Option Parting) → Tank → ℕ → List ℕ → Type 0
@@ -64,12 +64,12 @@ bounds-of-its-own = (refl, refl)
 
 -- 16 comes last, at the place of what the second tank's lists earn, whichever of 8, 6 and 4 it is; a fault of the first tank is told as itself
 pub second-tank :
-    Gives (3 ∷ []) (1 ∷ []) (3 ∷ 2 ∷ []) (1 ∷ []) (7 ∷ []) (1 ∷ []) (report 16 0) First 0 []
-    × Gives (3 ∷ []) (1 ∷ []) (1 ∷ 1 ∷ 5 ∷ 4 ∷ []) (1 ∷ 1 ∷ 1 ∷ 1 ∷ []) (7 ∷ []) (1 ∷ []) (report 16 3) First 0 []
-    × Gives (3 ∷ []) (1 ∷ []) (3 ∷ 2 ∷ []) (1 ∷ []) (7 ∷ 6 ∷ []) (1 ∷ 1 ∷ []) (report 5 1) First 0 []
-    × Gives (3 ∷ []) (1 ∷ []) (3 ∷ 2 ∷ []) (1 ∷ []) (7 ∷ 7 ∷ []) (1 ∷ 0 ∷ []) (report 9 1) First 0 []
-    × Gives (3 ∷ []) (1 ∷ []) (3 ∷ 2 ∷ []) (1 ∷ []) (7 ∷ 7 ∷ []) (1 ∷ 9 ∷ []) (report 10 1) First 0 []
-    × Gives (3 ∷ 2 ∷ []) (1 ∷ 1 ∷ []) (3 ∷ 2 ∷ []) (1 ∷ []) (7 ∷ []) (1 ∷ []) (report 4 1) First 0 []
+    Gives (3 ∷ []) (1 ∷ []) (3 ∷ 2 ∷ []) (1 ∷ []) (7 ∷ []) (1 ∷ []) (is-report 16 0) First 0 []
+    × Gives (3 ∷ []) (1 ∷ []) (1 ∷ 1 ∷ 5 ∷ 4 ∷ []) (1 ∷ 1 ∷ 1 ∷ 1 ∷ []) (7 ∷ []) (1 ∷ []) (is-report 16 3) First 0 []
+    × Gives (3 ∷ []) (1 ∷ []) (3 ∷ 2 ∷ []) (1 ∷ []) (7 ∷ 6 ∷ []) (1 ∷ 1 ∷ []) (is-report 5 1) First 0 []
+    × Gives (3 ∷ []) (1 ∷ []) (3 ∷ 2 ∷ []) (1 ∷ []) (7 ∷ 7 ∷ []) (1 ∷ 0 ∷ []) (is-report 9 1) First 0 []
+    × Gives (3 ∷ []) (1 ∷ []) (3 ∷ 2 ∷ []) (1 ∷ []) (7 ∷ 7 ∷ []) (1 ∷ 9 ∷ []) (is-report 10 1) First 0 []
+    × Gives (3 ∷ 2 ∷ []) (1 ∷ 1 ∷ []) (3 ∷ 2 ∷ []) (1 ∷ []) (7 ∷ []) (1 ∷ []) (is-report 4 1) First 0 []
 unfolding distance left-of right-of kernel weight-of sum-of rounded value-of estimate above higher-of unlike unlike-at compare run-tank run-start compare-run
 second-tank = (
   (refl, refl, refl, refl),

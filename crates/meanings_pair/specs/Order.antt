@@ -8,7 +8,6 @@ use lib.ListN.{length, getD}
 use Rattle.meanings.specs.Limits.{row-width}
 use Rattle.meanings.specs.Reports.{Answer, given, refused}
 use Rattle.meanings.specs.Estimate.{estimate}
-use Rattle.meanings_pair.specs.declared.Tank.{Tank}
 use Rattle.meanings_pair.specs.declared.Tank.the-variants.{First, Second}
 use Rattle.meanings_pair.specs.Comparison.{Parting, of-tank}
 

@@ -1,7 +1,6 @@
 -- The reading lines stop with one report or hand on the kept readings, whatever follows.
 use Prim.Native.Nat.{ℕ}
 use mathlib.Core.Path.{_≡_}
-use mathlib.Core.List.{List}
 use mathlib.Core.Option.{Option, none, some}
 use lib.ListN.{length}
 use Rattle.meanings.specs.declared.Limits.{Limits}

@@ -3,8 +3,8 @@
 use Prim.Native.Nat.{ℕ, zero, suc, _+_, _*_, _<_}
 use mathlib.Core.Path.{_≡_, refl, sym, ap, _∙_}
 use mathlib.Core.Logic.{_⊎_, inl, inr}
-use mathlib.Core.Bool.{Bool, false, _||_}
-use mathlib.Core.List.{List, [], _∷_, _++_}
+use mathlib.Core.Bool.{_||_}
+use mathlib.Core.List.{List, [], _++_}
 use mathlib.Core.Option.{none}
 use native.Mathlib.Nat.{not-suc-le-zero, eq-or-lt-of-le, le-of-suc-le-suc}
 use native.Mathlib.Omega.{arith}
@@ -12,17 +12,15 @@ use borrow.Author.Tests.{ltb-false, le-ltb, ne-eqb}
 use lib.ListN.{length, getD, take, drop, length-append, length-drop}
 use lib.Seq.{drop-at, drop-append-le, take-append-le}
 use Rattle.meanings.specs.declared.Limits.{Limits}
-use Rattle.meanings.specs.declared.RunningSums.{RunningSums}
 use Rattle.meanings.specs.Limits.{full, LimitsWithin, max-u16, row-width}
 use Rattle.meanings.specs.Lists.{AtMost}
 use Rattle.meanings.specs.Moves.{moves}
-use Rattle.meanings.specs.Reports.{given, unless, first-of, uneven-samples, uneven-rows, curve-size-checks, sample-order-checks}
-use Rattle.meanings.specs.Reports.{point-order-checks, order-checks, windows-checks, curve-checks}
+use Rattle.meanings.specs.Reports.{given, first-of, uneven-samples, uneven-rows, curve-size-checks, sample-order-checks}
+use Rattle.meanings.specs.Reports.{point-order-checks, order-checks, windows-checks}
 use Rattle.meanings.specs.Running.{fresh, passes}
 use Rattle.meanings.specs.Calls.{smooth, smooth-refusal}
-use Rattle.meanings.proofs.Checks.{none-holds, none-of-both, first-of-rest, or-false, differ-false, differ-same, given-accepted, CurveSizes, curve-sizes-accept}
+use Rattle.meanings.proofs.Checks.{none-holds, none-of-both, first-of-rest, or-false, differ-false, differ-same, CurveSizes, curve-sizes-accept}
 use Rattle.meanings.proofs.Search.{lowest-none}
-use Rattle.meanings.proofs.Steps.{Small}
 use Rattle.meanings.proofs.SmoothSteps.{CurveAccepted, parts-accept, curve-accepts, running-at, passes-are-edges}
 use Rattle.meanings_ranges.specs.Ranges.{range-estimate, range-fields, range-row-width, range-rows, crossed, crossed-checks, range-refusal}
 use Rattle.meanings_ranges.specs.Ranges.{smooth-ranges}

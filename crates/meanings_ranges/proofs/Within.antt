@@ -1,6 +1,6 @@
 -- The kernel is no less than 0, so a greater value gives no smaller sum, and by one weight no smaller rounded quotient; edges and weight do not
 -- look at values. The lowest values are themselves a choice, and so are the highest: each end is reached, by one choice for the whole curve.
-use Prim.Native.Nat.{ℕ, zero, suc, _+_, _-_, _*_, _≤_, _<_, zero-le}
+use Prim.Native.Nat.{ℕ, zero, suc, _+_, _-_, _≤_, _<_, zero-le}
 use mathlib.Core.Path.{_≡_, refl, sym, _∙_}
 use mathlib.Core.Logic.{_↔_}
 use mathlib.Core.List.{List, [], _∷_}
@@ -10,11 +10,9 @@ use native.Mathlib.Omega.{arith}
 use lib.ListN.{length, getD, List·getD-eq-default}
 use Rattle.meanings.specs.Lists.{total, AtMost}
 use Rattle.meanings.specs.Limits.{max-u16}
-use Rattle.meanings.specs.Estimate.{kernel, left-of, right-of, weight-of, sum-of, value-of, missing, estimate, fields}
+use Rattle.meanings.specs.Estimate.{kernel, left-of, right-of, weight-of, sum-of, value-of, missing, estimate}
 use Rattle.meanings.proofs.Bounds.{sum-at-most-times}
 use Rattle.meanings.proofs.Rounding.{rounded-monotone, rounded-at-most, value-present, value-missing}
-use Rattle.meanings.proofs.Window.{right-at-most-length}
-use Rattle.meanings_ranges.specs.declared.RangeEstimate.{RangeEstimate}
 use Rattle.meanings_ranges.specs.Ranges.{range-estimate, range-fields}
 use Rattle.meanings_ranges.specs.RangeLaws.{Choice, LiesWithin, MissingTogether}
 

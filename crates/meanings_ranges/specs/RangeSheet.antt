@@ -1,6 +1,6 @@
 -- SPECIFICATION, "Ranges": the reader of both kinds of sheet, as a function from any list of bytes to a report with its place or the kind and
 -- the five lists. What stands before the second names line is read as by the reader of specs/Sheet.antt.
-use Prim.Native.Nat.{ℕ, suc, _+_}
+use Prim.Native.Nat.{ℕ}
 use mathlib.Core.Bool.{Bool, _&&_}
 use mathlib.Core.List.{List, [], _∷_, _++_}
 use mathlib.Core.Option.{Option, none, some}
@@ -10,7 +10,7 @@ use Rattle.meanings.specs.Lists.{pick}
 use Rattle.meanings.specs.declared.Limits.{Limits}
 use Rattle.meanings.specs.Limits.{max-u16, max-sheet}
 use Rattle.meanings.specs.Bytes.{ascii, point-header, sample-header}
-use Rattle.meanings.specs.Reports.{Answer, given, refused, Check, check, at, first-of, decreases}
+use Rattle.meanings.specs.Reports.{Answer, given, Check, check, at, first-of, decreases}
 use Rattle.meanings.specs.Sheet.{Lines, end, unended, line, lines, next-place, parts, parsed, point-line, with-point, header, same, refused-at, or-next}
 use Rattle.meanings.specs.Sheet.{Injection, ranged-sample, sample-line, add-kept}
 use Rattle.meanings_ranges.specs.declared.Kind.{Kind}

@@ -65,17 +65,17 @@ module _ (ts vs us ws zs hs : List ℕ) {c : Split} (answer : split-answer c ≡
   unfolding compare-bounds
   met q = sym (ap split-answer q) ∙ answer
 
-  told : {x : Split} → c ≡ x → without-bounds (split-answer x) ≡ compare full ts vs us ws zs hs
-  told q = ap without-bounds (met q) ∙ without-with ts us zs hs (compare full ts vs us ws zs hs)
+  answer-is : {x : Split} → c ≡ x → without-bounds (split-answer x) ≡ compare full ts vs us ws zs hs
+  answer-is q = ap without-bounds (met q) ∙ without-with ts us zs hs (compare full ts vs us ws zs hs)
 
   pub compare-refused : {e : Refusal} → c ≡ Split.Refused e → refused (fault-of e) ≡ compare full ts vs us ws zs hs
-  compare-refused q = told q
+  compare-refused q = answer-is q
 
   pub compare-alike : c ≡ Split.Alike → given none ≡ compare full ts vs us ws zs hs
-  compare-alike q = told q
+  compare-alike q = answer-is q
 
   pub compare-apart : {k a b : ℕ} {t : Tank} → c ≡ Split.Apart k t a b → given (some (record { position = k; higher = t })) ≡ compare full ts vs us ws zs hs
-  compare-apart q = told q
+  compare-apart q = answer-is q
 
   -- the empty part at the start of the first list
   module _ {e : Refusal} (q : c ≡ Split.Refused e) where

@@ -1,21 +1,21 @@
 -- The invariant of the search: the values of all marks before k agree, and both records are those of k steps. So the rows that they give are the
 -- mark's, and the first two whose values differ are those of the first such mark.
 use Prim.Native.Nat.{ℕ, _+_, _^_, _≤_, _<_, zero-le}
-use mathlib.Core.Path.{_≡_, refl, sym, ap, _∙_}
+use mathlib.Core.Path.{_≡_, sym, ap, _∙_}
 use mathlib.Core.Bool.{Bool, true, false}
 use mathlib.Core.List.{List}
-use mathlib.Core.Option.{Option, none, some}
+use mathlib.Core.Option.{some}
 use native.Mathlib.Omega.{arith}
 use mir.Val.{Fits}
 use mir.Syntax.{w16}
 use lib.ListN.{length, getD}
 use Rattle.meanings.specs.declared.Estimate.{Estimate}
 use Rattle.meanings.specs.declared.RunningSums.{RunningSums}
-use Rattle.meanings.specs.Reports.{Answer, given}
+use Rattle.meanings.specs.Reports.{given}
 use Rattle.meanings.specs.Estimate.{estimate}
 use Rattle.meanings.proofs.Search.{NoneBelow, one-more-below, none-lowest, lowest-at}
 use Rattle.meanings_pair.specs.declared.Split.{Split}
-use Rattle.meanings_pair.specs.Comparison.{Bounded, unlike, unlike-at, split-answer, split-of}
+use Rattle.meanings_pair.specs.Comparison.{unlike, unlike-at, split-answer, split-of}
 use Rattle.meanings_pair.proofs.Accepted.{PairAccepted}
 use Rattle.stepping.specs.declared.Reached.{Reached}
 use Rattle.stepping.specs.Steps.{IsFresh, SteppedRow}

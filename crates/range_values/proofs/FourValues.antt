@@ -9,30 +9,29 @@ use lib.ListN.{length, drop}
 use Rattle.meanings.specs.Limits.{max-u16}
 use Rattle.meanings.specs.Sheet.{parsed, ranged-sample, sample-line}
 use Rattle.meanings_ranges.specs.declared.Kind.the-variants.{Plain}
-use Rattle.meanings_ranges.specs.RangeSheet.{with-high, four-parts, range-line, standing-twice, reading-line}
+use Rattle.meanings_ranges.specs.RangeSheet.{with-high, four-parts, range-line, reading-line}
 use Rattle.sheet_fields.specs.declared.Field.{Field}
 use Rattle.sheet_fields.specs.declared.Field.the-variants.{Number, NoNumber}
 use Rattle.sheet_fields.specs.Fields.{field-number, field-at}
 use Rattle.sheet_values.specs.declared.SampleLine.{SampleLine}
 use Rattle.sheet_values.specs.declared.SampleLine.the-variants.{Sample, NoSample}
 use Rattle.sheet_values.specs.LineValues.{sample-values}
-use Rattle.sheet_values.proofs.Values.{Holds, Lacks, number-holds, no-number-lacks, parts-begin}
+use Rattle.sheet_values.proofs.Values.{Holds, number-holds, no-number-lacks, parts-begin}
 use Rattle.range_values.specs.declared.ReadingLine.{ReadingLine}
-use Rattle.range_values.specs.declared.ReadingLine.the-variants.{Reading, NoReading}
 use Rattle.range_values.specs.ReadingValues.{reading-values}
 
 -- three numbers in their ranges, and the fourth
-module _ (t j l u : ℕ) {x : SampleLine} (told : sample-values x ≡ ranged-sample (some t) (some j) (some l)) where
+module _ (t j l u : ℕ) {x : SampleLine} (values-are : sample-values x ≡ ranged-sample (some t) (some j) (some l)) where
   pub front-off : x ≡ NoSample → none ≡ with-high (ranged-sample (some t) (some j) (some l)) (some u)
-  front-off e = sym (rw (← told, e))
+  front-off e = sym (rw (← values-are, e))
 
   module _ {t′ j′ l′ : ℕ} (e : x ≡ Sample t′ j′ l′) where
     pub high-off : max-u16 < u → none ≡ with-high (ranged-sample (some t) (some j) (some l)) (some u)
-    high-off k = sym (rw (← told, e, lt-leb u max-u16 k))
+    high-off k = sym (rw (← values-are, e, lt-leb u max-u16 k))
 
     pub four-in-range : u ≤ max-u16
         → some (record { minute = t′; injection = j′; low = l′; high = u }) ≡ with-high (ranged-sample (some t) (some j) (some l)) (some u)
-    four-in-range k = sym (rw (← told, e, le-leb u max-u16 k))
+    four-in-range k = sym (rw (← values-are, e, le-leb u max-u16 k))
 
 four-parts-first : (a : List ℕ) (ps : List (List ℕ)) → parsed a ≡ none → four-parts (a ∷ ps) ≡ none
 four-parts-first a [] h = refl
@@ -114,9 +113,9 @@ module _ (t : List ℕ) {r : Field} {n e : ℕ} (f : field-number r ≡ field-at
             module _ {u s : ℕ} (x : w ≡ Number u s) where
               pub range-of-four : (b : ReadingLine) → s ≡ length t → reading-values b ≡ with-high (ranged-sample (some n) (some m) (some v)) (some u)
                   → reading-values b ≡ range-line t
-              range-of-four b c told =
+              range-of-four b c values-are =
                   let d = number-holds z x in
-                  told
+                  values-are
                   ∙ sym
                   (rw (
                     first .comma-then more,
@@ -136,10 +135,10 @@ module _ (t : List ℕ) {r : Field} {n e : ℕ} (f : field-number r ≡ field-at
                   (rw (first .comma-then more, second .comma-then further, third .comma-then yet, d .comma-then c, parts-begin (drop (s + 1) t) .1))
 
 -- a plain line
-module _ (t : List ℕ) {x : SampleLine} (told : sample-values x ≡ sample-line t) where
+module _ (t : List ℕ) {x : SampleLine} (values-are : sample-values x ≡ sample-line t) where
   pub plain-lacks : x ≡ NoSample → none ≡ reading-line Plain t
-  plain-lacks e = sym (rw (← told, e))
+  plain-lacks e = sym (rw (← values-are, e))
 
   pub plain-stands-twice : {m j v : ℕ} → x ≡ Sample m j v
       → some (record { minute = m; injection = j; low = v; high = v }) ≡ reading-line Plain t
-  plain-stands-twice e = sym (rw (← told, e))
+  plain-stands-twice e = sym (rw (← values-are, e))

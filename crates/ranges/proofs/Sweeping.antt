@@ -3,7 +3,6 @@
 use Prim.Native.Nat.{ℕ, suc, _+_, _*_, _^_, _≤_, _<_, zero-le}
 use mathlib.Core.Path.{_≡_, refl, sym, ap, _∙_}
 use mathlib.Core.List.{List, _++_, append-nil}
-use mathlib.Core.Option.{none}
 use native.Mathlib.Numerals.{add-one}
 use native.Mathlib.Omega.{arith}
 use mir.Val.{Fits}
@@ -17,14 +16,13 @@ use Rattle.meanings.specs.declared.Verdict.{Verdict}
 use Rattle.meanings.specs.declared.Verdict.the-variants.{Fit, Faulty}
 use Rattle.meanings.specs.Limits.{full}
 use Rattle.meanings.specs.Reports.{given, refused, fault-of, verdict-fault, first-of}
-use Rattle.meanings.specs.Estimate.{estimate}
 use Rattle.meanings.specs.Moves.{moves}
 use Rattle.meanings.specs.Running.{fresh, moved, next-record, after-step, record-row, passes}
 use Rattle.meanings.proofs.Checks.{same-limits, AdvanceAccepted}
-use Rattle.meanings.proofs.SmoothSteps.{CurveAccepted, running-at, running-within, step-lands, step-accepted, passes-are-edges}
+use Rattle.meanings.proofs.SmoothSteps.{running-at, running-within, step-lands, step-accepted, passes-are-edges}
 use Rattle.meanings_ranges.specs.Ranges.{range-estimate, range-fields, range-row-width, range-rows, range-checks, range-refusal}
 use Rattle.meanings_ranges.specs.Ranges.{smooth-ranges, smooth-ranges-rows}
-use Rattle.meanings_ranges.proofs.Sweeps.{range-rows-length, RangesAccepted, ranges-accept, lows-accepted, highs-accepted}
+use Rattle.meanings_ranges.proofs.Sweeps.{range-rows-length, ranges-accept, lows-accepted, highs-accepted}
 use Rattle.meanings_ranges.specs.declared.RangeEstimate.{RangeEstimate}
 use Rattle.stepping.specs.Steps.{SteppedRow}
 use Rattle.stepping.proofs.Sweeping.{SteppedTo, steps-begin, edges-fit, steps-go-on, row-there}

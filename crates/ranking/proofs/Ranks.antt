@@ -1,6 +1,6 @@
 -- What the tests of the code say of two rows.
 use Prim.Native.Nat.{ℕ, _≤_, _<_}
-use mathlib.Core.Path.{_≡_, refl, sym, ap, _∙_}
+use mathlib.Core.Path.{_≡_, sym, ap, _∙_}
 use mathlib.Core.Bool.{true, false}
 use mathlib.Core.Option.{Option, some}
 use borrow.Author.Tests.{lt-ltb, le-ltb, eq-eqb, ne-eqb}
@@ -9,7 +9,7 @@ use Rattle.meanings.specs.Reports.{Answer, given}
 use Rattle.meanings.proofs.Checks.{differ-same, differ-true}
 use Rattle.meanings_pair.specs.declared.Tank.{Tank}
 use Rattle.meanings_pair.specs.declared.Tank.the-variants.{First, Second}
-use Rattle.meanings_pair.specs.Comparison.{of-tank, above, higher-of, unlike, Parting, Bounded, split-of}
+use Rattle.meanings_pair.specs.Comparison.{of-tank, above, higher-of, unlike, Bounded, split-of}
 
 module _ (e f : Estimate) where
   pub same-value : e .value ≡ f .value → false ≡ unlike e f

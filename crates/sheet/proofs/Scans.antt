@@ -22,34 +22,34 @@ use Rattle.meanings_ranges.specs.EitherKind.{and-then}
 use Rattle.meanings_ranges.proofs.Fronts.{front-then, plain-from, plain-is-front}
 use Rattle.sheet_front.specs.declared.points.FrontRead.{FrontRead}
 use Rattle.sheet_front.specs.declared.points.FrontRead.the-variants.{Points}
-use Rattle.sheet_front.specs.Stages.{front-read, FrontTold}
-use Rattle.sheet_front.proofs.Fronts.{told-front}
+use Rattle.sheet_front.specs.Stages.{front-read, FrontOutcome}
+use Rattle.sheet_front.proofs.Fronts.{front-of-call}
 use Rattle.sheet_samples.specs.declared.SamplesRead.{SamplesRead}
 use Rattle.sheet_samples.specs.declared.SamplesRead.the-variants.{Kept}
-use Rattle.sheet_samples.specs.Stages.{SamplesTold}
-use Rattle.sheet_samples.proofs.SampleLoop.{told-samples}
+use Rattle.sheet_samples.specs.Stages.{SamplesOutcome}
+use Rattle.sheet_samples.proofs.SampleLoop.{samples-of-call}
 use Rattle.sheet.specs.Stages.{sheet-read, Scanned, ReadInto}
 
 -- the front of the sheet, read into lists of full length
-module _ {s zs hs : List ℕ} {m n : ℕ} {r : FrontRead} (told : FrontTold s m n r zs hs) (points : m ≡ 512) (bandwidths : n ≡ 512) where
+module _ {s zs hs : List ℕ} {m n : ℕ} {r : FrontRead} (call : FrontOutcome s m n r zs hs) (points : m ≡ 512) (bandwidths : n ≡ 512) where
   after-front : read-sheet full s ≡ and-then (front-read r s zs hs) (plain-from full)
   after-front =
       plain-is-front full s ∙ sym (front-then full s (plain-from full))
-      ∙ ap (λ (a : Answer Front). and-then a (plain-from full)) (told-front told points bandwidths)
+      ∙ ap (λ (a : Answer Front). and-then a (plain-from full)) (front-of-call call points bandwidths)
 
   pub front-refused : {ts vs : List ℕ} {x : Refusal} → r ≡ FrontRead.Refused x → Scanned s (Parsing.Refused x) ts vs zs hs
   front-refused e = record { outcome = after-front ∙ rw e; within = tt }
 
-  module _ {c q u v : ℕ} {k : SamplesRead} {ts vs : List ℕ} (counted : r ≡ Points c q) (samples : SamplesTold s q u v k ts vs) (minutes : u ≡ 1024)
+  module _ {c q u v : ℕ} {k : SamplesRead} {ts vs : List ℕ} (counted : r ≡ Points c q) (samples : SamplesOutcome s q u v k ts vs) (minutes : u ≡ 1024)
       (values : v ≡ 1024) where
     pub samples-refused : {x : Refusal} → k ≡ SamplesRead.Refused x → Scanned s (Parsing.Refused x) ts vs zs hs
-    samples-refused e = record { outcome = after-front ∙ rw counted (told-samples samples minutes values _ _ ∙ rw e); within = tt }
+    samples-refused e = record { outcome = after-front ∙ rw counted (samples-of-call samples minutes values _ _ ∙ rw e); within = tt }
 
     pub sheet-used : {i : ℕ} → k ≡ Kept i → Scanned s (Used i c) ts vs zs hs
     sheet-used e =
         record {
-          outcome = after-front ∙ rw counted (told-samples samples minutes values _ _ ∙ rw e);
-          within = (rw e at (samples .within), (rw counted at (told .within)) .0);
+          outcome = after-front ∙ rw counted (samples-of-call samples minutes values _ _ ∙ rw e);
+          within = (rw e at (samples .within), (rw counted at (call .within)) .0);
         }
 
 -- the reader's own lists ts, vs, zs, hs, and the lent ones

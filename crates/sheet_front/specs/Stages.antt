@@ -78,6 +78,6 @@ unfoldable pub front-call : Limits → List ℕ → ℕ → ℕ → Answer Front
 front-call L s m n = or-next (first-of (check 8 (at 0 (differ m (L .points) || differ n (L .points))) ∷ [])) (sheet-front L s given)
 
 -- what it gives, and what its lists hold; after a refusal that is left open
-pub record FrontTold (s : List ℕ) (m n : ℕ) (r : FrontRead) (zs hs : List ℕ) : Type 0 where
+pub record FrontOutcome (s : List ℕ) (m n : ℕ) (r : FrontRead) (zs hs : List ℕ) : Type 0 where
   pub outcome : front-call full s m n ≡ front-read r s zs hs
   pub within : points-within r (length s)

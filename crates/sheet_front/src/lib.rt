@@ -9,7 +9,7 @@ use meanings::Report;
 use sheet_lines::Line;
 ghost use mathlib.Core.Path.{_≡_};
 ghost use lib.ListN.{length};
-ghost use Rattle.sheet_front.specs.Stages.{HeaderTried, FrontFound, FrontTold};
+ghost use Rattle.sheet_front.specs.Stages.{HeaderTried, FrontFound, FrontOutcome};
 
 // Passes the names line at byte `from`, if it is that.
 pub fn skip_header(sheet: &[u8], from: usize, names: &[u8]) -> Found
@@ -46,7 +46,7 @@ pub(crate) fn scan_front(sheet: &[u8], points: &mut [u16], bandwidths: &mut [u32
 
 // The same for lists of any lengths. What the lists hold after a refusal is left open: they are a reader's own.
 pub fn read_front(sheet: &[u8], points: &mut [u16], bandwidths: &mut [u32]) -> FrontRead
-    ensures { λ r. ⌜ FrontTold (now (sheet .entry)) (length (now (points .entry))) (length (now (bandwidths .entry))) r (now (points .exit)) (now (bandwidths .exit)) ⌝ }
+    ensures { λ r. ⌜ FrontOutcome (now (sheet .entry)) (length (now (points .entry))) (length (now (bandwidths .entry))) r (now (points .exit)) (now (bandwidths .exit)) ⌝ }
 {
     if points.len() != 512 {
         return FrontRead::Refused(Refusal {

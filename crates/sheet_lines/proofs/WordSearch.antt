@@ -3,7 +3,7 @@ use Prim.Native.Nat.{ℕ, zero, suc, _+_, _-_, _/_, _≤_, _<_}
 use mathlib.Core.Path.{_≡_, refl, sym, ap, _∙_}
 use mathlib.Core.Bool.{Bool, true, false}
 use mathlib.Core.List.{List}
-use mathlib.Core.Option.{Option, none, some}
+use mathlib.Core.Option.{none, some}
 use native.Mathlib.Omega.{arith}
 use native.Mathlib.Nat.{add-zero}
 use borrow.Author.Tests.{leb-true}
@@ -12,9 +12,9 @@ use lib.Dec.{leb}
 use lib.ListN.{length, getD}
 use Rattle.meanings.specs.Lists.{pick}
 use Rattle.meanings.specs.Bytes.{line-feed}
-use Rattle.sheet_words.specs.Words.{word, byte, word-told, word-at, FirstByte, Marks}
+use Rattle.sheet_words.specs.Words.{word, byte, whole-word, word-at, Marks}
 use Rattle.sheet_words.specs.declared.WordAt.{WordAt}
-use Rattle.sheet_words.specs.declared.WordAt.the-variants.{Whole, Short}
+use Rattle.sheet_words.specs.declared.WordAt.the-variants.{Whole}
 use Rattle.sheet_words.proofs.Bytes.{byte-of-word}
 use Rattle.sheet_lines.specs.Lines.{feed-from}
 use Rattle.sheet_lines.proofs.LineEnds.{no-feed-here, feed-here}
@@ -49,9 +49,9 @@ eight s p w e = by (leb (p + 8) (length s)) refl e
 pub place-fits : (bits : ℕ) → trailingZeros 64 bits / 8 < 18446744073709551616
 place-fits bits = omega (arith, trailing-le 64 bits)
 
-module _ (s : List ℕ) (p : ℕ) {w : ℕ} {t : WordAt} (word-given : word-told t ≡ word-at s p) (whole : t ≡ Whole w) where
+module _ (s : List ℕ) (p : ℕ) {w : ℕ} {t : WordAt} (word-given : whole-word t ≡ word-at s p) (whole : t ≡ Whole w) where
   eight-given : Eight s p w
-  eight-given = eight s p w (ap word-told (sym whole) ∙ word-given)
+  eight-given = eight s p w (ap whole-word (sym whole) ∙ word-given)
 
   word-within : p + 8 ≤ length s
   word-within = eight-given .within
@@ -66,17 +66,17 @@ module _ (s : List ℕ) (p : ℕ) {w : ℕ} {t : WordAt} (word-given : word-told
   bytes-of-word b k l = rw (eight-given .value) (byte-of-word 8 (λ k. getD s (p + k) 0) (λ k m. b (p + k)) k l)
 
 -- the search has come to these eight bytes, and their bits are those that feed_bits tells
-module _ (s : List ℕ) (from p : ℕ) {w bits : ℕ} {t : WordAt} (searched : SearchedTo s from p) (word-given : word-told t ≡ word-at s p)
-    (whole : t ≡ Whole w) (told : Marks line-feed (byte w) 8 bits) where
+module _ (s : List ℕ) (from p : ℕ) {w bits : ℕ} {t : WordAt} (searched : SearchedTo s from p) (word-given : whole-word t ≡ word-at s p)
+    (whole : t ≡ Whole w) (marks : Marks line-feed (byte w) 8 bits) where
   hit-within : ¬ (bits ≡ 0) → p + trailingZeros 64 bits / 8 < length s
-  hit-within n = let f = told .marked n in omega (arith, word-within s p word-given whole)
+  hit-within n = let f = marks .marked n in omega (arith, word-within s p word-given whole)
 
   pub hit-fits : ¬ (bits ≡ 0) → length s < 18446744073709551616 → p + trailingZeros 64 bits / 8 < 18446744073709551616
   hit-fits n l = omega (arith, hit-within n)
 
   pub feed-in-word : ¬ (bits ≡ 0) → p + trailingZeros 64 bits / 8 ≡ feed-from s from
   feed-in-word n =
-      let f = told .marked n in
+      let f = marks .marked n in
       let same = bytes-of-word s p word-given whole (searched .bytes) in
       feed-here s from (p + trailingZeros 64 bits / 8)
       (searched .still ∙ no-feed-up-to s p (trailingZeros 64 bits / 8) (omega (arith, word-within s p word-given whole))
@@ -88,5 +88,5 @@ module _ (s : List ℕ) (from p : ℕ) {w bits : ℕ} {t : WordAt} (searched : S
       let same = bytes-of-word s p word-given whole (searched .bytes) in
       record {
         bytes = searched .bytes;
-        still = searched .still ∙ no-feed-up-to s p 8 (word-within s p word-given whole) (λ k l e. told .unmarked z k l (same k l ∙ e));
+        still = searched .still ∙ no-feed-up-to s p 8 (word-within s p word-given whole) (λ k l e. marks .unmarked z k l (same k l ∙ e));
       }

@@ -1,8 +1,8 @@
 -- Which names line stands there, and what the lines behind it say by the kind that it tells.
 use Prim.Native.Nat.{ℕ}
 use mathlib.Core.Path.{_≡_, refl, sym, ap, _∙_}
-use mathlib.Core.Bool.{Bool, true, false, _||_}
-use mathlib.Core.List.{List, [], _∷_}
+use mathlib.Core.Bool.{Bool, true, false}
+use mathlib.Core.List.{List}
 use native.Mathlib.Omega.{arith}
 use lib.ListN.{drop}
 use Rattle.meanings.specs.declared.Report.the-variants.{BadHeader}
@@ -12,7 +12,7 @@ use Rattle.meanings.specs.declared.Found.the-variants.{At, Nothing}
 use Rattle.meanings.specs.Lists.{pick}
 use Rattle.meanings.specs.Limits.{full}
 use Rattle.meanings.specs.Bytes.{sample-header}
-use Rattle.meanings.specs.Reports.{Answer, given, check, at, first-of, differ}
+use Rattle.meanings.specs.Reports.{Answer, given, at}
 use Rattle.meanings.specs.Sheet.{Lines, end, unended, line, lines, next-place, same, refused-at, or-next, header}
 use Rattle.meanings.proofs.Checks.{differ-same}
 use Rattle.meanings_ranges.specs.declared.Kind.{Kind}
@@ -23,12 +23,12 @@ use Rattle.sheet_front.specs.Stages.{Passed, passed-to, HeaderTried}
 use Rattle.sheet_front.proofs.LineSteps.{header-goes-on, header-stops}
 use Rattle.sheet_readings.specs.declared.ReadingsRead.{ReadingsRead}
 use Rattle.sheet_readings.specs.declared.ReadingsRead.the-variants.{Kept as LinesKept}
-use Rattle.sheet_readings.specs.Stages.{kept-readings, readings-read, readings-call, ReadingsTold}
+use Rattle.sheet_readings.specs.Stages.{size-refusal, kept-readings, readings-read, readings-call, ReadingsOutcome}
 use Rattle.sheet_names.specs.declared.Names.{Names}
 use Rattle.sheet_names.specs.declared.Names.the-variants.{Named, Unnamed}
 use Rattle.sheet_names.specs.declared.NamedRead.{NamedRead}
 use Rattle.sheet_names.specs.declared.NamedRead.the-variants.{Kept}
-use Rattle.sheet_names.specs.Stages.{after-names, NamesTried, named-read, with-front, named-call, NamedTold}
+use Rattle.sheet_names.specs.Stages.{after-names, NamesTried, named-read, with-front, named-call, NamedOutcome}
 
 -- the plain names line first, and where it does not stand the one of ranges
 module _ (p : ℕ) (next : Kind → ℕ → Lines → Answer RangeContents) where
@@ -72,7 +72,7 @@ module _ {s : List ℕ} {p : ℕ} {f : Found} (tried : HeaderTried sample-header
 abbrev behind : ℕ → ℕ → ℕ → List ℕ → List ℕ → Kind → ℕ → Lines → Answer RangeContents
 behind a b c zs hs k q ls =
     with-front k zs hs
-    (or-next (first-of (check 8 (at 0 (differ a 1024 || differ b 1024 || differ c 1024)) ∷ [])) (read-readings full k q no-readings ls kept-readings))
+    (or-next (size-refusal full a b c) (read-readings full k q no-readings ls kept-readings))
 
 after : (s : List ℕ) (p a b c : ℕ) (r : Names) → NamesTried s p r → (zs hs : List ℕ) (x : Names) → r ≡ x
     → named-call full s p a b c zs hs ≡ after-names x s p (behind a b c zs hs)
@@ -80,19 +80,19 @@ unfolding named-call
 after s p a b c r tried zs hs x e = tried .goes-on _ ∙ ap (λ (r : Names). after-names r s p (behind a b c zs hs)) e
 
 module _ {s : List ℕ} {p a b c : ℕ} {r : Names} (tried : NamesTried s p r) where
-  pub names-missing : {ts ls us : List ℕ} → r ≡ Unnamed → NamedTold s p a b c (NamedRead.Refused (record { report = BadHeader; place = p })) ts ls us
+  pub names-missing : {ts ls us : List ℕ} → r ≡ Unnamed → NamedOutcome s p a b c (NamedRead.Refused (record { report = BadHeader; place = p })) ts ls us
   names-missing e = record { outcome = λ zs hs. after s p a b c r tried zs hs Unnamed e; within = tt }
 
-  module _ {k : Kind} {q : ℕ} {x : ReadingsRead} {ts ls us : List ℕ} (named : r ≡ Named k q) (told : ReadingsTold s q k a b c x ts ls us) where
+  module _ {k : Kind} {q : ℕ} {x : ReadingsRead} {ts ls us : List ℕ} (named : r ≡ Named k q) (call : ReadingsOutcome s q k a b c x ts ls us) where
     after-lines : (zs hs : List ℕ) → named-call full s p a b c zs hs ≡ with-front k zs hs (readings-read x ts ls us)
     unfolding readings-call
-    after-lines zs hs = after s p a b c r tried zs hs (Named k q) named ∙ ap (with-front k zs hs) (told .outcome)
+    after-lines zs hs = after s p a b c r tried zs hs (Named k q) named ∙ ap (with-front k zs hs) (call .outcome)
 
-    pub lines-refused : {y : Refusal} → x ≡ ReadingsRead.Refused y → NamedTold s p a b c (NamedRead.Refused y) ts ls us
+    pub lines-refused : {y : Refusal} → x ≡ ReadingsRead.Refused y → NamedOutcome s p a b c (NamedRead.Refused y) ts ls us
     lines-refused e = record { outcome = λ zs hs. after-lines zs hs ∙ rw e; within = tt }
 
-    pub lines-kept : {n : ℕ} → x ≡ LinesKept n → NamedTold s p a b c (Kept k n) ts ls us
-    lines-kept e = record { outcome = λ zs hs. after-lines zs hs ∙ rw e; within = rw e at (told .within) }
+    pub lines-kept : {n : ℕ} → x ≡ LinesKept n → NamedOutcome s p a b c (Kept k n) ts ls us
+    lines-kept e = record { outcome = λ zs hs. after-lines zs hs ∙ rw e; within = rw e at (call .within) }
 
 -- from the names line on, whatever stands behind it
 names-over : (p : ℕ) (ls : Lines) (next next′ : Kind → ℕ → Lines → Answer RangeContents) → ((k : Kind) (q : ℕ) (r : Lines) → next k q r ≡ next′ k q r)
@@ -109,11 +109,11 @@ names-over p (line t e ls) next next′ h = by (same t sample-header) (same t ra
     by false false = refl
 
 -- the call with lists of full length says what the sheet is from there on
-module _ {s : List ℕ} {p a b c : ℕ} {r : NamedRead} {ts ls us : List ℕ} (told : NamedTold s p a b c r ts ls us) where
-  pub told-named : a ≡ 1024 → b ≡ 1024 → c ≡ 1024 → (zs hs : List ℕ)
+module _ {s : List ℕ} {p a b c : ℕ} {r : NamedRead} {ts ls us : List ℕ} (call : NamedOutcome s p a b c r ts ls us) where
+  pub named-of-call : a ≡ 1024 → b ≡ 1024 → c ≡ 1024 → (zs hs : List ℕ)
       → read-either-from full (record { place = p; rest = lines (drop p s); points = zs; bandwidths = hs }) ≡ named-read r ts ls us zs hs
   unfolding named-call
-  told-named x y z zs hs =
+  named-of-call x y z zs hs =
       names-over p (lines (drop p s))
       (λ k q rest.
       read-readings full k q no-readings rest
@@ -123,4 +123,4 @@ module _ {s : List ℕ} {p a b c : ℕ} {r : NamedRead} {ts ls us : List ℕ} (t
       sym
       (read-readings-over (with-front k zs hs) (λ e. refl) full k q no-readings rest kept-readings
       (λ r. given (range-contents k (record { place = p; rest = lines (drop p s); points = zs; bandwidths = hs }) r)) (λ r. refl)))
-      ∙ (rw (differ-same a 1024 x, differ-same b 1024 y, differ-same c 1024 z) at (told .outcome zs hs))
+      ∙ (rw (differ-same a 1024 x, differ-same b 1024 y, differ-same c 1024 z) at (call .outcome zs hs))

@@ -1,16 +1,15 @@
 -- What the second names line tells, and what stands behind it, as what is left of the sheet's meaning. Each contract is one record.
 use Prim.Native.Nat.{ℕ, _≤_}
 use mathlib.Core.Path.{_≡_}
-use mathlib.Core.Bool.{_||_}
-use mathlib.Core.List.{List, [], _∷_}
+use mathlib.Core.List.{List}
 use lib.ListN.{take, drop}
 use Rattle.meanings.specs.declared.Limits.{Limits}
 use Rattle.meanings.specs.Limits.{full}
-use Rattle.meanings.specs.Reports.{Answer, given, refused, fault-of, check, at, first-of, differ}
+use Rattle.meanings.specs.Reports.{Answer, given, refused, fault-of}
 use Rattle.meanings.specs.Sheet.{Lines, lines, refused-at, or-next}
 use Rattle.meanings_ranges.specs.declared.Kind.{Kind}
 use Rattle.meanings_ranges.specs.RangeSheet.{second-header, no-readings, RangeContents, read-readings}
-use Rattle.sheet_readings.specs.Stages.{KeptReadings, kept-readings}
+use Rattle.sheet_readings.specs.Stages.{KeptReadings, kept-readings, size-refusal}
 use Rattle.sheet_names.specs.declared.Names.{Names}
 use Rattle.sheet_names.specs.declared.Names.the-variants.{Named, Unnamed}
 use Rattle.sheet_names.specs.declared.NamedRead.{NamedRead}
@@ -46,10 +45,9 @@ named-call L s p a b c zs hs =
     second-header p (lines (drop p s))
     (λ k q ls.
     with-front k zs hs
-    (or-next (first-of (check 8 (at 0 (differ a (L .samples) || differ b (L .samples) || differ c (L .samples))) ∷ []))
-    (read-readings L k q no-readings ls kept-readings)))
+    (or-next (size-refusal L a b c) (read-readings L k q no-readings ls kept-readings)))
 
 -- what it gives, and what its lists hold; after a refusal that is left open
-pub record NamedTold (s : List ℕ) (p a b c : ℕ) (r : NamedRead) (ts ls us : List ℕ) : Type 0 where
+pub record NamedOutcome (s : List ℕ) (p a b c : ℕ) (r : NamedRead) (ts ls us : List ℕ) : Type 0 where
   pub outcome : (zs hs : List ℕ) → named-call full s p a b c zs hs ≡ named-read r ts ls us zs hs
   pub within : named-within r

@@ -6,9 +6,8 @@ use meanings_ranges::Kind;
 use sheet_front::skip_header;
 use sheet_readings::ReadingsRead;
 use sheet_readings::read_readings;
-ghost use mathlib.Core.Path.{_≡_};
 ghost use lib.ListN.{length};
-ghost use Rattle.sheet_names.specs.Stages.{NamesTried, NamedTold};
+ghost use Rattle.sheet_names.specs.Stages.{NamesTried, NamedOutcome};
 
 // What the second names line tells: the kind, and where the next line begins; or it is another line.
 pub(crate) enum Names {
@@ -49,7 +48,7 @@ pub fn read_named(
     lows: &mut [u16],
     highs: &mut [u16],
 ) -> NamedRead
-    ensures { λ r. ⌜ NamedTold (now (sheet .entry)) from (length (now (minutes .entry))) (length (now (lows .entry))) (length (now (highs .entry))) r (now (minutes .exit)) (now (lows .exit)) (now (highs .exit)) ⌝ }
+    ensures { λ r. ⌜ NamedOutcome (now (sheet .entry)) from (length (now (minutes .entry))) (length (now (lows .entry))) (length (now (highs .entry))) r (now (minutes .exit)) (now (lows .exit)) (now (highs .exit)) ⌝ }
 {
     match second_header(sheet, from) {
         Names::Unnamed => NamedRead::Refused(Refusal {

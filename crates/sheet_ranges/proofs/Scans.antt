@@ -18,15 +18,15 @@ use Rattle.meanings_ranges.specs.RangeCalls.{points-of, bandwidths-of}
 use Rattle.list_fronts.specs.Copied.{copied}
 use Rattle.list_fronts.proofs.Copies.{copied-front}
 use Rattle.checks_reader.specs.Lengths.{uneven-reader}
-use Rattle.sheet_scan.specs.Stages.{either-read, EitherScanned, EitherTold}
-use Rattle.sheet_scan.proofs.Scans.{same-read, told-scanned}
+use Rattle.sheet_scan.specs.Stages.{either-read, EitherScanned, ScanOutcome}
+use Rattle.sheet_scan.proofs.Scans.{same-read, scanned-of-call}
 use Rattle.sheet_ranges.specs.Stages.{ReadInto}
 
 -- the reader's own lists, and the lent ones
-module _ {s ts′ ls′ us′ zs′ hs′ ts ls us zs hs : List ℕ} {r : RangeParsing} (told : EitherTold s ts′ ls′ us′ zs′ hs′ r ts ls us zs hs)
+module _ {s ts′ ls′ us′ zs′ hs′ ts ls us zs hs : List ℕ} {r : RangeParsing} (call : ScanOutcome s ts′ ls′ us′ zs′ hs′ r ts ls us zs hs)
     (even : uneven-reader full (length ts′) (length ls′) (length us′) (length zs′) (length hs′) ≡ false) where
   scanned : EitherScanned s r ts ls us zs hs
-  scanned = told-scanned even told
+  scanned = scanned-of-call even call
 
   pub reading-refused : {ts₀ ls₀ us₀ zs₀ hs₀ : List ℕ} {x : Refusal} → r ≡ RangeParsing.Refused x
       → ReadInto s ts₀ ls₀ us₀ zs₀ hs₀ (RangeParsing.Refused x) ts₀ ls₀ us₀ zs₀ hs₀

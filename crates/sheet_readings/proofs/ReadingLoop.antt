@@ -21,7 +21,7 @@ use Rattle.sheet_readings.specs.declared.ReadingStored.{ReadingStored}
 use Rattle.sheet_readings.specs.declared.ReadingStored.the-variants.{Stored}
 use Rattle.sheet_readings.specs.declared.ReadingsRead.{ReadingsRead}
 use Rattle.sheet_readings.specs.declared.ReadingsRead.the-variants.{Kept}
-use Rattle.sheet_readings.specs.Stages.{read-so-far, kept-readings, ReadingTried, readings-read, ReadingsFound, readings-call, ReadingsTold}
+use Rattle.sheet_readings.specs.Stages.{read-so-far, kept-readings, ReadingTried, ReadingsFound, readings-call, ReadingsOutcome}
 use Rattle.sheet_readings.proofs.LastMinutes.{first-minute, last-minute}
 
 readings-without-line : (s : List ℕ) (k : Kind) (p : ℕ) (w : Readings) → p < length s → line-at s p ≡ none
@@ -99,28 +99,21 @@ module _ {s : List ℕ} {from : ℕ} {k : Kind} {ts₀ ls₀ us₀ ts ls us : Li
 
 -- the lengths of the lists, tested
 module _ {s : List ℕ} {from : ℕ} {k : Kind} {ts ls us : List ℕ} {a b c : ℕ} where
-  pub minutes-uneven : ¬ (a ≡ 1024) → ReadingsTold s from k a b c (ReadingsRead.Refused (record { report = LengthMismatch; place = 0 })) ts ls us
+  pub minutes-uneven : ¬ (a ≡ 1024) → ReadingsOutcome s from k a b c (ReadingsRead.Refused (record { report = LengthMismatch; place = 0 })) ts ls us
   unfolding readings-call
   minutes-uneven e = record { outcome = rw (differ-true a 1024 e); within = tt }
 
   module _ (x : a ≡ 1024) where
-    pub lows-uneven : ¬ (b ≡ 1024) → ReadingsTold s from k a b c (ReadingsRead.Refused (record { report = LengthMismatch; place = 0 })) ts ls us
+    pub lows-uneven : ¬ (b ≡ 1024) → ReadingsOutcome s from k a b c (ReadingsRead.Refused (record { report = LengthMismatch; place = 0 })) ts ls us
     unfolding readings-call
     lows-uneven e = record { outcome = rw (differ-same a 1024 x, differ-true b 1024 e); within = tt }
 
     module _ (y : b ≡ 1024) where
-      pub highs-uneven : ¬ (c ≡ 1024) → ReadingsTold s from k a b c (ReadingsRead.Refused (record { report = LengthMismatch; place = 0 })) ts ls us
+      pub highs-uneven : ¬ (c ≡ 1024) → ReadingsOutcome s from k a b c (ReadingsRead.Refused (record { report = LengthMismatch; place = 0 })) ts ls us
       unfolding readings-call
       highs-uneven e = record { outcome = rw (differ-same a 1024 x, differ-same b 1024 y, differ-true c 1024 e); within = tt }
 
-      pub even-told : {r : ReadingsRead} → c ≡ 1024 → ReadingsFound s from k r ts ls us → ReadingsTold s from k a b c r ts ls us
+      pub even-outcome : {r : ReadingsRead} → c ≡ 1024 → ReadingsFound s from k r ts ls us → ReadingsOutcome s from k a b c r ts ls us
       unfolding readings-call
-      even-told z f =
+      even-outcome z f =
           record { outcome = rw (differ-same a 1024 x, differ-same b 1024 y, differ-same c 1024 z) (f .outcome); within = f .within }
-
--- the call with lists of full length says what the lines are
-module _ {s : List ℕ} {from : ℕ} {k : Kind} {ts ls us : List ℕ} {a b c : ℕ} {r : ReadingsRead} (told : ReadingsTold s from k a b c r ts ls us) where
-  pub told-readings : a ≡ 1024 → b ≡ 1024 → c ≡ 1024
-      → read-readings full k from no-readings (lines (drop from s)) kept-readings ≡ readings-read r ts ls us
-  unfolding readings-call
-  told-readings x y z = rw (differ-same a 1024 x, differ-same b 1024 y, differ-same c 1024 z) at (told .outcome)

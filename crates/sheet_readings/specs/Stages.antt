@@ -4,10 +4,11 @@ use Prim.Native.Nat.{ℕ, _≤_}
 use mathlib.Core.Path.{_≡_}
 use mathlib.Core.Bool.{_||_}
 use mathlib.Core.List.{List, [], _∷_}
-use lib.ListN.{length, take, drop}
+use mathlib.Core.Option.{Option}
+use lib.ListN.{take, drop}
 use Rattle.meanings.specs.declared.Limits.{Limits}
 use Rattle.meanings.specs.Limits.{full}
-use Rattle.meanings.specs.Reports.{Answer, given, refused, fault-of, check, at, first-of, differ}
+use Rattle.meanings.specs.Reports.{Fault, Answer, given, refused, fault-of, check, at, first-of, differ}
 use Rattle.meanings.specs.Sheet.{lines, or-next}
 use Rattle.meanings_ranges.specs.declared.Kind.{Kind}
 use Rattle.meanings_ranges.specs.RangeSheet.{Readings, no-readings, reading-line, with-reading}
@@ -58,13 +59,16 @@ pub record ReadingsFound (s : List ℕ) (from : ℕ) (k : Kind) (r : ReadingsRea
   pub outcome : read-readings-meaning full k from no-readings (lines (drop from s)) kept-readings ≡ readings-read r ts ls us
   pub within : readings-within r
 
+-- check 8 over lists for so many minutes, lows and highs
+abbrev pub size-refusal : Limits → ℕ → ℕ → ℕ → Option Fault
+size-refusal L a b c = first-of (check 8 (at 0 (differ a (L .samples) || differ b (L .samples) || differ c (L .samples))) ∷ [])
+
 -- the whole call, with lists for so many minutes, lows and highs: 8, and then what the lines say
 unfoldable pub readings-call : Limits → List ℕ → ℕ → Kind → ℕ → ℕ → ℕ → Answer KeptReadings
 readings-call L s from k a b c =
-    or-next (first-of (check 8 (at 0 (differ a (L .samples) || differ b (L .samples) || differ c (L .samples))) ∷ []))
-    (read-readings-meaning L k from no-readings (lines (drop from s)) kept-readings)
+    or-next (size-refusal L a b c) (read-readings-meaning L k from no-readings (lines (drop from s)) kept-readings)
 
 -- what it gives, and what its lists hold; after a refusal that is left open
-pub record ReadingsTold (s : List ℕ) (from : ℕ) (k : Kind) (a b c : ℕ) (r : ReadingsRead) (ts ls us : List ℕ) : Type 0 where
+pub record ReadingsOutcome (s : List ℕ) (from : ℕ) (k : Kind) (a b c : ℕ) (r : ReadingsRead) (ts ls us : List ℕ) : Type 0 where
   pub outcome : readings-call full s from k a b c ≡ readings-read r ts ls us
   pub within : readings-within r

@@ -8,7 +8,7 @@ use sheet_lines::Line;
 ghost use mathlib.Core.Path.{_≡_};
 ghost use Prim.Native.Nat.{_≤_};
 ghost use lib.ListN.{length};
-ghost use Rattle.sheet_readings.specs.Stages.{ReadingTried, ReadingsFound, ReadingsTold};
+ghost use Rattle.sheet_readings.specs.Stages.{ReadingTried, ReadingsFound, ReadingsOutcome};
 
 // What a reading line gives: how many readings are kept with it, and its minute, or the report.
 pub(crate) enum ReadingStored {
@@ -122,7 +122,7 @@ pub fn read_readings(
     lows: &mut [u16],
     highs: &mut [u16],
 ) -> ReadingsRead
-    ensures { λ r. ⌜ ReadingsTold (now (sheet .entry)) from kind (length (now (minutes .entry))) (length (now (lows .entry))) (length (now (highs .entry))) r (now (minutes .exit)) (now (lows .exit)) (now (highs .exit)) ⌝ }
+    ensures { λ r. ⌜ ReadingsOutcome (now (sheet .entry)) from kind (length (now (minutes .entry))) (length (now (lows .entry))) (length (now (highs .entry))) r (now (minutes .exit)) (now (lows .exit)) (now (highs .exit)) ⌝ }
 {
     if minutes.len() != 1024 {
         return ReadingsRead::Refused(Refusal {

@@ -22,7 +22,7 @@ use Rattle.sheet_samples.specs.declared.SamplesRead.{SamplesRead}
 use Rattle.sheet_samples.specs.declared.SamplesRead.the-variants.{Kept}
 use Rattle.sheet_front.specs.Stages.{HeaderTried}
 use Rattle.sheet_front.proofs.LineSteps.{header-goes-on, header-stops}
-use Rattle.sheet_samples.specs.Stages.{SampleTried, samples-read, SamplesFound, samples-call, SamplesTold}
+use Rattle.sheet_samples.specs.Stages.{SampleTried, samples-read, SamplesFound, samples-call, SamplesOutcome}
 use Rattle.sheet_samples.proofs.LineSteps.{samples-without-line, samples-at-line}
 use Rattle.sheet_samples.proofs.LastMinutes.{first-minute, last-minute}
 
@@ -83,22 +83,22 @@ module _ {s : List ℕ} {from : ℕ} {ts₀ vs₀ ts vs : List ℕ} {p count las
 
 -- the call: the lengths of the lists, tested, and then the names line before the reading lines
 module _ {s : List ℕ} {from : ℕ} {ts vs : List ℕ} {a b : ℕ} where
-  pub minutes-uneven : ¬ (a ≡ 1024) → SamplesTold s from a b (SamplesRead.Refused (record { report = LengthMismatch; place = 0 })) ts vs
+  pub minutes-uneven : ¬ (a ≡ 1024) → SamplesOutcome s from a b (SamplesRead.Refused (record { report = LengthMismatch; place = 0 })) ts vs
   unfolding samples-call
   minutes-uneven e = record { outcome = λ zs hs. rw (differ-true a 1024 e); within = tt }
 
   module _ (x : a ≡ 1024) where
-    pub values-uneven : ¬ (b ≡ 1024) → SamplesTold s from a b (SamplesRead.Refused (record { report = LengthMismatch; place = 0 })) ts vs
+    pub values-uneven : ¬ (b ≡ 1024) → SamplesOutcome s from a b (SamplesRead.Refused (record { report = LengthMismatch; place = 0 })) ts vs
     unfolding samples-call
     values-uneven e = record { outcome = λ zs hs. rw (differ-same a 1024 x, differ-true b 1024 e); within = tt }
 
     module _ (y : b ≡ 1024) {h : Found} (tried : HeaderTried sample-header s from h) where
-      pub no-sample-header : h ≡ Nothing → SamplesTold s from a b (SamplesRead.Refused (record { report = BadHeader; place = from })) ts vs
+      pub no-sample-header : h ≡ Nothing → SamplesOutcome s from a b (SamplesRead.Refused (record { report = BadHeader; place = from })) ts vs
       unfolding samples-call
       no-sample-header e =
           record { outcome = λ zs hs. rw (differ-same a 1024 x, differ-same b 1024 y) (header-stops _ tried e); within = tt }
 
-      pub samples-after-header : {p : ℕ} {r : SamplesRead} → h ≡ At p → SamplesFound s p r ts vs → SamplesTold s from a b r ts vs
+      pub samples-after-header : {p : ℕ} {r : SamplesRead} → h ≡ At p → SamplesFound s p r ts vs → SamplesOutcome s from a b r ts vs
       unfolding samples-call
       samples-after-header e g =
           record {
@@ -107,8 +107,8 @@ module _ {s : List ℕ} {from : ℕ} {ts vs : List ℕ} {a b : ℕ} where
           }
 
 -- the call with lists of full length says what the sheet is from there on
-module _ {s : List ℕ} {from : ℕ} {ts vs : List ℕ} {a b : ℕ} {r : SamplesRead} (told : SamplesTold s from a b r ts vs) where
-  pub told-samples : a ≡ 1024 → b ≡ 1024 → (zs hs : List ℕ)
+module _ {s : List ℕ} {from : ℕ} {ts vs : List ℕ} {a b : ℕ} {r : SamplesRead} (call : SamplesOutcome s from a b r ts vs) where
+  pub samples-of-call : a ≡ 1024 → b ≡ 1024 → (zs hs : List ℕ)
       → header sample-header from (lines (drop from s)) (λ p rest. read-samples full zs hs p [] [] [] rest) ≡ samples-read r zs hs ts vs
   unfolding samples-call
-  told-samples x y zs hs = rw (differ-same a 1024 x, differ-same b 1024 y) at (told .outcome zs hs)
+  samples-of-call x y zs hs = rw (differ-same a 1024 x, differ-same b 1024 y) at (call .outcome zs hs)

@@ -51,6 +51,6 @@ samples-call L s from a b zs hs =
     (header sample-header from (lines (drop from s)) (λ p rest. read-samples L zs hs p [] [] [] rest))
 
 -- what it gives, and what its lists hold; after a refusal that is left open
-pub record SamplesTold (s : List ℕ) (from a b : ℕ) (r : SamplesRead) (ts vs : List ℕ) : Type 0 where
+pub record SamplesOutcome (s : List ℕ) (from a b : ℕ) (r : SamplesRead) (ts vs : List ℕ) : Type 0 where
   pub outcome : (zs hs : List ℕ) → samples-call full s from a b zs hs ≡ samples-read r zs hs ts vs
   pub within : samples-within r

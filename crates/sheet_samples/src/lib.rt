@@ -8,7 +8,7 @@ use sheet_values::SampleLine;
 ghost use mathlib.Core.Path.{_≡_};
 ghost use Prim.Native.Nat.{_≤_};
 ghost use lib.ListN.{length};
-ghost use Rattle.sheet_samples.specs.Stages.{SampleTried, SamplesFound, SamplesTold};
+ghost use Rattle.sheet_samples.specs.Stages.{SampleTried, SamplesFound, SamplesOutcome};
 
 // What a reading line gives: how many readings are kept with it, and its minute, or the report.
 pub(crate) enum SampleStored {
@@ -109,7 +109,7 @@ pub fn read_samples(
     minutes: &mut [u16],
     values: &mut [u16],
 ) -> SamplesRead
-    ensures { λ r. ⌜ SamplesTold (now (sheet .entry)) from (length (now (minutes .entry))) (length (now (values .entry))) r (now (minutes .exit)) (now (values .exit)) ⌝ }
+    ensures { λ r. ⌜ SamplesOutcome (now (sheet .entry)) from (length (now (minutes .entry))) (length (now (values .entry))) r (now (minutes .exit)) (now (values .exit)) ⌝ }
 {
     if minutes.len() != 1024 {
         return SamplesRead::Refused(Refusal {

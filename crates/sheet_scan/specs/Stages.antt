@@ -26,6 +26,6 @@ pub record EitherScanned (s : List ℕ) (r : RangeParsing) (ts ls us zs hs : Lis
 
 -- the whole call, with the lists as they were: the answer is what the reader makes of the sheet with these lists, whose used parts are then in
 -- front; what they hold after a refusal is left open
-pub record EitherTold (s ts₀ ls₀ us₀ zs₀ hs₀ : List ℕ) (r : RangeParsing) (ts ls us zs hs : List ℕ) : Type 0 where
+pub record ScanOutcome (s ts₀ ls₀ us₀ zs₀ hs₀ : List ℕ) (r : RangeParsing) (ts ls us zs hs : List ℕ) : Type 0 where
   pub outcome : read-ranges full s ts₀ ls₀ us₀ zs₀ hs₀ ≡ either-read r ts ls us zs hs
   pub within : used-within r

@@ -9,7 +9,7 @@ use sheet_names::NamedRead;
 use sheet_names::read_named;
 ghost use mathlib.Core.Path.{_≡_};
 ghost use lib.ListN.{length};
-ghost use Rattle.sheet_scan.specs.Stages.{EitherScanned, EitherTold};
+ghost use Rattle.sheet_scan.specs.Stages.{EitherScanned, ScanOutcome};
 
 // The whole sheet, into lists of full length.
 pub(crate) fn scan(
@@ -45,7 +45,7 @@ pub fn scan_sheet(
     points: &mut [u16],
     bandwidths: &mut [u32],
 ) -> RangeParsing
-    ensures { λ r. ⌜ EitherTold (now (sheet .entry)) (now (minutes .entry)) (now (lows .entry)) (now (highs .entry)) (now (points .entry)) (now (bandwidths .entry)) r (now (minutes .exit)) (now (lows .exit)) (now (highs .exit)) (now (points .exit)) (now (bandwidths .exit)) ⌝ }
+    ensures { λ r. ⌜ ScanOutcome (now (sheet .entry)) (now (minutes .entry)) (now (lows .entry)) (now (highs .entry)) (now (points .entry)) (now (bandwidths .entry)) r (now (minutes .exit)) (now (lows .exit)) (now (highs .exit)) (now (points .exit)) (now (bandwidths .exit)) ⌝ }
 {
     if uneven_reader(
         minutes.len(),

@@ -1,6 +1,6 @@
 -- Bytes as one number, from the low end: the first byte is the remainder by 256, and the others are the quotient.
-use Prim.Native.Nat.{ℕ, zero, suc, _+_, _-_, _*_, _/_, _%_, _^_, _≤_, _<_}
-use mathlib.Core.Path.{_≡_, refl, sym, ap, _∙_}
+use Prim.Native.Nat.{ℕ, zero, suc, _+_, _*_, _/_, _%_, _^_, _<_}
+use mathlib.Core.Path.{_≡_, refl, sym, _∙_}
 use native.Mathlib.Omega.{arith}
 use native.Mathlib.Nat.{zero-add, mul-assoc, pow-suc, pow-succ', div-one, div-div-eq-div-mul, div-lt-iff-lt-mul}
 use lib.Pow.{high, low}

@@ -1,7 +1,7 @@
 -- The bits that mark a byte, for any byte b and any number n of bytes. x has 0 exactly where a byte is b. From the low end, x less a one in each
 -- byte does not borrow as long as each byte of x is above 0, and there the high bit is not set both in it and in the complement of x. At the
 -- first 0 it borrows and becomes 255, as the complement is: the high bit is set in both. What follows above need not be looked at.
-use Prim.Native.Nat.{ℕ, zero, suc, _+_, _-_, _*_, _/_, _%_, _^_, _≤_, _<_}
+use Prim.Native.Nat.{ℕ, zero, suc, _+_, _-_, _*_, _/_, _%_, _^_, _<_}
 use mathlib.Core.Path.{_≡_, refl, sym, ap, _∙_}
 use mathlib.Core.Bool.{Bool, true, false}
 use native.Mathlib.Omega.{arith}

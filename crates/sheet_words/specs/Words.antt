@@ -18,9 +18,9 @@ word d n = total (λ k. d k * 256 ^ k) 0 n
 unfoldable pub byte : ℕ → ℕ → ℕ
 byte w k = w / 256 ^ k % 256
 
-abbrev pub word-told : WordAt → Option ℕ
-word-told (Whole w) = some w
-word-told Short = none
+abbrev pub whole-word : WordAt → Option ℕ
+whole-word (Whole w) = some w
+whole-word Short = none
 
 -- the eight bytes of a list from byte p on, as one number; none where fewer are left
 unfoldable pub word-at : List ℕ → ℕ → Option ℕ

@@ -2,7 +2,7 @@
 ghost use mathlib.Core.Path.{_≡_};
 ghost use Prim.Native.Nat.{_+_, _-_, _*_};
 ghost use Rattle.meanings.specs.Bytes.{line-feed};
-ghost use Rattle.sheet_words.specs.Words.{byte, word-told, word-at, Marks};
+ghost use Rattle.sheet_words.specs.Words.{byte, whole-word, word-at, Marks};
 
 // What stands at a byte of a list: eight bytes as one word, the first lowest, or fewer than eight.
 pub enum WordAt {
@@ -42,7 +42,7 @@ fn word_starts(n: usize) -> usize
 
 // The eight bytes from byte `at` on.
 pub fn word_at(s: &[u8], at: usize) -> WordAt
-    ensures { λ r. ⌜ word-told r ≡ word-at (now (s .entry)) at ⌝ }
+    ensures { λ r. ⌜ whole-word r ≡ word-at (now (s .entry)) at ⌝ }
 {
     let starts = word_starts(s.len());
     if at < starts {

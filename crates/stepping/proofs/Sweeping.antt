@@ -14,7 +14,7 @@ use Rattle.meanings.specs.declared.PowerSums.{PowerSums}
 use Rattle.meanings.specs.declared.Refusal.{Refusal}
 use Rattle.meanings.specs.declared.RunningSums.{RunningSums}
 use Rattle.meanings.specs.Estimate.{estimate}
-use Rattle.meanings.specs.Running.{six, fresh, advance, next-record, after-step, record-row}
+use Rattle.meanings.specs.Running.{six, advance, next-record, after-step, record-row}
 use Rattle.meanings.specs.Calls.{advance-answer}
 use Rattle.meanings.proofs.Steps.{Small, at-window}
 use Rattle.meanings.proofs.SmoothSteps.{CurveAccepted, running-at, running-within, step-accepted}

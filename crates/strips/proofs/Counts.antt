@@ -11,7 +11,7 @@ use lib.ListN.{length, getD}
 use Rattle.meanings_boxes.specs.Boxes.{strip}
 use Rattle.laws_boxes.proofs.Strips.{strip-grows, strip-rises}
 use Rattle.cuts.specs.Cuts.{Ranked}
-use Rattle.strips.specs.Strips.{Flagged, Split, Bounded, Eighths, BlockIn, BlockEnd, Block, StripTold}
+use Rattle.strips.specs.Strips.{Flagged, Split, Bounded, Eighths, BlockIn, BlockEnd, Block, StripOrZero}
 
 pub ranked-split : (cs ds : List ℕ) (n x : ℕ) → Ranked cs ds n → Split ds n x (strip cs x)
 ranked-split cs ds n x R = record {
@@ -160,8 +160,8 @@ module _ {ds : List ℕ} {p n x e c i : ℕ} (t : BlockTo ds p n x e c i) where
 
 -- Both.
 module _ (ds : List ℕ) (n x a : ℕ) (l : n ≤ 64) (r : n ≤ length ds) (E : Eighths ds n x a) where
-  pub strip-told : (c : ℕ) → Block ds (8 * a) n x c → StripTold ds n x (8 * a + c)
-  strip-told c B = record {
+  pub strip-or-zero : (c : ℕ) → Block ds (8 * a) n x c → StripOrZero ds n x (8 * a + c)
+  strip-or-zero c B = record {
     found = λ m s. record {
       few = B .few;
       is = λ cs R. let S = ranked-split cs ds n x R in B .is (strip cs x) S (E .least (strip cs x) S) (E .most (strip cs x) S);

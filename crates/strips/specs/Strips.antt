@@ -48,7 +48,7 @@ pub record StripFound (ds : List ℕ) (n x r : ℕ) : Type 0 where
   pub is : (cs : List ℕ) → Ranked cs ds n → r ≡ strip cs x
 
 -- of more than 64 cuts, or more than there are numbers, 0
-pub record StripTold (ds : List ℕ) (n x r : ℕ) : Type 0 where
+pub record StripOrZero (ds : List ℕ) (n x r : ℕ) : Type 0 where
   pub found : n ≤ 64 → n ≤ length ds → StripFound ds n x r
   pub many : 64 < n → r ≡ 0
   pub short : length ds < n → r ≡ 0

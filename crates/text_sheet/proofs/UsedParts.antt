@@ -18,8 +18,8 @@ use Rattle.meanings_ranges.specs.declared.RangeParsing.the-variants.{Used}
 use Rattle.meanings_ranges.specs.RangeSheet.{read-either}
 use Rattle.meanings_ranges.specs.RangeOutput.{write-either, write-either-buffer}
 use Rattle.checks_reader.specs.Lengths.{uneven-reader}
-use Rattle.sheet_scan.specs.Stages.{EitherScanned, EitherTold}
-use Rattle.sheet_scan.proofs.Scans.{told-scanned}
+use Rattle.sheet_scan.specs.Stages.{EitherScanned, ScanOutcome}
+use Rattle.sheet_scan.proofs.Scans.{scanned-of-call}
 use Rattle.text_kind.specs.KindText.{KindWritten}
 use Rattle.text_sheet.specs.SheetText.{SheetAccepted, lists-of, SheetWritten}
 use Rattle.text_sheet.proofs.Texts.{in-front}
@@ -35,10 +35,10 @@ module _ (s out : List ℕ) (another : ¬ (length out ≡ max-output)) where
   other-buffer-stays = rw (differ-true (length out) max-output another)
 
 -- a sheet read into lists of the right lengths
-module _ {s ts₀ ls₀ us₀ zs₀ hs₀ ts ls us zs hs : List ℕ} {r : RangeParsing} (told : EitherTold s ts₀ ls₀ us₀ zs₀ hs₀ r ts ls us zs hs)
+module _ {s ts₀ ls₀ us₀ zs₀ hs₀ ts ls us zs hs : List ℕ} {r : RangeParsing} (call : ScanOutcome s ts₀ ls₀ us₀ zs₀ hs₀ r ts ls us zs hs)
     (even : uneven-reader full (length ts₀) (length ls₀) (length us₀) (length zs₀) (length hs₀) ≡ false) where
   scanned : EitherScanned s r ts ls us zs hs
-  scanned = told-scanned even told
+  scanned = scanned-of-call even call
 
   -- that is refused
   pub sheet-refused : {f : Refusal} {out : List ℕ} → r ≡ RangeParsing.Refused f → length out ≡ max-output → SheetWritten s out (Writing.Refused f) out

@@ -1,6 +1,6 @@
 -- For ordered minutes an edge that has come to a bound is the row's: the minutes before it are below the bound and those from it on are not. Both
 -- edges together have gained the new run and lost the old one.
-use Prim.Native.Nat.{ℕ, _+_, _-_, _%_, _^_, _≤_, _<_, zero-le}
+use Prim.Native.Nat.{ℕ, _+_, _-_, _≤_, _<_, zero-le}
 use mathlib.Core.Path.{_≡_, refl, sym, ap, _∙_}
 use mathlib.Core.Logic.{_↔_}
 use mathlib.Core.List.{List}
@@ -15,16 +15,16 @@ use Rattle.meanings.specs.declared.Verdict.{Verdict}
 use Rattle.meanings.specs.declared.Verdict.the-variants.{Fit, Faulty}
 use Rattle.meanings.specs.Estimate.{left-of, right-of}
 use Rattle.meanings.specs.Limits.{full}
-use Rattle.meanings.specs.Lists.{distance, total, Ordered}
-use Rattle.meanings.specs.Reports.{fault-of, verdict-fault, first-of, turn-checks}
+use Rattle.meanings.specs.Lists.{distance, Ordered}
+use Rattle.meanings.specs.Reports.{verdict-fault, first-of, turn-checks}
 use Rattle.meanings.specs.Running.{six, sum-at, plus, minus, power-sum, window-sum, term, new-passes}
-use Rattle.meanings.specs.Turn.{turned-sums, turned, turn-refusal, turn-record}
+use Rattle.meanings.specs.Turn.{turned, turn-refusal, turn-record}
 use Rattle.meanings.proofs.Checks.{TurnAccepted, turn-accepts, same-limits}
 use Rattle.meanings.proofs.Steps.{six-agree, six-at, range-joins}
 use Rattle.meanings.proofs.Window.{left-at-most-right, right-at-most-length, before-left, before-right}
 use Rattle.arithmetic.proofs.Wrapping.{plus-plus}
 use Rattle.turn.specs.declared.edges.Edge.{Edge}
-use Rattle.turn.specs.Travels.{Among, Settles, Lowered}
+use Rattle.turn.specs.Travels.{Among, Lowered}
 use Rattle.turn.proofs.Settles.{settles-is-minus, settles-alike, settles-apart}
 use Rattle.turn.proofs.Travels.{edge}
 

@@ -3,7 +3,6 @@ use Prim.Native.Nat.{ℕ, _+_, _-_, _%_, _^_, _≤_, _<_}
 use mathlib.Core.Path.{_≡_}
 use mathlib.Core.List.{List}
 use lib.ListN.{length, getD}
-use Rattle.meanings.specs.declared.PowerSums.{PowerSums}
 use Rattle.meanings.specs.Running.{sum-at, power-sum}
 use Rattle.turn.specs.declared.edges.Edge.{Edge}
 

@@ -2,7 +2,7 @@
 mod edges;
 mod window;
 
-use crate::window::settled;
+use crate::window::turned_record;
 use checks::full;
 use checks_point::turn_fault;
 use meanings::RunningSums;
@@ -35,7 +35,7 @@ fn turned(
             verdict: Verdict::Faulty(refusal),
         },
         Verdict::Fit => Turning {
-            running: settled(running, minutes, values, point, bandwidth),
+            running: turned_record(running, minutes, values, point, bandwidth),
             verdict: Verdict::Fit,
         },
     }

@@ -1,4 +1,4 @@
-// A record settled on a window: each edge goes from where it stands to where the window has it.
+// A record turned to a window: each edge goes from where it stands to where the window has it.
 use crate::edges::Edge;
 use crate::edges::edge_to;
 use arithmetic::minus_sums;
@@ -10,7 +10,7 @@ ghost use mathlib.Core.Path.{_≡_};
 ghost use Rattle.meanings.specs.Turn.{turned};
 ghost use Rattle.meanings.proofs.Checks.{TurnAccepted};
 
-pub(crate) fn settled(
+pub(crate) fn turned_record(
     running: RunningSums,
     minutes: &[u16],
     values: &[u16],

@@ -4,7 +4,6 @@ use abi_boxes::tankcurve_boxes;
 use vectors_io::MOST_BYTES;
 use vectors_io::MOST_CASES;
 use vectors_io::MOST_ELEMENTS;
-use vectors_io::Parsed;
 use vectors_io::Taken;
 use vectors_io::lent_u8;
 use vectors_io::lent_u32;

@@ -6,8 +6,6 @@ use meanings::Estimate;
 use meanings_doubles::Cell;
 use vectors_io::MOST_BYTES;
 use vectors_io::MOST_CASES;
-use vectors_io::Parsed;
-use vectors_io::Taken;
 use vectors_io::lent_u64;
 use vectors_io::next_case;
 use vectors_io::number;

@@ -7,8 +7,6 @@ use pair::compare_run;
 use vectors_io::MOST_BYTES;
 use vectors_io::MOST_CASES;
 use vectors_io::MOST_ELEMENTS;
-use vectors_io::Parsed;
-use vectors_io::Taken;
 use vectors_io::lent_u64;
 use vectors_io::list_u16;
 use vectors_io::list_u32;

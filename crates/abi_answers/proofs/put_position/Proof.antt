@@ -1,5 +1,4 @@
 -- A list of another length stays; one store fills one of one number.
-use mathlib.Core.Path.{refl}
 use Rattle.abi_answers.proofs.Answered.{other-length-stays}
 use Rattle.abi_answers.proofs.Positions.{position-stored}
 use borrow.Author.Needs.{needs}

@@ -1,5 +1,4 @@
 -- Of two differences cut off at 0 one is 0 and the other is what the code subtracts, by the branch that it is in.
-use native.Mathlib.Omega.{arith}
 use borrow.Author.Needs.{needs}
 use Rattle.meanings.specs.Lists.{distance}
 use Rattle.arithmetic.proofs.plus_travel.Statement.{statement}

@@ -29,8 +29,8 @@ returns-7 c = search others-differ
 returns-8 : tie.Need-returns-8
 returns-8 c = search strips-differ
 
-put-rows-requires : tie.Need-put-rows-requires
-put-rows-requires c κs =
+put-box-rows-requires : tie.Need-put-box-rows-requires
+put-box-rows-requires c κs =
     let d = c .before .before .before .before .before in
     fitting (d .before .before .before .before .if1 .left) (d .before .before .before .if2 .left) (d .before .before .if3 .left) (d .before .if4 .left)
     (d .if5 .left) (c .before .before .before .before .strips-within .ensures) (c .before .before .before .if6 .taken)
@@ -52,7 +52,7 @@ put-boxes-spec =
     returns-5
     (λ c κs. search needs)
     (λ c κs. search needs)
-    put-rows-requires
+    put-box-rows-requires
     (λ c. search needs)
     returns-6
     returns-7

@@ -1,5 +1,4 @@
 -- Each way out has passed the tests before it.
-use borrow.Author.Needs.{needs}
 use Rattle.cells.proofs.Filling.{temperatures-differ, values-differ, too-many, cuts-too-many, cuts-too-short, others-too-many}
 use Rattle.cells.proofs.Filling.{others-too-short, counts-differ, sums-differ, all-fit}
 use Rattle.cells.proofs.fillable.Statement.{statement}

@@ -5,8 +5,6 @@ use Rattle.meanings.specs.Reports.{number}
 use borrow.Author.Needs.{needs}
 use Rattle.checks.proofs.report_number.Statement.{statement}
 use Rattle.checks.proofs.report_number.Tie as tie
-use Rattle.checks.proofs.report_number.Reads as reads
-use Rattle.checks.proofs.report_number.Lts as lts
 
 -- what a report is matched as has its number
 numbered : {r s : Report} → r ≡ s → number s ≡ number r

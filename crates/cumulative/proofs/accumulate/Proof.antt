@@ -10,8 +10,8 @@ returns c = search other-cells
 returns-2 : tie.Need-returns-2
 returns-2 c = search other-room
 
-put-rows-requires : tie.Need-put-rows-requires
-put-rows-requires c κs = search sizes-fit
+put-table-rows-requires : tie.Need-put-table-rows-requires
+put-table-rows-requires c κs = search sizes-fit
 
 returns-3 : tie.Need-returns-3
 returns-3 c = search all-filled
@@ -22,6 +22,6 @@ accumulate-spec =
     (tie.spec
     returns
     returns-2
-    put-rows-requires
+    put-table-rows-requires
     (λ c. search needs)
     returns-3)

@@ -1,6 +1,5 @@
 -- The six sums of each end with one reading less, put together again.
 use borrow.Author.Needs.{needs}
-use Rattle.meanings.specs.Running.{minus}
 use Rattle.range_sums.proofs.Joining.{both-joined}
 use Rattle.range_sums.proofs.minus_range.Statement.{statement}
 use Rattle.range_sums.proofs.minus_range.Tie as tie

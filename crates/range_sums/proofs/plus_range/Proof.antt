@@ -1,6 +1,5 @@
 -- The six sums of each end with one reading more, put together again.
 use borrow.Author.Needs.{needs}
-use Rattle.meanings.specs.Running.{plus}
 use Rattle.range_sums.proofs.Joining.{both-joined}
 use Rattle.range_sums.proofs.plus_range.Statement.{statement}
 use Rattle.range_sums.proofs.plus_range.Tie as tie

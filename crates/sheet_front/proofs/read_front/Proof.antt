@@ -1,5 +1,5 @@
 -- A list of another length is refused first; with both of their lengths the call is the scan.
-use Rattle.sheet_front.proofs.Fronts.{points-uneven, bandwidths-uneven, even-told}
+use Rattle.sheet_front.proofs.Fronts.{points-uneven, bandwidths-uneven, even-outcome}
 use borrow.Author.Needs.{needs}
 use Rattle.sheet_front.proofs.read_front.Statement.{statement}
 use Rattle.sheet_front.proofs.read_front.Tie as tie
@@ -20,7 +20,7 @@ same-length-2 : tie.Need-same-length-2
 same-length-2 c = search needs
 
 returns-3 : tie.Need-returns-3
-returns-3 c = search even-told
+returns-3 c = search even-outcome
 
 pub read-front-spec : {M : Type 1} → statement M
 read-front-spec =

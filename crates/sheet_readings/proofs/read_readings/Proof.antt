@@ -1,5 +1,5 @@
 -- A list of another length is refused first; with all of their lengths the call is the scan.
-use Rattle.sheet_readings.proofs.ReadingLoop.{minutes-uneven, lows-uneven, highs-uneven, even-told}
+use Rattle.sheet_readings.proofs.ReadingLoop.{minutes-uneven, lows-uneven, highs-uneven, even-outcome}
 use borrow.Author.Needs.{needs}
 use Rattle.sheet_readings.proofs.read_readings.Statement.{statement}
 use Rattle.sheet_readings.proofs.read_readings.Tie as tie
@@ -26,7 +26,7 @@ same-length-3 : tie.Need-same-length-3
 same-length-3 c = search needs
 
 returns-4 : tie.Need-returns-4
-returns-4 c = search even-told
+returns-4 c = search even-outcome
 
 pub read-readings-spec : {M : Type 1} → statement M
 read-readings-spec =

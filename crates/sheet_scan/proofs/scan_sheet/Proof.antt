@@ -1,6 +1,6 @@
 -- Lists of other lengths are refused before the sheet is looked at; with those of the right lengths the meaning is that of the sheet alone.
 use Rattle.checks_reader.proofs.Lengths.{tested-even}
-use Rattle.sheet_scan.proofs.Scans.{uneven-told, even-told}
+use Rattle.sheet_scan.proofs.Scans.{uneven-outcome, even-outcome}
 use borrow.Author.Needs.{needs}
 use Rattle.sheet_scan.proofs.scan_sheet.Statement.{statement}
 use Rattle.sheet_scan.proofs.scan_sheet.Tie as tie
@@ -9,7 +9,7 @@ uneven-reader-requires : tie.Need-uneven-reader-requires
 uneven-reader-requires c κs = search needs
 
 returns : tie.Need-returns
-returns c = uneven-told (cc)
+returns c = uneven-outcome (cc)
 
 scan-requires : tie.Need-scan-requires
 scan-requires c κs =
@@ -32,7 +32,7 @@ same-length-5 : tie.Need-same-length-5
 same-length-5 c = search needs
 
 returns-2 : tie.Need-returns-2
-returns-2 c = even-told (cc) (c .before .before .before .before .before .before .before .before .before .before .scan .ensures)
+returns-2 c = even-outcome (cc) (c .before .before .before .before .before .before .before .before .before .before .scan .ensures)
 
 pub scan-sheet-spec : {M : Type 1} → statement M
 scan-sheet-spec =

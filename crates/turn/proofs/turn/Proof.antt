@@ -23,7 +23,7 @@ use types.Run.{alloc1, alloc0, params1, pass1, pass0, free1, free0}
 use types.Part.{whole, sub, look-in}
 use types.SemTy.{Body}
 use sound.WpLaws.{FmC, fmOf, WpFn-mono}
-use denote.RattleType.{RattleType, owns}
+use denote.RattleType.{owns}
 use denote.Memory.{mem}
 use denote.Laws.{Is, shows}
 use denote.Plain.{uint-makes, uint-vals, uint-tells}
@@ -144,8 +144,8 @@ module _ {M : Type 1} (𝓤 : URA M) (H : Heap 𝓤) (A : Atoms 𝓤) (W : Given
       join ! $ frame ! $ done !) $
       frame ! $ frame ! $ done !
 
-  said : (t : Turning) → ent 𝓤 (ensured 𝓤 H A turned.ended (turned.clauses 𝓤 H A at-mem run) (κ₁, (κ₂, tt)) by-value tt t) (fact 𝓤 (Answers t))
-  said t = exE 𝓤 _ (λ ws. snd∗ 𝓤 (sem 𝓤 H A (lasts turned.ended (κ₁, (κ₂, tt)) by-value ws)) (fact 𝓤 (Answers t)))
+  answers-ensured : (t : Turning) → ent 𝓤 (ensured 𝓤 H A turned.ended (turned.clauses 𝓤 H A at-mem run) (κ₁, (κ₂, tt)) by-value tt t) (fact 𝓤 (Answers t))
+  answers-ensured t = exE 𝓤 _ (λ ws. snd∗ 𝓤 (sem 𝓤 H A (lasts turned.ended (κ₁, (κ₂, tt)) by-value ws)) (fact 𝓤 (Answers t)))
 
   module _ (t : Turning) (e : Answers t) (is : Is N.the-row (t .verdict) (EL.vals N.the-type N′.the-laws (t .verdict))) where
     exits : ent 𝓤
@@ -194,7 +194,7 @@ module _ {M : Type 1} (𝓤 : URA M) (H : Heap 𝓤) (A : Atoms 𝓤) (W : Given
         (and-then ! (load ! (from ! (stop !)) (look ! 14 refl)) (and-then ! (load ! (from ! (stop !)) (look ! 12 refl)) (no-more !)))))) (λ w.
         use1 W (later (some (λ (t : Turning). ((‵ (flft κ₁ q₁) ⊛ ‵ (flft κ₂ q₂) ⊛ ‵ ftrue) ⊛ ‵ (U.the-row .own t (w ∷ [])))
         ⊛ raw (ensured 𝓤 H A turned.ended (turned.clauses 𝓤 H A at-mem run) (κ₁, (κ₂, tt)) by-value tt t)))) (id⊢ 𝓤 _) $ await ! tt $ pick ! (λ t.
-        split ! $ move ! (1 ∷ []) $ use1 W (raw (fact 𝓤 (Answers t))) (said t) $ heard ! (Answers t) (λ e. split ! $ move ! (1 ∷ []) $
+        split ! $ move ! (1 ∷ []) $ use1 W (raw (fact 𝓤 (Answers t))) (answers-ensured t) $ heard ! (Answers t) (λ e. split ! $ move ! (1 ∷ []) $
         -- [what the answer owns; two tokens; O₂; O₁; the record's cell; what it owns; the open borrow; obs; auth; _7; …; _6; …; _0; …]
         peeks ! U.the-row (Is U.the-row) (shows 𝓤 H A U.the-row) t (w ∷ []) (λ is.
         land ! (from ! (stop !)) (init ! 11 refl (LL.lawful U.the-type U′.the-laws 𝓤 H A W .typed t _ is .0)) $

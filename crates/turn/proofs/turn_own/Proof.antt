@@ -24,7 +24,7 @@ use types.Part.{agg}
 use types.SemTy.{Body}
 use types.Tokens.{lft-new, lft-end}
 use sound.WpLaws.{FmC, fmOf, WpFn-mono}
-use denote.RattleType.{RattleType, owns}
+use denote.RattleType.{owns}
 use denote.Memory.{mem, cellAt, partAt, partOf}
 use denote.Laws.{Is, shows}
 use denote.Lend.{lends-ref, ref-back}

@@ -3,8 +3,8 @@ use Prim.Native.Nat.{_-_}
 use borrow.Author.Needs.{needs}
 use Rattle.box_sums.proofs.Storing.{RowTo, row-begins, row-goes-on, row-ends, low-there, high-there, count-corners, sum-corners, twice-fits}
 use Rattle.box_sums.proofs.Storing.{place-fits, next-fits, place-there, next-there, row-length}
-use Rattle.box_sums.proofs.pairs.put_row.Statement.{statement}
-use Rattle.box_sums.proofs.pairs.put_row.Tie as tie
+use Rattle.box_sums.proofs.pairs.put_box_row.Statement.{statement}
+use Rattle.box_sums.proofs.pairs.put_box_row.Tie as tie
 
 abbrev Inv-loop : tie.InvT-loop
 Inv-loop counts sums first end lows highs m boxes₀ at k₀ boxes k = RowTo counts sums first end lows highs m boxes₀ at boxes k
@@ -57,8 +57,8 @@ slice-write-boxes-2 c = search next-there
 same-length : tie.Need-same-length Inv-loop μ-loop
 same-length c = search row-length
 
-pub put-row-spec : {M : Type 1} → statement M
-put-row-spec =
+pub put-box-row-spec : {M : Type 1} → statement M
+put-box-row-spec =
     tie.close
     (tie.spec
     Inv-loop

@@ -2,8 +2,8 @@
 -- The left edge's gains are subtracted, since its sums start at zero; each edge adds its way to the passes.
 use borrow.Author.Needs.{needs}
 use Rattle.turn.proofs.Windows.{right-among, left-among, turned-so}
-use Rattle.turn.proofs.window.settled.Statement.{statement}
-use Rattle.turn.proofs.window.settled.Tie as tie
+use Rattle.turn.proofs.window.turned_record.Statement.{statement}
+use Rattle.turn.proofs.window.turned_record.Tie as tie
 
 returns : tie.Need-returns
 returns c = search turned-so
@@ -14,8 +14,8 @@ edge-to-requires c κs = search right-among
 edge-to-requires-2 : tie.Need-edge-to-requires-2
 edge-to-requires-2 c κs = search left-among
 
-pub settled-spec : {M : Type 1} → statement M
-settled-spec =
+pub turned-record-spec : {M : Type 1} → statement M
+turned-record-spec =
     tie.close
     (tie.spec
     (λ c. search needs)

@@ -3,8 +3,8 @@ use Prim.Native.Nat.{_-_}
 use borrow.Author.Needs.{needs}
 use Rattle.cumulative.proofs.Filling.{RowPart, row-begins, row-goes-on, row-ends, first-place, cell-there, above-there, place-there, row-length}
 use Rattle.cumulative.proofs.Filling.{cell-fits, running-fits, number-fits}
-use Rattle.cumulative.proofs.rows.put_row.Statement.{statement}
-use Rattle.cumulative.proofs.rows.put_row.Tie as tie
+use Rattle.cumulative.proofs.rows.put_table_row.Statement.{statement}
+use Rattle.cumulative.proofs.rows.put_table_row.Tie as tie
 
 abbrev Inv-loop : tie.InvT-loop
 Inv-loop cells a table₀ row₀ b₀ table row b = RowPart cells table a b row
@@ -45,8 +45,8 @@ slice-write-table-2 c = search place-there
 same-length : tie.Need-same-length Inv-loop μ-loop
 same-length c = search row-length
 
-pub put-row-spec : {M : Type 1} → statement M
-put-row-spec =
+pub put-table-row-spec : {M : Type 1} → statement M
+put-table-row-spec =
     tie.close
     (tie.spec
     Inv-loop

@@ -3,8 +3,8 @@ use Prim.Native.Nat.{_-_}
 use borrow.Author.Needs.{needs}
 use Rattle.box_sums.proofs.Storing.{RowsTo, rows-begin, rows-go-on, rows-end, first-there, end-there, row-ready, row-width-fits, next-row-fits}
 use Rattle.box_sums.proofs.Storing.{rows-length}
-use Rattle.box_sums.proofs.pairs.put_rows.Statement.{statement}
-use Rattle.box_sums.proofs.pairs.put_rows.Tie as tie
+use Rattle.box_sums.proofs.pairs.put_box_rows.Statement.{statement}
+use Rattle.box_sums.proofs.pairs.put_box_rows.Tie as tie
 
 abbrev Inv-loop : tie.InvT-loop
 Inv-loop counts sums firsts ends n lows highs m boxes₀ at₀ j₀ boxes at j = RowsTo counts sums firsts ends n lows highs m boxes₀ boxes at j
@@ -27,14 +27,14 @@ mul-next c = search row-width-fits
 add-next : tie.Need-add-next Inv-loop μ-loop
 add-next c = search next-row-fits
 
-shared-slice-read-put-row : tie.Need-shared-slice-read-put-row Inv-loop μ-loop
-shared-slice-read-put-row c = search first-there
+shared-slice-read-put-box-row : tie.Need-shared-slice-read-put-box-row Inv-loop μ-loop
+shared-slice-read-put-box-row c = search first-there
 
-shared-slice-read-put-row-2 : tie.Need-shared-slice-read-put-row-2 Inv-loop μ-loop
-shared-slice-read-put-row-2 c = search end-there
+shared-slice-read-put-box-row-2 : tie.Need-shared-slice-read-put-box-row-2 Inv-loop μ-loop
+shared-slice-read-put-box-row-2 c = search end-there
 
-put-row-requires : tie.Need-put-row-requires Inv-loop μ-loop
-put-row-requires c κs =
+put-box-row-requires : tie.Need-put-box-row-requires Inv-loop μ-loop
+put-box-row-requires c κs =
     search (
       row-ready,
       c .before .before .before .loop-test .taken,
@@ -44,8 +44,8 @@ put-row-requires c κs =
 same-length : tie.Need-same-length Inv-loop μ-loop
 same-length c = search rows-length
 
-pub put-rows-spec : {M : Type 1} → statement M
-put-rows-spec =
+pub put-box-rows-spec : {M : Type 1} → statement M
+put-box-rows-spec =
     tie.close
     (tie.spec
     Inv-loop
@@ -54,10 +54,10 @@ put-rows-spec =
     mul-next
     add-next
     (λ c. search needs)
-    shared-slice-read-put-row
+    shared-slice-read-put-box-row
     (λ c. search needs)
-    shared-slice-read-put-row-2
-    put-row-requires
+    shared-slice-read-put-box-row-2
+    put-box-row-requires
     (λ c. search needs)
     (λ c. search needs)
     loop-again
