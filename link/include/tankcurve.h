@@ -39,7 +39,7 @@
  *   - dangling or misaligned pointers, and lengths that do not belong to their pointers;
  *   - a list that is written and overlaps another; lists that are only read may overlap;
  *   - lists that someone else writes, or reads while they are written, during the call;
- *   - the stack: on sheets of 1,024 samples and 512 points tankcurve_text took up to 49 KB, tankcurve_read_ranges less than 10 KB and tankcurve_read
+ *   - the stack: on sheets of 1,024 samples and 512 points tankcurve_text took less than 39 KB, tankcurve_read_ranges less than 10 KB and tankcurve_read
  *     less than 8 KB; tankcurve_biweight takes less than 6 KB, most of it for its table; tankcurve_boxes took 72,008 bytes on lists of the greatest
  *     lengths, most of them for two tables of 66 times 66 numbers; every other call takes under 1 KB;
  *   - the compiler's back end below the proof, memcpy and memset, which the archive takes from the host, the linker and the machine. The
