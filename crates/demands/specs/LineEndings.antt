@@ -11,7 +11,7 @@ use Rattle.meanings.specs.Bytes.{LineEnding}
 use Rattle.meanings.specs.Reports.{first-of, read-checks}
 use Rattle.meanings.specs.Sheet.{EvaluationPoint}
 use Rattle.meanings.specs.Sheet.{Injection, Outcome, or-next}
-use Rattle.meanings.specs.SheetForm.{Ended, said-by, print-sheet, contents-of, FitPoints, FitSamples}
+use Rattle.meanings.specs.SheetForm.{Ended, without-endings, print-sheet, contents-of, FitPoints, FitSamples}
 use Rattle.meanings.specs.FeedSheet.{read-feed-sheet, NoReturnFeed}
 use Rattle.meanings.specs.Output.{curve-text, outcome-text}
 use Rattle.meanings.specs.Calls.{parsing-answer, counts, read-minutes, read-values, read-evaluation-points, read-bandwidths, writing-answer}
@@ -37,9 +37,9 @@ abbrev pub written-before : List ℕ → List ℕ → Outcome
 written-before s out = or-next (buffer-refusal out) (read-feed-sheet full s)
 
 pub record LineEndings : Type 0 where
-  -- the lines ns and ks say the faultless ms and js, and each has its own ending, as have both names lines and the empty line
+  -- the lines ns and ks say the faultless ms and js, and each has its own ending, as have both header lines and the empty line
   pub any-endings : (ms : List EvaluationPoint) (js : List Injection) → FitPoints full ms → 1 ≤ length ms → FitSamples full js
-      → (e d f : LineEnding) (ns : List (Ended EvaluationPoint)) (ks : List (Ended Injection)) → said-by ns ≡ ms → said-by ks ≡ js
+      → (e d f : LineEnding) (ns : List (Ended EvaluationPoint)) (ks : List (Ended Injection)) → without-endings ns ≡ ms → without-endings ks ≡ js
       → length (print-sheet e ns d f ks) ≤ max-sheet → either-program (print-sheet e ns d f ks) ≡ curve-text (contents-of ms js)
   -- no carriage return stands directly before a line feed: the program, the reader, a sheet's text, and both calls for C and Rust; where a sheet with
   -- ranges is taken, of the others

@@ -18,7 +18,7 @@ use Rattle.meanings.specs.Moves.{moves}
 use Rattle.meanings.specs.Reports.{Fault, Answer, given, refused, Check, at, first-of, differ}
 use Rattle.meanings.specs.Reports as reports
 use Rattle.meanings.specs.Running.{fresh, passes}
-use Rattle.meanings.specs.SheetForm.{said-by, Each}
+use Rattle.meanings.specs.SheetForm.{without-endings, Each}
 use Rattle.meanings.specs.Claim.{refusal}
 use Rattle.meanings.specs.Output.{program}
 use Rattle.meanings.specs.Sheet.{Outcome, or-next, read-sheet}
@@ -421,7 +421,7 @@ module _ (s ts ls us vs zs hs : List ℕ) (a : RangeParsing) (b : Parsing) (ts�
 
 -- the plain sheet of a sheet whose ranges are one value each
 module _ (s : List ℕ) (c : RangeContents) (i : IsRangeSheet full s c) (ts ls us vs zs hs : List ℕ) (n m : ℕ) (k : Kind) (ts′ ls′ us′ zs′ hs′ : List ℕ)
-    (room : Roomy ts ls us zs hs) (even : length vs ≡ full .samples) (ends : Each EqualEnds (said-by (i .range-lines)))
+    (room : Roomy ts ls us zs hs) (even : length vs ≡ full .samples) (ends : Each EqualEnds (without-endings (i .range-lines)))
     (x : ReadRangesCall s ts ls us zs hs (Used n m k) ts′ ls′ us′ zs′ hs′) where
   filled-so : FilledIn c n m ts ls us zs hs ts′ ls′ us′ zs′ hs′
   filled-so =

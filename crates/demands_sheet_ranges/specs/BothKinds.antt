@@ -14,7 +14,7 @@ use Rattle.meanings.specs.declared.Smoothing.{Smoothing}
 use Rattle.meanings.specs.declared.Smoothing.the-variants.{Passes}
 use Rattle.meanings.specs.Limits.{full, row-width}
 use Rattle.meanings.specs.Reports.{Answer, given, refused}
-use Rattle.meanings.specs.SheetForm.{said-by, empty-front, Each}
+use Rattle.meanings.specs.SheetForm.{without-endings, empty-front, Each}
 use Rattle.meanings.specs.Output.{program}
 use Rattle.meanings.specs.Claim.{refusal}
 use Rattle.meanings.specs.Calls.{Counts, parsing-answer}
@@ -178,7 +178,7 @@ pub record BothKinds : Type 2 where
   -- a sheet with ranges of one value each is read as the plain sheet of the same lines with these values is
   pub equal-ends-as-plain : (s : List ℕ) (c : RangeContents) (i : IsRangeSheet full s c) (ts ls us vs zs hs : List ℕ) (n m : ℕ) (k : Kind)
       (ts′ ls′ us′ zs′ hs′ : List ℕ) (b : Parsing) (ts″ vs″ zs″ hs″ : List ℕ) → Roomy ts ls us zs hs → length vs ≡ full .samples
-      → Each EqualEnds (said-by (i .range-lines)) → ReadRangesCall s ts ls us zs hs (Used n m k) ts′ ls′ us′ zs′ hs′
+      → Each EqualEnds (without-endings (i .range-lines)) → ReadRangesCall s ts ls us zs hs (Used n m k) ts′ ls′ us′ zs′ hs′
       → ReadCall (low-sheet (i .front) (i .range-lines)) ts vs zs hs b ts″ vs″ zs″ hs″ → ReadAsPlain n m b ts′ ls′ us′ zs′ hs′ ts″ vs″ zs″ hs″
   -- worked cases
   pub cases : map (λ (c : SheetCase). sheet-result c) sheet-cases ≡ map (λ (c : SheetCase). c .expected) sheet-cases

@@ -10,7 +10,7 @@ use Rattle.meanings.specs.Limits.{full, max-u16, max-bandwidth}
 use Rattle.meanings.specs.Sheet.{EvaluationPoint}
 use Rattle.meanings.specs.Reports.{given}
 use Rattle.meanings.specs.Sheet.{Injection, Contents, read-sheet}
-use Rattle.meanings.specs.SheetForm.{said-by, kept-of, PointForm, SampleForm, Follows, Neighbours, Each, BandwidthRange, FitPoints}
+use Rattle.meanings.specs.SheetForm.{without-endings, kept-of, PointForm, SampleForm, Follows, Neighbours, Each, BandwidthRange, FitPoints}
 use Rattle.meanings.specs.SheetForm.{MinuteOrder, FitSamples}
 use Rattle.meanings.proofs.Checks.{steps-ordered}
 use Rattle.laws_sheet.proofs.LineOrder.{minutes-of, values-of, points-of, bandwidths-of}
@@ -110,4 +110,4 @@ pub accepted-contents : (s : List ℕ) (c : Contents) → read-sheet full s ≡ 
 accepted-contents s c e =
     let i = read-is-printed full s c e in
     rw (← i .points, ← i .bandwidths, ← i .minutes, ← i .values) at
-    (fit-lines-give (said-by (i .point-lines)) (said-by (i .sample-lines)) (i .some-point) (i .fit-points) (i .fit-samples))
+    (fit-lines-give (without-endings (i .point-lines)) (without-endings (i .sample-lines)) (i .some-point) (i .fit-points) (i .fit-samples))

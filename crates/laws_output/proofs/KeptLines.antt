@@ -13,7 +13,7 @@ use Rattle.meanings.specs.Bytes.{LineEnding}
 use Rattle.meanings.specs.Sheet.{EvaluationPoint}
 use Rattle.meanings.specs.Reports.{given}
 use Rattle.meanings.specs.Sheet.{Injection, kept, Contents, read-sheet}
-use Rattle.meanings.specs.SheetForm.{Ended, said-by, print-sheet, kept-of, Each}
+use Rattle.meanings.specs.SheetForm.{Ended, without-endings, print-sheet, kept-of, Each}
 use Rattle.laws_sheet.proofs.LineOrder.{minutes-of, values-of}
 use Rattle.laws_sheet.proofs.Outcomes.{read-is-printed}
 
@@ -64,15 +64,15 @@ pub record KeptReadings (s : List ℕ) (c : Contents) : Type 0 where
   pub second-header-ending : LineEnding
   pub reading-lines : List (Ended Injection)
   pub printed : s ≡ print-sheet header-ending mark-lines empty-line-ending second-header-ending reading-lines
-  pub minutes : c .minutes ≡ minutes-of (kept-of (said-by reading-lines))
-  pub values : c .values ≡ values-of (kept-of (said-by reading-lines))
-  pub only : Each OverTwo (kept-of (said-by reading-lines))
-  pub all : length (c .minutes) ≡ over-two (said-by reading-lines)
+  pub minutes : c .minutes ≡ minutes-of (kept-of (without-endings reading-lines))
+  pub values : c .values ≡ values-of (kept-of (without-endings reading-lines))
+  pub only : Each OverTwo (kept-of (without-endings reading-lines))
+  pub all : length (c .minutes) ≡ over-two (without-endings reading-lines)
 
 pub kept-are-those-over-two : (s : List ℕ) (c : Contents) → read-sheet full s ≡ given c → KeptReadings s c
 kept-are-those-over-two s c e =
     let i = read-is-printed full s c e in
-    let js = said-by (i .sample-lines) in
+    let js = without-endings (i .sample-lines) in
     record {
       header-ending = i .header-ending;
       mark-lines = i .point-lines;

@@ -11,7 +11,7 @@ use Rattle.meanings.specs.Bytes.{ending-bytes}
 use Rattle.meanings.specs.Sheet.{EvaluationPoint}
 use Rattle.meanings.specs.Reports.{Fault, refused}
 use Rattle.meanings.specs.Sheet.{Injection, read-sheet}
-use Rattle.meanings.specs.SheetForm.{said-by, print-point, print-sample, point-head, print-front, empty-front, print-sheet}
+use Rattle.meanings.specs.SheetForm.{without-endings, print-point, print-sample, point-head, print-front, empty-front, print-sheet}
 use Rattle.meanings.specs.SheetForm.{PointFault, SampleFault, Refused, too-long, no-point-header, no-empty-line}
 use Rattle.meanings.specs.SheetForm.{malformed-point, faulty-point, no-point, no-sample-header, malformed-sample, faulty-sample}
 use Rattle.meanings.specs.Output.{refusal-text}
@@ -45,7 +45,7 @@ fault-small L s n p (malformed-point l e ms f b rest q c w) =
 fault-small L s n p (faulty-point l e ms f m k b x) =
     let q = front-small s (print-front e ms ++ print-point m) (b .0) l (b .1) in
     record {
-      number-small = point-fault-small L (said-by ms) (m .says) n x;
+      number-small = point-fault-small L (without-endings ms) (m .content) n x;
       place-small = omega (arith, length-append (print-front e ms) (print-point m));
     }
 fault-small L s n p (no-point l e d b) =
@@ -58,7 +58,7 @@ fault-small L s n p (malformed-sample l e ms fit o d f js g b rest q w) =
 fault-small L s n p (faulty-sample l e ms fit o d f js g j k b x) =
     let q = front-small s (print-sheet e ms d f js ++ print-sample j) (b .0) l (b .1) in
     record {
-      number-small = sample-fault-small L (said-by js) (j .says) n x;
+      number-small = sample-fault-small L (without-endings js) (j .content) n x;
       place-small = omega (arith, length-append (print-sheet e ms d f js) (print-sample j));
     }
 

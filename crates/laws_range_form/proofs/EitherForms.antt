@@ -9,7 +9,7 @@ use lib.ListN.{length, length-append}
 use Rattle.meanings.specs.declared.Limits.{Limits}
 use Rattle.meanings.specs.Reports.{Fault, Answer, given, refused}
 use Rattle.meanings.specs.Sheet.{Contents, Outcome, lines, refused-at, read-sheet}
-use Rattle.meanings.specs.SheetForm.{Ended, said-by}
+use Rattle.meanings.specs.SheetForm.{Ended, without-endings}
 use Rattle.laws_sheet.proofs.Printed.{printed-is-read, refused-only}
 use Rattle.laws_sheet.proofs.Outcomes.{read-is-printed, refused-is-refused}
 use Rattle.meanings_ranges.specs.RangeSheet.{RangeInjection, Readings, RangeContents, range-contents, read-either}
@@ -29,8 +29,8 @@ module _ (L : Limits) (s : List ℕ) where
   contents-then n r = given (range-contents Ranges (front-of L s n) r)
 
   -- the reader after the faultless reading lines js of a sheet of ranges
-  at-ranges : (n : NamesRanges L s) (js : List (Ended RangeInjection)) (r : List ℕ) → FitRanges L (said-by js) → n .behind ≡ print-ranges js ++ r
-      → read-either L s ≡ after-ranges L (contents-then n) (length (printed-to n js)) (said-by js) (lines r)
+  at-ranges : (n : NamesRanges L s) (js : List (Ended RangeInjection)) (r : List ℕ) → FitRanges L (without-endings js) → n .behind ≡ print-ranges js ++ r
+      → read-either L s ≡ after-ranges L (contents-then n) (length (printed-to n js)) (without-endings js) (lines r)
   at-ranges n js r f q =
       let front = range-front (n .header-ending) (n .point-lines) (n .empty-line-ending) (n .range-header-ending) in
       let p : length (printed-to n []) + length (print-ranges js) ≡ length (printed-to n js) =
@@ -38,7 +38,7 @@ module _ (L : Limits) (s : List ℕ) where
       named-read L s n
       ∙ ap (λ (t : List ℕ). after-ranges L (contents-then n) (length (printed-to n [])) [] (lines t)) q
       ∙ ranges-passed L (contents-then n) (length (printed-to n [])) [] js r (f .forms) (f .order) (f .uncrossed) (f .few)
-      ∙ ap (λ (p : ℕ). after-ranges L (contents-then n) p (said-by js) (lines r)) p
+      ∙ ap (λ (p : ℕ). after-ranges L (contents-then n) p (without-endings js) (lines r)) p
 
   range-printed-is-read : (c : RangeContents) → IsRangeSheet L s c → read-either L s ≡ given c
   range-printed-is-read c i =
@@ -47,17 +47,17 @@ module _ (L : Limits) (s : List ℕ) where
 
   range-refused-only : (n : NamesRanges L s) (r p : ℕ) → RangeRefused L s n r p → read-either L s ≡ refused (record { number = r; place = p })
   range-refused-only n r p (malformed-range js f b rest q w) =
-      at-ranges n js (b ∷ rest) f q ∙ no-range-refused L (contents-then n) _ (said-by js) b rest w
+      at-ranges n js (b ∷ rest) f q ∙ no-range-refused L (contents-then n) _ (without-endings js) b rest w
   range-refused-only n r p (faulty-range js f j k b x) =
       at-ranges n js (print-range j ++ b .0) f (b .1 ∙ append-assoc (print-ranges js) (print-range j) (b .0))
-      ∙ faulty-range-refused L (contents-then n) _ (said-by js) j (b .0) _ k (check-of-fault L _ (said-by js) (j .says) x)
+      ∙ faulty-range-refused L (contents-then n) _ (without-endings js) j (b .0) _ k (check-of-fault L _ (without-endings js) (j .content) x)
 
   -- a reading line is not refused with 2
   never-two : (n : NamesRanges L s) (r p : ℕ) → RangeRefused L s n r p → ¬ (r ≡ 2)
   never-two n r p (malformed-range js f b rest q w) e = omega arith
   never-two n r p (faulty-range js f j k b x) e = by r x e
     where
-      by : (r : ℕ) → RangeFault L (said-by js) (j .says) r → ¬ (r ≡ 2)
+      by : (r : ℕ) → RangeFault L (without-endings js) (j .content) r → ¬ (r ≡ 2)
       by r (RangeFault.out-of-order before j₀ q l) e = omega arith
       by r (RangeFault.crossed o l) e = omega arith
       by r (RangeFault.too-many o u k l) e = omega arith

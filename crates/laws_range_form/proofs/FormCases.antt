@@ -16,13 +16,13 @@ use Rattle.laws_range_form.specs.RangeForm.{for-a-range}
 use Rattle.laws_range_form.proofs.EitherForms.{read-is-refused-form}
 
 mark-line : ℕ → ℕ → Ended EvaluationPoint
-mark-line z h = record { says = record { point = z; bandwidth = h }; ending = feed }
+mark-line z h = record { content = record { point = z; bandwidth = h }; ending = feed }
 
 reading : ℕ → ℕ → ℕ → ℕ → RangeInjection
 reading t j l u = record { minute = t; injection = j; low = l; high = u }
 
 range : ℕ → ℕ → ℕ → ℕ → Ended RangeInjection
-range t j l u = record { says = reading t j l u; ending = feed }
+range t j l u = record { content = reading t j l u; ending = feed }
 
 abbrev pub whole-contents : RangeContents
 whole-contents = record {
@@ -53,7 +53,7 @@ whole-sheet-is-range-sheet = record {
     fit-points = omega arith;
   };
   range-lines = range 10 3 40 40
-      ∷ record { says = reading 12 1 900 900; ending = return-feed }
+      ∷ record { content = reading 12 1 900 900; ending = return-feed }
       ∷ range 14 2 400 400
       ∷ range 20 3 0 60
       ∷ range 20 4 80 80

@@ -11,7 +11,7 @@ use Rattle.meanings.specs.Lists.{pick}
 use Rattle.meanings.specs.Limits.{max-sheet}
 use Rattle.meanings.specs.Bytes.{ending-bytes, sample-header}
 use Rattle.meanings.specs.Sheet.{Injection}
-use Rattle.meanings.specs.SheetForm.{Ended, said-by, sample-text, print-sample, print-samples, empty-front, kept-of, SampleForm, Neighbours, Each}
+use Rattle.meanings.specs.SheetForm.{Ended, without-endings, sample-text, print-sample, print-samples, empty-front, kept-of, SampleForm, Neighbours, Each}
 use Rattle.meanings.specs.SheetForm.{IsSheet}
 use Rattle.meanings.specs.SheetForm as plain
 use Rattle.meanings_ranges.specs.RangeSheet.{range-header, RangeInjection, kept-range, RangeContents}
@@ -28,15 +28,15 @@ text-shorter j = simp length-append (omega arith)
 lines-shorter : (js : List (Ended RangeInjection)) → length (print-samples (low-lines js)) ≤ length (print-ranges js)
 lines-shorter [] = omega arith
 lines-shorter (l ∷ js) =
-    let t = text-shorter (l .says) in
+    let t = text-shorter (l .content) in
     let r = lines-shorter js in
     let a = length-append (print-sample (low-line l)) (print-samples (low-lines js)) in
-    let b = length-append (sample-text (low-line l .says)) (ending-bytes (l .ending)) in
+    let b = length-append (sample-text (low-line l .content)) (ending-bytes (l .ending)) in
     let c = length-append (print-range l) (print-ranges js) in
-    let d = length-append (range-text (l .says)) (ending-bytes (l .ending)) in
+    let d = length-append (range-text (l .content)) (ending-bytes (l .ending)) in
     omega arith
 
-forms : (js : List (Ended RangeInjection)) → Each RangeForm (said-by js) → Each SampleForm (said-by (low-lines js))
+forms : (js : List (Ended RangeInjection)) → Each RangeForm (without-endings js) → Each SampleForm (without-endings (low-lines js))
 forms [] f = tt
 forms (l ∷ js) f = (
   record {
@@ -48,7 +48,7 @@ forms (l ∷ js) f = (
   forms js (f .1),
 )
 
-order : (js : List (Ended RangeInjection)) → Neighbours MinuteOrder (said-by js) → Neighbours plain.MinuteOrder (said-by (low-lines js))
+order : (js : List (Ended RangeInjection)) → Neighbours MinuteOrder (without-endings js) → Neighbours plain.MinuteOrder (without-endings (low-lines js))
 order [] n = tt
 order (a ∷ []) n = tt
 order (a ∷ b ∷ js) n = (n .0, order (b ∷ js) (n .1))
@@ -56,29 +56,29 @@ order (a ∷ b ∷ js) n = (n .0, order (b ∷ js) (n .1))
 -- what is taken of the kept readings
 kept : {A : Type 0} (g : Injection → A) (h : RangeInjection → A)
     → ((j : RangeInjection) → g (record { minute = j .minute; injection = j .injection; value = j .low }) ≡ h j) → (js : List (Ended RangeInjection))
-    → map g (kept-of (said-by (low-lines js))) ≡ map h (kept-ranges (said-by js))
+    → map g (kept-of (without-endings (low-lines js))) ≡ map h (kept-ranges (without-endings js))
 kept g h e [] = refl
-kept {A} g h e (l ∷ js) = by (kept-range (l .says)) (kept g h e js)
+kept {A} g h e (l ∷ js) = by (kept-range (l .content)) (kept g h e js)
   where
     j : Injection
-    j = record { minute = l .says .minute; injection = l .says .injection; value = l .says .low }
+    j = record { minute = l .content .minute; injection = l .content .injection; value = l .content .low }
 
-    by : (b : Bool) → map g (kept-of (said-by (low-lines js))) ≡ map h (kept-ranges (said-by js))
-        → map g (pick b (j ∷ kept-of (said-by (low-lines js))) (kept-of (said-by (low-lines js))))
-        ≡ map h (pick b (l .says ∷ kept-ranges (said-by js)) (kept-ranges (said-by js)))
-    by true r = ap (λ (x : A). x ∷ map g (kept-of (said-by (low-lines js)))) (e (l .says)) ∙ ap (λ (t : List A). h (l .says) ∷ t) r
+    by : (b : Bool) → map g (kept-of (without-endings (low-lines js))) ≡ map h (kept-ranges (without-endings js))
+        → map g (pick b (j ∷ kept-of (without-endings (low-lines js))) (kept-of (without-endings (low-lines js))))
+        ≡ map h (pick b (l .content ∷ kept-ranges (without-endings js)) (kept-ranges (without-endings js)))
+    by true r = ap (λ (x : A). x ∷ map g (kept-of (without-endings (low-lines js)))) (e (l .content)) ∙ ap (λ (t : List A). h (l .content) ∷ t) r
     by false r = r
 
-kept-count : (js : List (Ended RangeInjection)) → length (kept-of (said-by (low-lines js))) ≡ length (kept-ranges (said-by js))
+kept-count : (js : List (Ended RangeInjection)) → length (kept-of (without-endings (low-lines js))) ≡ length (kept-ranges (without-endings js))
 kept-count [] = refl
-kept-count (l ∷ js) = by (kept-range (l .says)) (kept-count js)
+kept-count (l ∷ js) = by (kept-range (l .content)) (kept-count js)
   where
     j : Injection
-    j = record { minute = l .says .minute; injection = l .says .injection; value = l .says .low }
+    j = record { minute = l .content .minute; injection = l .content .injection; value = l .content .low }
 
-    by : (b : Bool) → length (kept-of (said-by (low-lines js))) ≡ length (kept-ranges (said-by js))
-        → length (pick b (j ∷ kept-of (said-by (low-lines js))) (kept-of (said-by (low-lines js))))
-        ≡ length (pick b (l .says ∷ kept-ranges (said-by js)) (kept-ranges (said-by js)))
+    by : (b : Bool) → length (kept-of (without-endings (low-lines js))) ≡ length (kept-ranges (without-endings js))
+        → length (pick b (j ∷ kept-of (without-endings (low-lines js))) (kept-of (without-endings (low-lines js))))
+        ≡ length (pick b (l .content ∷ kept-ranges (without-endings js)) (kept-ranges (without-endings js)))
     by true r = omega arith
     by false r = r
 
@@ -125,8 +125,8 @@ low-sheet-is-sheet L s c i =
     }
 
 -- ranges of one value each
-pub equal-ends : (L : Limits) (s : List ℕ) (c : RangeContents) (i : IsRangeSheet L s c) → Each EqualEnds (said-by (i .range-lines)) → c .lows ≡ c .highs
-equal-ends L s c i e = i .lows ∙ by (said-by (i .range-lines)) e ∙ sym (i .highs)
+pub equal-ends : (L : Limits) (s : List ℕ) (c : RangeContents) (i : IsRangeSheet L s c) → Each EqualEnds (without-endings (i .range-lines)) → c .lows ≡ c .highs
+equal-ends L s c i e = i .lows ∙ by (without-endings (i .range-lines)) e ∙ sym (i .highs)
   where
     by : (js : List RangeInjection) → Each EqualEnds js
         → map (λ (j : RangeInjection). j .low) (kept-ranges js) ≡ map (λ (j : RangeInjection). j .high) (kept-ranges js)

@@ -16,7 +16,7 @@ use Rattle.meanings.specs.Limits.{max-sheet}
 use Rattle.meanings.specs.Bytes.{LineEnding, ending-bytes, point-header}
 use Rattle.meanings.specs.Reports.{Fault, Answer, given, refused, first-of}
 use Rattle.meanings.specs.Sheet.{EvaluationPoint, Lines, end, unended, line, lines, next-place, same, point-line, point-checks, header, refused-at, read-sheet}
-use Rattle.meanings.specs.SheetForm.{Ended, said-by, point-text, print-point, print-points, point-head, print-front, empty-front, PointForm, Follows}
+use Rattle.meanings.specs.SheetForm.{Ended, without-endings, point-text, print-point, print-points, point-head, print-front, empty-front, PointForm, Follows}
 use Rattle.meanings.specs.SheetForm.{Neighbours, Each, BandwidthRange, FitPoints, Begins, PointFault, SampleFault, Refused, too-long, no-point-header}
 use Rattle.meanings.specs.SheetForm.{no-empty-line, malformed-point, faulty-point, no-point, no-sample-header, malformed-sample, faulty-sample}
 use Rattle.meanings.specs.Sheet.{Injection}
@@ -51,28 +51,33 @@ module _ {A : Type 0} (L : Limits) (next : Front → Answer A) where
   one-point p ms (b ∷ t) d m ls e f =
       rw (e, f, map-append (λ (m : EvaluationPoint). m .point) ms (m ∷ []), map-append (λ (m : EvaluationPoint). m .bandwidth) ms (m ∷ []))
 
-  points-passed : (p : ℕ) (ms : List EvaluationPoint) (ns : List (Ended EvaluationPoint)) (s : List ℕ) → Each PointForm (said-by ns)
-      → Each BandwidthRange (said-by ns) → Neighbours Follows (ms ++ said-by ns) → length (ms ++ said-by ns) ≤ L .points
-      → after-marks p ms (lines (print-points ns ++ s)) ≡ after-marks (p + length (print-points ns)) (ms ++ said-by ns) (lines s)
+  points-passed : (p : ℕ) (ms : List EvaluationPoint) (ns : List (Ended EvaluationPoint)) (s : List ℕ) → Each PointForm (without-endings ns)
+      → Each BandwidthRange (without-endings ns) → Neighbours Follows (ms ++ without-endings ns) → length (ms ++ without-endings ns) ≤ L .points
+      → after-marks p ms (lines (print-points ns ++ s)) ≡ after-marks (p + length (print-points ns)) (ms ++ without-endings ns) (lines s)
   points-passed p ms [] s f r n few = let e : p + 0 ≡ p = omega arith in rw (append-nil ms, e)
   points-passed p ms (l ∷ ns) s f r n few =
-      let m = l .says in
+      let m = l .content in
       let t = point-text m in
       let q = next-place p t (l .ending) in
-      let e : (ms ++ m ∷ []) ++ said-by ns ≡ ms ++ m ∷ said-by ns = append-assoc ms (m ∷ []) (said-by ns) in
+      let e : (ms ++ m ∷ []) ++ without-endings ns ≡ ms ++ m ∷ without-endings ns = append-assoc ms (m ∷ []) (without-endings ns) in
       ap (λ (t : List ℕ). after-marks p ms (lines t)) (append-assoc (print-point l) (print-points ns) s)
       ∙ ap (after-marks p ms) (lines-of-point l (print-points ns ++ s))
       ∙ one-point p ms t (l .ending) m (lines (print-points ns ++ s)) (point-line-of-text m (f .0))
-      (point-checks-none L p ms m (said-by ns) n (r .0) few)
+      (point-checks-none L p ms m (without-endings ns) n (r .0) few)
       ∙ points-passed q (ms ++ m ∷ []) ns s (f .1) (r .1) (rw e n) (rw e few)
       ∙ ap (λ (t : List EvaluationPoint). after-marks (q + length (print-points ns)) t (lines s)) e
-      ∙ ap (λ (q : ℕ). after-marks q (ms ++ m ∷ said-by ns) (lines s)) (line-length p t (l .ending) (print-points ns))
+      ∙ ap (λ (q : ℕ). after-marks q (ms ++ m ∷ without-endings ns) (lines s)) (line-length p t (l .ending) (print-points ns))
 
   -- the header line, the mark lines and the empty line
   pub front-passed : (s : List ℕ) (e : LineEnding) (ms : List (Ended EvaluationPoint)) (d : LineEnding) (r : List ℕ) → length s ≤ max-sheet
-      → FitPoints L (said-by ms) → 1 ≤ length (said-by ms) → s ≡ empty-front e ms d ++ r
+      → FitPoints L (without-endings ms) → 1 ≤ length (without-endings ms) → s ≡ empty-front e ms d ++ r
       → sheet-front L s next
-      ≡ next (record { place = length (empty-front e ms d); rest = lines r; points = points-of (said-by ms); bandwidths = bandwidths-of (said-by ms) })
+      ≡ next (record {
+        place = length (empty-front e ms d);
+        rest = lines r;
+        points = points-of (without-endings ms);
+        bandwidths = bandwidths-of (without-endings ms);
+      })
   unfolding sheet-front
   front-passed s e ms d r l f o h =
       let front = print-front e ms in
@@ -84,11 +89,11 @@ module _ {A : Type 0} (L : Limits) (next : Front → Answer A) where
       let named : lines s ≡ line point-header e (lines (print-points ms ++ rest)) = ap lines cut ∙ point-header-line e (print-points ms ++ rest) in
       rw (le-ltb max-sheet (length s) l, named)
       (points-passed (next-place 0 point-header e) [] ms rest (f .forms) (f .ranges) (f .order) (f .few)
-      ∙ ap (λ (p : ℕ). after-marks p (said-by ms) (lines rest)) (line-length 0 point-header e (print-points ms) ∙ zero-add _)
+      ∙ ap (λ (p : ℕ). after-marks p (without-endings ms) (lines rest)) (line-length 0 point-header e (print-points ms) ∙ zero-add _)
       ∙ rw (
         lines-of-ending d r,
-        length-map (said-by ms) (λ (m : EvaluationPoint). m .point),
-        ne-eqb (length (said-by ms)) 0 (λ e. omega arith),
+        length-map (without-endings ms) (λ (m : EvaluationPoint). m .point),
+        ne-eqb (length (without-endings ms)) 0 (λ e. omega arith),
         q,
       ))
 
@@ -106,8 +111,8 @@ module _ (L : Limits) (s : List ℕ) where
   front-of n = record {
     place = length (empty-front (n .header-ending) (n .point-lines) (n .empty-line-ending));
     rest = lines (range-head (n .range-header-ending) ++ n .behind);
-    points = points-of (said-by (n .point-lines));
-    bandwidths = bandwidths-of (said-by (n .point-lines));
+    points = points-of (without-endings (n .point-lines));
+    bandwidths = bandwidths-of (without-endings (n .point-lines));
   }
 
   pub named-then : {A : Type 0} (n : NamesRanges L s) (next : Front → Answer A) → sheet-front L s next ≡ next (front-of n)
@@ -180,13 +185,18 @@ module _ (L : Limits) (s : List ℕ) where
   pub names-of : (w : RangesNamed L s) → read-sheet L s ≡ refused-at (w .front .place) 2 → NamesRanges L s
   names-of w h = by 2 (w .front .place) (refused-is-refused L s 2 (w .front .place) h) refl
     where
-      here : (e : LineEnding) (ms : List (Ended EvaluationPoint)) (d : LineEnding) (rest : List ℕ) → length s ≤ max-sheet → FitPoints L (said-by ms)
-          → 1 ≤ length (said-by ms) → s ≡ empty-front e ms d ++ rest → NamesRanges L s
+      here : (e : LineEnding) (ms : List (Ended EvaluationPoint)) (d : LineEnding) (rest : List ℕ) → length s ≤ max-sheet → FitPoints L (without-endings ms)
+          → 1 ≤ length (without-endings ms) → s ≡ empty-front e ms d ++ rest → NamesRanges L s
       here e ms d rest l f o q =
           let same-front = sym (w .before) ∙ front-passed L given s e ms d rest l f o q in
           let g : lines rest ≡ w .front .rest =
           ap (λ (a : Front). a .rest)
-          (let k : record { place = length (empty-front e ms d); rest = lines rest; points = points-of (said-by ms); bandwidths = bandwidths-of (said-by ms) }
+          (let k : record {
+            place = length (empty-front e ms d);
+            rest = lines rest;
+            points = points-of (without-endings ms);
+            bandwidths = bandwidths-of (without-endings ms);
+          }
           ≡ w .front = cc in k) in
           let i = first-line rest range-header (w .ending) (w .behind) (g ∙ w .named) in
           record {

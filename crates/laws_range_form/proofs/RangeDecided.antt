@@ -10,7 +10,7 @@ use Rattle.meanings.specs.declared.Limits.{Limits}
 use Rattle.meanings.specs.Bytes.{LineEnding}
 use Rattle.meanings.specs.Reports.{Fault, first-of}
 use Rattle.meanings.specs.Sheet.{Lines, end, unended, line, lines}
-use Rattle.meanings.specs.SheetForm.{Ended, said-by}
+use Rattle.meanings.specs.SheetForm.{Ended, without-endings}
 use Rattle.laws_text.proofs.Texts.{no-lines}
 use Rattle.laws_sheet.proofs.LineOrder.{points-of, bandwidths-of}
 use Rattle.meanings_ranges.specs.declared.Kind.the-variants.{Ranges}
@@ -36,45 +36,47 @@ one-more s js j r e =
 
 module _ (L : Limits) (s : List ℕ) (n : NamesRanges L s) where
   -- after the reading lines js, with the line t next and the lines after it decided
-  line-decided : (js : List (Ended RangeInjection)) (b : ℕ) (rest t : List ℕ) (i : LineEnding) (ls : Lines) → FitRanges L (said-by js)
+  line-decided : (js : List (Ended RangeInjection)) (b : ℕ) (rest t : List ℕ) (i : LineEnding) (ls : Lines) → FitRanges L (without-endings js)
       → n .behind ≡ print-ranges js ++ b ∷ rest → lines (b ∷ rest) ≡ line t i ls
-      → ((j : Ended RangeInjection) (r : List ℕ) → FitRanges L (said-by (js ++ j ∷ [])) → n .behind ≡ print-ranges (js ++ j ∷ []) ++ r → lines r ≡ ls
+      → ((j : Ended RangeInjection) (r : List ℕ) → FitRanges L (without-endings (js ++ j ∷ [])) → n .behind ≡ print-ranges (js ++ j ∷ []) ++ r → lines r ≡ ls
       → RangeDecided L s n)
       → RangeDecided L s n
   line-decided js b rest t i ls g q h k = by (range-line t) refl
     where
       checked : (j : RangeInjection) → range-line t ≡ some j → (x : Option Fault)
-          → first-of (reading-checks L 0 (minutes-of (said-by js)) (length (minutes-of (kept-ranges (said-by js)))) j) ≡ x → RangeDecided L s n
+          → first-of (reading-checks L 0 (minutes-of (without-endings js)) (length (minutes-of (kept-ranges (without-endings js)))) j) ≡ x → RangeDecided L s n
       checked j y none c =
           let a = range-begins (b ∷ rest) t i ls j h y in
-          let l : Ended RangeInjection = record { says = j; ending = i } in
-          k l (a .1 .0) (rw (map-append (λ (l : Ended RangeInjection). l .says) js (l ∷ [])) (range-fits L 0 (said-by js) j g (a .0) c))
+          let l : Ended RangeInjection = record { content = j; ending = i } in
+          k l (a .1 .0) (rw (map-append (λ (l : Ended RangeInjection). l .content) js (l ∷ [])) (range-fits L 0 (without-endings js) j g (a .0) c))
           (one-more (n .behind) js l (a .1 .0) (q ∙ ap (λ (r : List ℕ). print-ranges js ++ r) (a .1 .1 .0)))
           (a .1 .1 .1)
       checked j y (some x) c =
           let a = range-begins (b ∷ rest) t i ls j h y in
-          let l : Ended RangeInjection = record { says = j; ending = i } in
+          let l : Ended RangeInjection = record { content = j; ending = i } in
           faulted _ _
           (faulty-range js g l (a .0) (
             a .1 .0,
             q ∙ ap (λ (r : List ℕ). print-ranges js ++ r) (a .1 .1 .0) ∙ sym (append-assoc (print-ranges js) (print-range l) (a .1 .0)),
-          ) (fault-of-check L 0 (said-by js) j x (g .order) c))
+          ) (fault-of-check L 0 (without-endings js) j x (g .order) c))
 
       by : (x : Option RangeInjection) → range-line t ≡ x → RangeDecided L s n
       by none y = faulted _ _ (malformed-range js g b rest q (unread-no-range (b ∷ rest) t i ls h y))
-      by (some j) y = checked j y (first-of (reading-checks L 0 (minutes-of (said-by js)) (length (minutes-of (kept-ranges (said-by js)))) j)) refl
+      by (some j) y =
+          checked j y
+          (first-of (reading-checks L 0 (minutes-of (without-endings js)) (length (minutes-of (kept-ranges (without-endings js)))) j)) refl
 
-  lines-decided : (js : List (Ended RangeInjection)) (ls : Lines) (r : List ℕ) → FitRanges L (said-by js) → n .behind ≡ print-ranges js ++ r
+  lines-decided : (js : List (Ended RangeInjection)) (ls : Lines) (r : List ℕ) → FitRanges L (without-endings js) → n .behind ≡ print-ranges js ++ r
       → lines r ≡ ls → RangeDecided L s n
   lines-decided js end r g q h =
       accepted
       (record {
         kind = Ranges;
-        minutes = minutes-of (kept-ranges (said-by js));
-        lows = lows-of (kept-ranges (said-by js));
-        highs = highs-of (kept-ranges (said-by js));
-        points = points-of (said-by (n .point-lines));
-        bandwidths = bandwidths-of (said-by (n .point-lines));
+        minutes = minutes-of (kept-ranges (without-endings js));
+        lows = lows-of (kept-ranges (without-endings js));
+        highs = highs-of (kept-ranges (without-endings js));
+        points = points-of (without-endings (n .point-lines));
+        bandwidths = bandwidths-of (without-endings (n .point-lines));
       })
       (record {
         front = n;

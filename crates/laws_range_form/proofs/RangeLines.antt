@@ -118,29 +118,29 @@ range-line-text t j e = by (parts t) refl e
     by (a ∷ b ∷ c ∷ d ∷ f ∷ r) g e = let z : _≡_ {A = ℕ} 0 1 = cc in absurd (omega arith)
 
 -- the lines of bytes that begin with a printed line
-pub lines-of-range : (j : Ended RangeInjection) (s : List ℕ) → lines (print-range j ++ s) ≡ line (range-text (j .says)) (j .ending) (lines s)
+pub lines-of-range : (j : Ended RangeInjection) (s : List ℕ) → lines (print-range j ++ s) ≡ line (range-text (j .content)) (j .ending) (lines s)
 lines-of-range j s =
-    ap lines (append-assoc (range-text (j .says)) (ending-bytes (j .ending)) s)
-    ∙ lines-of-line (range-text (j .says)) (j .ending) s (range-text-plain (j .says))
+    ap lines (append-assoc (range-text (j .content)) (ending-bytes (j .ending)) s)
+    ∙ lines-of-line (range-text (j .content)) (j .ending) s (range-text-plain (j .content))
 
 -- bytes without a line ending do not begin with a printed line
-pub no-range-begins : (s t : List ℕ) → lines s ≡ unended t → (j : Ended RangeInjection) → RangeForm (j .says) → ¬ Begins (print-range j) s
+pub no-range-begins : (s t : List ℕ) → lines s ≡ unended t → (j : Ended RangeInjection) → RangeForm (j .content) → ¬ Begins (print-range j) s
 no-range-begins s t e j f b =
     let p = sym e ∙ ap lines (b .1) ∙ lines-of-range j (b .0) in let z : _≡_ {A = ℕ} 0 1 = cc in omega arith
 
 -- and none begins where the first line is none
 pub unread-no-range : (s t : List ℕ) (e : LineEnding) (ls : Lines) → lines s ≡ line t e ls → range-line t ≡ none → (j : Ended RangeInjection)
-    → RangeForm (j .says) → ¬ Begins (print-range j) s
+    → RangeForm (j .content) → ¬ Begins (print-range j) s
 unread-no-range s t e ls g n j f b =
     let p = sym g ∙ ap lines (b .1) ∙ lines-of-range j (b .0) in
-    let q : t ≡ range-text (j .says) = cc in
-    let o = sym n ∙ ap range-line q ∙ range-line-of-text (j .says) f in
+    let q : t ≡ range-text (j .content) = cc in
+    let o = sym n ∙ ap range-line q ∙ range-line-of-text (j .content) f in
     let z : _≡_ {A = ℕ} 0 1 = cc in
     omega arith
 
 -- a line that is read as a reading is the reading's line
 pub range-begins : (s t : List ℕ) (e : LineEnding) (ls : Lines) (j : RangeInjection) → lines s ≡ line t e ls → range-line t ≡ some j
-    → RangeForm j × ((r : List ℕ) × ((s ≡ print-range (record { says = j; ending = e }) ++ r) × (lines r ≡ ls)))
+    → RangeForm j × ((r : List ℕ) × ((s ≡ print-range (record { content = j; ending = e }) ++ r) × (lines r ≡ ls)))
 range-begins s t e ls j g h =
     let i = first-line s t e ls g in
     let w = range-line-text t j h in

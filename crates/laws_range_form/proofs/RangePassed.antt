@@ -10,7 +10,7 @@ use Rattle.meanings.specs.declared.Limits.{Limits}
 use Rattle.meanings.specs.Bytes.{LineEnding, ending-bytes}
 use Rattle.meanings.specs.Reports.{Fault, Answer, refused, first-of}
 use Rattle.meanings.specs.Sheet.{Lines, end, unended, line, lines, next-place, refused-at}
-use Rattle.meanings.specs.SheetForm.{Ended, said-by, Neighbours, Each, Begins}
+use Rattle.meanings.specs.SheetForm.{Ended, without-endings, Neighbours, Each, Begins}
 use Rattle.laws_text.proofs.Texts.{no-lines}
 use Rattle.meanings_ranges.specs.declared.Kind.the-variants.{Ranges}
 use Rattle.meanings_ranges.specs.RangeSheet.{RangeInjection, range-line, reading-checks, Readings, with-line, with-reading, read-readings}
@@ -35,25 +35,25 @@ module _ {A : Type 0} (L : Limits) (next : Readings → Answer A) where
       step : after-ranges p js (line t d ls) ≡ read-readings L Ranges (next-place p t d) (with-line (readings-of js) j) ls next
       step = rw (e, f)
 
-  pub ranges-passed : (p : ℕ) (js : List RangeInjection) (ks : List (Ended RangeInjection)) (s : List ℕ) → Each RangeForm (said-by ks)
-      → Neighbours MinuteOrder (js ++ said-by ks) → Each NotCrossed (said-by ks) → length (kept-ranges (js ++ said-by ks)) ≤ L .samples
-      → after-ranges p js (lines (print-ranges ks ++ s)) ≡ after-ranges (p + length (print-ranges ks)) (js ++ said-by ks) (lines s)
+  pub ranges-passed : (p : ℕ) (js : List RangeInjection) (ks : List (Ended RangeInjection)) (s : List ℕ) → Each RangeForm (without-endings ks)
+      → Neighbours MinuteOrder (js ++ without-endings ks) → Each NotCrossed (without-endings ks) → length (kept-ranges (js ++ without-endings ks)) ≤ L .samples
+      → after-ranges p js (lines (print-ranges ks ++ s)) ≡ after-ranges (p + length (print-ranges ks)) (js ++ without-endings ks) (lines s)
   ranges-passed p js [] s f n u few = let e : p + 0 ≡ p = omega arith in rw (append-nil js, e)
   ranges-passed p js (l ∷ ks) s f n u few =
-      let j = l .says in
+      let j = l .content in
       let t = range-text j in
       let q = next-place p t (l .ending) in
-      let e : (js ++ j ∷ []) ++ said-by ks ≡ js ++ j ∷ said-by ks = append-assoc js (j ∷ []) (said-by ks) in
+      let e : (js ++ j ∷ []) ++ without-endings ks ≡ js ++ j ∷ without-endings ks = append-assoc js (j ∷ []) (without-endings ks) in
       ap (λ (t : List ℕ). after-ranges p js (lines t)) (append-assoc (print-range l) (print-ranges ks) s)
       ∙ ap (after-ranges p js) (lines-of-range l (print-ranges ks ++ s))
       ∙ one-range p js t (l .ending) j (lines (print-ranges ks ++ s)) (range-line-of-text j (f .0))
-      (range-checks-none L p js j (said-by ks) n (u .0) few)
+      (range-checks-none L p js j (without-endings ks) n (u .0) few)
       ∙ ranges-passed q (js ++ j ∷ []) ks s (f .1) (rw e n) (u .1) (rw e few)
       ∙ ap (λ (t : List RangeInjection). after-ranges (q + length (print-ranges ks)) t (lines s)) e
-      ∙ ap (λ (q : ℕ). after-ranges q (js ++ j ∷ said-by ks) (lines s)) (line-length p t (l .ending) (print-ranges ks))
+      ∙ ap (λ (q : ℕ). after-ranges q (js ++ j ∷ without-endings ks) (lines s)) (line-length p t (l .ending) (print-ranges ks))
 
   pub no-range-refused : (p : ℕ) (js : List RangeInjection) (b : ℕ) (rest : List ℕ)
-      → ((j : Ended RangeInjection) → RangeForm (j .says) → ¬ Begins (print-range j) (b ∷ rest))
+      → ((j : Ended RangeInjection) → RangeForm (j .content) → ¬ Begins (print-range j) (b ∷ rest))
       → after-ranges p js (lines (b ∷ rest)) ≡ refused-at p 3
   no-range-refused p js b rest w = by (lines (b ∷ rest)) refl
     where
@@ -67,10 +67,10 @@ module _ {A : Type 0} (L : Limits) (next : Readings → Answer A) where
           read none e = refl
           read (some j) e =
               let o = range-begins (b ∷ rest) t d ls j g e in
-              absurd (w (record { says = j; ending = d }) (o .0) (o .1 .0, o .1 .1 .0))
+              absurd (w (record { content = j; ending = d }) (o .0) (o .1 .0, o .1 .1 .0))
 
-  pub faulty-range-refused : (p : ℕ) (js : List RangeInjection) (j : Ended RangeInjection) (r : List ℕ) (f : Fault) → RangeForm (j .says)
-      → first-of (reading-checks L p (minutes-of js) (length (minutes-of (kept-ranges js))) (j .says)) ≡ some f
+  pub faulty-range-refused : (p : ℕ) (js : List RangeInjection) (j : Ended RangeInjection) (r : List ℕ) (f : Fault) → RangeForm (j .content)
+      → first-of (reading-checks L p (minutes-of js) (length (minutes-of (kept-ranges js))) (j .content)) ≡ some f
       → after-ranges p js (lines (print-range j ++ r)) ≡ refused f
   faulty-range-refused p js j r f k e =
-      ap (after-ranges p js) (lines-of-range j r) ∙ rw (range-line-of-text (j .says) k, e)
+      ap (after-ranges p js) (lines-of-range j r) ∙ rw (range-line-of-text (j .content) k, e)

@@ -10,7 +10,7 @@ use Rattle.meanings.specs.declared.Limits.{Limits}
 use Rattle.meanings.specs.Limits.{max-u16, max-sheet}
 use Rattle.meanings.specs.Bytes.{LineEnding, ending-bytes, comma}
 use Rattle.meanings.specs.Sheet.{EvaluationPoint, Injection, Contents}
-use Rattle.meanings.specs.SheetForm.{Ended, said-by, empty-front, print-sheet, Neighbours, Each, FitPoints, IsSheet, Begins, Refused}
+use Rattle.meanings.specs.SheetForm.{Ended, without-endings, empty-front, print-sheet, Neighbours, Each, FitPoints, IsSheet, Begins, Refused}
 use Rattle.meanings.specs.Output.{decimal}
 use Rattle.meanings_ranges.specs.declared.Kind.the-variants.{Ranges}
 use Rattle.meanings_ranges.specs.RangeSheet.{range-header, RangeInjection, kept-range, RangeContents}
@@ -22,7 +22,7 @@ range-text j =
     decimal (j .minute) ++ comma ∷ (decimal (j .injection) ++ comma ∷ (decimal (j .low) ++ comma ∷ decimal (j .high)))
 
 abbrev pub print-range : Ended RangeInjection → List ℕ
-print-range l = range-text (l .says) ++ ending-bytes (l .ending)
+print-range l = range-text (l .content) ++ ending-bytes (l .ending)
 
 abbrev pub print-ranges : List (Ended RangeInjection) → List ℕ
 print-ranges [] = []
@@ -72,8 +72,8 @@ pub record NamesRanges (L : Limits) (s : List ℕ) : Type 0 where
   pub behind : List ℕ
   pub printed : s ≡ range-front header-ending point-lines empty-line-ending range-header-ending ++ behind
   pub short : length s ≤ max-sheet
-  pub some-point : 1 ≤ length (said-by point-lines)
-  pub fit-points : FitPoints L (said-by point-lines)
+  pub some-point : 1 ≤ length (without-endings point-lines)
+  pub fit-points : FitPoints L (without-endings point-lines)
 
 -- such a sheet up to the reading lines js, these included
 abbrev pub printed-to : {L : Limits} {s : List ℕ} → NamesRanges L s → List (Ended RangeInjection) → List ℕ
@@ -84,13 +84,13 @@ pub record IsRangeSheet (L : Limits) (s : List ℕ) (c : RangeContents) : Type 0
   pub front : NamesRanges L s
   pub range-lines : List (Ended RangeInjection)
   pub lines-printed : front .behind ≡ print-ranges range-lines
-  pub fit-ranges : FitRanges L (said-by range-lines)
+  pub fit-ranges : FitRanges L (without-endings range-lines)
   pub kind : c .kind ≡ Ranges
-  pub minutes : c .minutes ≡ map (λ (j : RangeInjection). j .minute) (kept-ranges (said-by range-lines))
-  pub lows : c .lows ≡ map (λ (j : RangeInjection). j .low) (kept-ranges (said-by range-lines))
-  pub highs : c .highs ≡ map (λ (j : RangeInjection). j .high) (kept-ranges (said-by range-lines))
-  pub points : c .points ≡ map (λ (m : EvaluationPoint). m .point) (said-by (front .point-lines))
-  pub bandwidths : c .bandwidths ≡ map (λ (m : EvaluationPoint). m .bandwidth) (said-by (front .point-lines))
+  pub minutes : c .minutes ≡ map (λ (j : RangeInjection). j .minute) (kept-ranges (without-endings range-lines))
+  pub lows : c .lows ≡ map (λ (j : RangeInjection). j .low) (kept-ranges (without-endings range-lines))
+  pub highs : c .highs ≡ map (λ (j : RangeInjection). j .high) (kept-ranges (without-endings range-lines))
+  pub points : c .points ≡ map (λ (m : EvaluationPoint). m .point) (without-endings (front .point-lines))
+  pub bandwidths : c .bandwidths ≡ map (λ (m : EvaluationPoint). m .bandwidth) (without-endings (front .point-lines))
 
 -- what is wrong with a reading line j after the faultless lines js, in the order in which it is looked at; kept or not
 pub data RangeFault (L : Limits) (js : List RangeInjection) (j : RangeInjection) : ℕ → Type 0 where
@@ -101,18 +101,18 @@ pub data RangeFault (L : Limits) (js : List RangeInjection) (j : RangeInjection)
 -- the sheet with ranges s is refused with a report at a place behind its header line of ranges: the reading lines before the place are faultless,
 -- and the line there has the report's condition and no earlier one
 pub data RangeRefused (L : Limits) (s : List ℕ) (n : NamesRanges L s) : ℕ → ℕ → Type 0 where
-  malformed-range : (js : List (Ended RangeInjection)) → FitRanges L (said-by js) → (b : ℕ) (rest : List ℕ)
+  malformed-range : (js : List (Ended RangeInjection)) → FitRanges L (without-endings js) → (b : ℕ) (rest : List ℕ)
       → n .behind ≡ print-ranges js ++ b ∷ rest
-      → ((j : Ended RangeInjection) → RangeForm (j .says) → ¬ Begins (print-range j) (b ∷ rest))
+      → ((j : Ended RangeInjection) → RangeForm (j .content) → ¬ Begins (print-range j) (b ∷ rest))
       → RangeRefused L s n 3 (length (printed-to n js))
-  faulty-range : (js : List (Ended RangeInjection)) → FitRanges L (said-by js) → (j : Ended RangeInjection) → RangeForm (j .says)
-      → Begins (print-ranges js ++ print-range j) (n .behind) → {r : ℕ} → RangeFault L (said-by js) (j .says) r
+  faulty-range : (js : List (Ended RangeInjection)) → FitRanges L (without-endings js) → (j : Ended RangeInjection) → RangeForm (j .content)
+      → Begins (print-ranges js ++ print-range j) (n .behind) → {r : ℕ} → RangeFault L (without-endings js) (j .content) r
       → RangeRefused L s n r (length (printed-to n js))
 
 -- the plain sheet of the same marks, readings and line endings, with the lows as its values
 abbrev pub low-line : Ended RangeInjection → Ended Injection
 low-line l = record {
-  says = record { minute = l .says .minute; injection = l .says .injection; value = l .says .low };
+  content = record { minute = l .content .minute; injection = l .content .injection; value = l .content .low };
   ending = l .ending;
 }
 

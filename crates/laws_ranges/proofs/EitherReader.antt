@@ -1,5 +1,5 @@
--- With the plain names line the reader of both kinds does line by line what the reader of plain sheets does, each value standing as low and high,
--- which no check of crossed ranges finds. With the names line of ranges the other reader stops there.
+-- With the plain header line the reader of both kinds does line by line what the reader of plain sheets does, each value standing as low and high,
+-- which no check of crossed ranges finds. With the header line of ranges the other reader stops there.
 use Prim.Native.Nat.{ℕ}
 use mathlib.Core.Path.{_≡_, refl, sym, ap, _∙_}
 use mathlib.Core.Bool.{Bool, true, false}
@@ -46,7 +46,7 @@ plain-readings L f p all ts vs (unended t) = refl
 plain-readings L f p all ts vs (line t e ls) =
     one-line L p all ts vs (sample-line t) _ _ (λ ms xs ys. plain-readings L f (next-place p t e) ms xs ys ls)
 
--- from the second names line on
+-- from the second header line on
 data FromNames (L : Limits) (f : Front) : Type 0 where
   alike : read-either-from L f ≡ doubled (plain-from L f) → FromNames L f
   named : (e : LineEnding) (ls : Lines) → f .rest ≡ line range-header e ls → FromNames L f

@@ -134,7 +134,7 @@ either-program-fits s = by (either-kind full s)
     by (plain e) = rw (plain-text-stays s e) (let l = program-fits s in omega arith)
     by (of-ranges r) = ranges-fit s (r .ranges)
 
--- a plain sheet's text, or the names line is that of ranges
+-- a plain sheet's text, or the header line is that of ranges
 pub plain-or-ranges : (s : List ℕ) → (either-program s ≡ program s) ⊎ RangesRefused full s
 plain-or-ranges s = by (either-kind full s)
   where

@@ -16,7 +16,7 @@ use Rattle.meanings.specs.Bytes.{LineEnding, ending-bytes, point-header, sample
 use Rattle.meanings.specs.Sheet.{EvaluationPoint}
 use Rattle.meanings.specs.Reports.{Fault, first-of}
 use Rattle.meanings.specs.Sheet.{Lines, end, unended, line, lines, point-line, Injection, sample-line, Contents, point-checks, sample-checks}
-use Rattle.meanings.specs.SheetForm.{Ended, said-by, print-point, print-sample, point-head, print-front, sample-head, sample-front, print-sheet}
+use Rattle.meanings.specs.SheetForm.{Ended, without-endings, print-point, print-sample, point-head, print-front, sample-head, sample-front, print-sheet}
 use Rattle.meanings.specs.SheetForm.{kept-of, FitPoints, FitSamples, IsSheet, Begins, Refused, too-long, no-point-header, no-empty-line}
 use Rattle.meanings.specs.SheetForm.{malformed-point, faulty-point, no-point, no-sample-header, malformed-sample, faulty-sample}
 use Rattle.laws_text.proofs.Texts.{no-lines, first-line}
@@ -34,46 +34,47 @@ pub data Decided (L : Limits) (s : List ℕ) : Type 0 where
 
 module _ (L : Limits) (s : List ℕ) (short : length s ≤ max-sheet) where
   -- the lines up to the reading lines
-  module _ (e : LineEnding) (ms : List (Ended EvaluationPoint)) (fit : FitPoints L (said-by ms)) (few : 1 ≤ length (said-by ms)) (d f : LineEnding) where
+  module _ (e : LineEnding) (ms : List (Ended EvaluationPoint)) (fit : FitPoints L (without-endings ms)) (few : 1 ≤ length (without-endings ms))
+      (d f : LineEnding) where
     -- after the reading lines js, with the line t next and the lines after it decided
-    sample-decided : (js : List (Ended Injection)) (b : ℕ) (rest t : List ℕ) (i : LineEnding) (ls : Lines) → FitSamples L (said-by js)
+    sample-decided : (js : List (Ended Injection)) (b : ℕ) (rest t : List ℕ) (i : LineEnding) (ls : Lines) → FitSamples L (without-endings js)
         → s ≡ print-sheet e ms d f js ++ b ∷ rest → lines (b ∷ rest) ≡ line t i ls
-        → ((j : Ended Injection) (r : List ℕ) → FitSamples L (said-by (js ++ j ∷ [])) → s ≡ print-sheet e ms d f (js ++ j ∷ []) ++ r → lines r ≡ ls
+        → ((j : Ended Injection) (r : List ℕ) → FitSamples L (without-endings (js ++ j ∷ [])) → s ≡ print-sheet e ms d f (js ++ j ∷ []) ++ r → lines r ≡ ls
         → Decided L s)
         → Decided L s
     sample-decided js b rest t i ls g q h k = by (sample-line t) refl
       where
         checked : (j : Injection) → sample-line t ≡ some j → (x : Option Fault)
-            → first-of (sample-checks L 0 (minutes-of (said-by js)) (length (minutes-of (kept-of (said-by js)))) j) ≡ x → Decided L s
+            → first-of (sample-checks L 0 (minutes-of (without-endings js)) (length (minutes-of (kept-of (without-endings js)))) j) ≡ x → Decided L s
         checked j y none c =
             let a = sample-begins (b ∷ rest) t i ls j h y in
-            let l : Ended Injection = record { says = j; ending = i } in
-            k l (a .1 .0) (rw (map-append (λ (l : Ended Injection). l .says) js (l ∷ [])) (sample-fits L 0 (said-by js) j g (a .0) c))
+            let l : Ended Injection = record { content = j; ending = i } in
+            k l (a .1 .0) (rw (map-append (λ (l : Ended Injection). l .content) js (l ∷ [])) (sample-fits L 0 (without-endings js) j g (a .0) c))
             (one-sample-more (sample-front e ms d f) s js l (a .1 .0) (q ∙ ap (λ (r : List ℕ). print-sheet e ms d f js ++ r) (a .1 .1 .0)))
             (a .1 .1 .1)
         checked j y (some x) c =
             let a = sample-begins (b ∷ rest) t i ls j h y in
-            let l : Ended Injection = record { says = j; ending = i } in
+            let l : Ended Injection = record { content = j; ending = i } in
             faulted _ _
             (faulty-sample short e ms fit few d f js g l (a .0) (
               a .1 .0,
               q ∙ ap (λ (r : List ℕ). print-sheet e ms d f js ++ r) (a .1 .1 .0)
                   ∙ sym (append-assoc (print-sheet e ms d f js) (print-sample l) (a .1 .0)),
-            ) (sample-fault-of-check L 0 (said-by js) j x (g .order) c))
+            ) (sample-fault-of-check L 0 (without-endings js) j x (g .order) c))
 
         by : (x : Option Injection) → sample-line t ≡ x → Decided L s
         by none y = faulted _ _ (malformed-sample short e ms fit few d f js g b rest q (unread-no-sample (b ∷ rest) t i ls h y))
-        by (some j) y = checked j y (first-of (sample-checks L 0 (minutes-of (said-by js)) (length (minutes-of (kept-of (said-by js)))) j)) refl
+        by (some j) y = checked j y (first-of (sample-checks L 0 (minutes-of (without-endings js)) (length (minutes-of (kept-of (without-endings js)))) j)) refl
 
-    samples-decided : (js : List (Ended Injection)) (ls : Lines) (r : List ℕ) → FitSamples L (said-by js) → s ≡ print-sheet e ms d f js ++ r
+    samples-decided : (js : List (Ended Injection)) (ls : Lines) (r : List ℕ) → FitSamples L (without-endings js) → s ≡ print-sheet e ms d f js ++ r
         → lines r ≡ ls → Decided L s
     samples-decided js end r g q h =
         accepted
         (record {
-          minutes = minutes-of (kept-of (said-by js));
-          values = values-of (kept-of (said-by js));
-          points = points-of (said-by ms);
-          bandwidths = bandwidths-of (said-by ms);
+          minutes = minutes-of (kept-of (without-endings js));
+          values = values-of (kept-of (without-endings js));
+          points = points-of (without-endings ms);
+          bandwidths = bandwidths-of (without-endings ms);
         })
         (record {
           header-ending = e;
@@ -99,7 +100,7 @@ module _ (L : Limits) (s : List ℕ) (short : length s ≤ max-sheet) where
         sample-decided js b rest t i ls g q h (λ j r g′ q′ h′. samples-decided (js ++ j ∷ []) ls r g′ q′ h′)
 
   -- at the empty line
-  end-decided : (e : LineEnding) (ms : List (Ended EvaluationPoint)) (d : LineEnding) (r : List ℕ) → FitPoints L (said-by ms)
+  end-decided : (e : LineEnding) (ms : List (Ended EvaluationPoint)) (d : LineEnding) (r : List ℕ) → FitPoints L (without-endings ms)
       → s ≡ print-front e ms ++ (ending-bytes d ++ r) → Decided L s
   end-decided e [] d r fit q =
       faulted _ _
@@ -126,27 +127,28 @@ module _ (L : Limits) (s : List ℕ) (short : length s ≤ max-sheet) where
 
   -- after the mark lines ms, with the line that begins with c next and the lines after it decided
   point-decided : (e : LineEnding) (ms : List (Ended EvaluationPoint)) (b : ℕ) (rest : List ℕ) (c : ℕ) (t : List ℕ) (i : LineEnding) (ls : Lines)
-      → FitPoints L (said-by ms) → s ≡ print-front e ms ++ b ∷ rest → lines (b ∷ rest) ≡ line (c ∷ t) i ls
-      → ((m : Ended EvaluationPoint) (r : List ℕ) → FitPoints L (said-by (ms ++ m ∷ [])) → s ≡ print-front e (ms ++ m ∷ []) ++ r → lines r ≡ ls → Decided L s)
+      → FitPoints L (without-endings ms) → s ≡ print-front e ms ++ b ∷ rest → lines (b ∷ rest) ≡ line (c ∷ t) i ls
+      → ((m : Ended EvaluationPoint) (r : List ℕ) → FitPoints L (without-endings (ms ++ m ∷ [])) → s ≡ print-front e (ms ++ m ∷ []) ++ r → lines r ≡ ls
+      → Decided L s)
       → Decided L s
   point-decided e ms b rest c t i ls g q h k = by (point-line (c ∷ t)) refl
     where
       checked : (m : EvaluationPoint) → point-line (c ∷ t) ≡ some m → (x : Option Fault)
-          → first-of (point-checks L 0 (points-of (said-by ms)) (bandwidths-of (said-by ms)) m) ≡ x → Decided L s
+          → first-of (point-checks L 0 (points-of (without-endings ms)) (bandwidths-of (without-endings ms)) m) ≡ x → Decided L s
       checked m y none d =
           let a = point-begins (b ∷ rest) (c ∷ t) i ls m h y in
-          let l : Ended EvaluationPoint = record { says = m; ending = i } in
-          k l (a .1 .0) (rw (map-append (λ (l : Ended EvaluationPoint). l .says) ms (l ∷ [])) (point-fits L 0 (said-by ms) m g (a .0) d))
+          let l : Ended EvaluationPoint = record { content = m; ending = i } in
+          k l (a .1 .0) (rw (map-append (λ (l : Ended EvaluationPoint). l .content) ms (l ∷ [])) (point-fits L 0 (without-endings ms) m g (a .0) d))
           (one-point-more (point-head e) s ms l (a .1 .0) (q ∙ ap (λ (r : List ℕ). print-front e ms ++ r) (a .1 .1 .0)))
           (a .1 .1 .1)
       checked m y (some f) d =
           let a = point-begins (b ∷ rest) (c ∷ t) i ls m h y in
-          let l : Ended EvaluationPoint = record { says = m; ending = i } in
+          let l : Ended EvaluationPoint = record { content = m; ending = i } in
           faulted _ _
           (faulty-point short e ms g l (a .0) (
             a .1 .0,
             q ∙ ap (λ (r : List ℕ). print-front e ms ++ r) (a .1 .1 .0) ∙ sym (append-assoc (print-front e ms) (print-point l) (a .1 .0)),
-          ) (point-fault-of-check L 0 (said-by ms) m f (g .order) d))
+          ) (point-fault-of-check L 0 (without-endings ms) m f (g .order) d))
 
       by : (x : Option EvaluationPoint) → point-line (c ∷ t) ≡ x → Decided L s
       by none y =
@@ -155,9 +157,9 @@ module _ (L : Limits) (s : List ℕ) (short : length s ≤ max-sheet) where
           (λ d (z : Begins (ending-bytes d) (b ∷ rest)).
           let o = sym h ∙ lines-of-empty-line (b ∷ rest) d z in let z : _≡_ {A = ℕ} 0 1 = cc in omega arith)
           (unread-no-point (b ∷ rest) (c ∷ t) i ls h y))
-      by (some m) y = checked m y (first-of (point-checks L 0 (points-of (said-by ms)) (bandwidths-of (said-by ms)) m)) refl
+      by (some m) y = checked m y (first-of (point-checks L 0 (points-of (without-endings ms)) (bandwidths-of (without-endings ms)) m)) refl
 
-  points-decided : (e : LineEnding) (ms : List (Ended EvaluationPoint)) (ls : Lines) (r : List ℕ) → FitPoints L (said-by ms) → s ≡ print-front e ms ++ r
+  points-decided : (e : LineEnding) (ms : List (Ended EvaluationPoint)) (ls : Lines) (r : List ℕ) → FitPoints L (without-endings ms) → s ≡ print-front e ms ++ r
       → lines r ≡ ls → Decided L s
   points-decided e ms end r g q h = faulted _ _ (no-empty-line short e ms g (rw (no-lines r h) at q ∙ append-nil (print-front e ms)))
   points-decided e ms (unended t) [] g q h = let z : _≡_ {A = ℕ} 0 1 = cc in absurd (omega arith)

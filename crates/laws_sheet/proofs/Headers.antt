@@ -1,5 +1,5 @@
--- Bytes begin with a names line and its ending or they do not, and the reader refuses where they do not: only the first line counts, and
--- bytes that begin so have the names line as their first line.
+-- Bytes begin with a header line and its ending or they do not, and the reader refuses where they do not: only the first line counts, and
+-- bytes that begin so have the header line as their first line.
 use Prim.Native.Nat.{ℕ}
 use mathlib.Core.Path.{_≡_, refl, sym, ap, _∙_}
 use mathlib.Core.Logic.{_⊎_, inl, inr}
@@ -52,7 +52,7 @@ begins-of-line names s t e ls g d =
     let n = same-true t names d in
     (h .0, rw (← n) (h .1 .0 ∙ sym (append-assoc t (ending-bytes e) (h .0))))
 
--- the bytes begin with the names line, under some ending or under none
+-- the bytes begin with the header line, under some ending or under none
 abbrev pub BeginsLine : List ℕ → List ℕ → Type 0
 BeginsLine names s = (e : LineEnding) × Begins (names ++ ending-bytes e) s
 
@@ -94,7 +94,7 @@ no-header-refused names p s next n = by (lines s) refl
         named true d = absurd (n e (begins-of-line names s t e ls g d))
         named false d = refl
 
--- a names line is passed
+-- a header line is passed
 pub header-passed : (names : List ℕ) (p : ℕ) (e : LineEnding) (r : List ℕ) (next : ℕ → Lines → Outcome) → OneLine names
     → header names p (lines ((names ++ ending-bytes e) ++ r)) next ≡ next (next-place p names e) (lines r)
 header-passed names p e r next f =

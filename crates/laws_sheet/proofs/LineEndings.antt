@@ -13,7 +13,7 @@ use Rattle.meanings.specs.Bytes.{ascii, line-feed, carriage-return, LineEnding,
 use Rattle.meanings.specs.Reports.{given}
 use Rattle.meanings.specs.Sheet.{EvaluationPoint}
 use Rattle.meanings.specs.Sheet.{Lines, line, lines, Injection, refused-at, read-lines, read-sheet}
-use Rattle.meanings.specs.SheetForm.{Ended, said-by, print-sheet, contents-of, FitPoints, FitSamples}
+use Rattle.meanings.specs.SheetForm.{Ended, without-endings, print-sheet, contents-of, FitPoints, FitSamples}
 use Rattle.meanings.specs.FeedSheet.{feed-lines, read-feed-sheet, NoReturnFeed}
 use Rattle.laws_text.proofs.Texts.{FirstByte, is-feed, is-return, is-text, first-byte, first-line}
 use Rattle.laws_sheet.proofs.Printed.{printed-is-read}
@@ -57,7 +57,7 @@ return-was-wrong = (refl, refl, refl, refl, refl)
 
 -- faultless lines are read as what they say, under any endings
 pub read-under-any-endings : (L : Limits) (ms : List EvaluationPoint) (js : List Injection) → FitPoints L ms → 1 ≤ length ms → FitSamples L js
-    → (e d f : LineEnding) (ns : List (Ended EvaluationPoint)) (ks : List (Ended Injection)) → said-by ns ≡ ms → said-by ks ≡ js
+    → (e d f : LineEnding) (ns : List (Ended EvaluationPoint)) (ks : List (Ended Injection)) → without-endings ns ≡ ms → without-endings ks ≡ js
     → length (print-sheet e ns d f ks) ≤ max-sheet → read-sheet L (print-sheet e ns d f ks) ≡ given (contents-of ms js)
 read-under-any-endings L ms js fit some-point fits e d f ns ks p q short =
     printed-is-read L (print-sheet e ns d f ks) (contents-of ms js) (record {

@@ -18,17 +18,17 @@ use Rattle.laws_sheet.proofs.LineOrder.{points-of, bandwidths-of}
 
 -- no mark line begins where the first line is none
 pub unread-no-point : (s t : List ℕ) (e : LineEnding) (ls : Lines) → lines s ≡ line t e ls → point-line t ≡ none → (m : Ended EvaluationPoint)
-    → PointForm (m .says) → ¬ Begins (print-point m) s
+    → PointForm (m .content) → ¬ Begins (print-point m) s
 unread-no-point s t e ls g n m f b =
     let p = sym g ∙ ap lines (b .1) ∙ lines-of-point m (b .0) in
-    let q : t ≡ point-text (m .says) = cc in
-    let o = sym n ∙ ap point-line q ∙ point-line-of-text (m .says) f in
+    let q : t ≡ point-text (m .content) = cc in
+    let o = sym n ∙ ap point-line q ∙ point-line-of-text (m .content) f in
     let z : _≡_ {A = ℕ} 0 1 = cc in
     omega arith
 
 -- a line that is read as a mark is the mark's line
 pub point-begins : (s t : List ℕ) (e : LineEnding) (ls : Lines) (m : EvaluationPoint) → lines s ≡ line t e ls → point-line t ≡ some m
-    → PointForm m × ((r : List ℕ) × ((s ≡ print-point (record { says = m; ending = e }) ++ r) × (lines r ≡ ls)))
+    → PointForm m × ((r : List ℕ) × ((s ≡ print-point (record { content = m; ending = e }) ++ r) × (lines r ≡ ls)))
 point-begins s t e ls m g h =
     let i = first-line s t e ls g in
     let w = point-line-text t m h in
@@ -36,7 +36,7 @@ point-begins s t e ls m g h =
 
 pub no-point-refused : (L : Limits) (p : ℕ) (zs hs : List ℕ) (b : ℕ) (rest : List ℕ)
     → ((e : LineEnding) → ¬ Begins (ending-bytes e) (b ∷ rest))
-    → ((m : Ended EvaluationPoint) → PointForm (m .says) → ¬ Begins (print-point m) (b ∷ rest)) → read-points L p zs hs (lines (b ∷ rest)) ≡ refused-at p 3
+    → ((m : Ended EvaluationPoint) → PointForm (m .content) → ¬ Begins (print-point m) (b ∷ rest)) → read-points L p zs hs (lines (b ∷ rest)) ≡ refused-at p 3
 no-point-refused L p zs hs b rest n w = by (lines (b ∷ rest)) refl
   where
     by : (ls : Lines) → lines (b ∷ rest) ≡ ls → read-points L p zs hs ls ≡ refused-at p 3
@@ -50,15 +50,15 @@ no-point-refused L p zs hs b rest n w = by (lines (b ∷ rest)) refl
         read none e = refl
         read (some m) e =
             let o = point-begins (b ∷ rest) (c ∷ t) d ls m g e in
-            absurd (w (record { says = m; ending = d }) (o .0) (o .1 .0, o .1 .1 .0))
+            absurd (w (record { content = m; ending = d }) (o .0) (o .1 .0, o .1 .1 .0))
 
-pub faulty-point-refused : (L : Limits) (p : ℕ) (ms : List EvaluationPoint) (m : Ended EvaluationPoint) (r : List ℕ) (f : Fault) → PointForm (m .says)
-    → first-of (point-checks L p (points-of ms) (bandwidths-of ms) (m .says)) ≡ some f
+pub faulty-point-refused : (L : Limits) (p : ℕ) (ms : List EvaluationPoint) (m : Ended EvaluationPoint) (r : List ℕ) (f : Fault) → PointForm (m .content)
+    → first-of (point-checks L p (points-of ms) (bandwidths-of ms) (m .content)) ≡ some f
     → after-marks L p ms (lines (print-point m ++ r)) ≡ refused f
 faulty-point-refused L p ms m r f k e =
-    ap (after-marks L p ms) (lines-of-point m r) ∙ by (point-text (m .says)) (point-line-of-text (m .says) k)
+    ap (after-marks L p ms) (lines-of-point m r) ∙ by (point-text (m .content)) (point-line-of-text (m .content) k)
   where
-    by : (t : List ℕ) → point-line t ≡ some (m .says) → after-marks L p ms (line t (m .ending) (lines r)) ≡ refused f
+    by : (t : List ℕ) → point-line t ≡ some (m .content) → after-marks L p ms (line t (m .ending) (lines r)) ≡ refused f
     by [] q = let z : _≡_ {A = ℕ} 0 1 = cc in absurd (omega arith)
     by (b ∷ t) q = rw (q, e)
 

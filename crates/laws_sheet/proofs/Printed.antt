@@ -11,7 +11,7 @@ use Rattle.meanings.specs.Limits.{max-sheet}
 use Rattle.meanings.specs.Bytes.{LineEnding, ending-bytes, point-header, sample-header}
 use Rattle.meanings.specs.Reports.{given, refused}
 use Rattle.meanings.specs.Sheet.{lines, Contents, refused-at, read-points, read-sheet}
-use Rattle.meanings.specs.SheetForm.{said-by, print-point, print-sample, point-head, print-front, print-sheet}
+use Rattle.meanings.specs.SheetForm.{without-endings, print-point, print-sample, point-head, print-front, print-sheet}
 use Rattle.meanings.specs.SheetForm.{FitPoints, IsSheet, Refused, too-long, no-point-header, no-empty-line, malformed-point}
 use Rattle.meanings.specs.SheetForm.{faulty-point, no-point, no-sample-header, malformed-sample, faulty-sample}
 use Rattle.laws_text.proofs.Texts.{lines-of-ending}
@@ -45,7 +45,7 @@ refused-only L s n p (no-empty-line l e ms f q) =
 refused-only L s n p (malformed-point l e ms f b rest q c w) = sheet-at-points L s e ms (b ∷ rest) l f q ∙ no-point-refused L _ _ _ b rest c w
 refused-only L s n p (faulty-point l e ms f m k b x) =
     sheet-at-points L s e ms (print-point m ++ b .0) l f (b .1 ∙ append-assoc (print-front e ms) (print-point m) (b .0))
-    ∙ faulty-point-refused L _ (said-by ms) m (b .0) _ k (check-of-point-fault L _ (said-by ms) (m .says) (f .order) x)
+    ∙ faulty-point-refused L _ (without-endings ms) m (b .0) _ k (check-of-point-fault L _ (without-endings ms) (m .content) (f .order) x)
 refused-only L s n p (no-point l e d b) =
     let q = append-nil (point-head e) in
     sheet-at-points L s e [] (ending-bytes d ++ b .0) l (no-points-fit L)
@@ -57,4 +57,4 @@ refused-only L s n p (malformed-sample l e ms fit o d f js g b rest q w) =
     sheet-at-samples L s e ms d f js (b ∷ rest) l fit o g q ∙ no-sample-refused L _ _ _ _ _ _ b rest w
 refused-only L s n p (faulty-sample l e ms fit o d f js g j k b x) =
     sheet-at-samples L s e ms d f js (print-sample j ++ b .0) l fit o g (b .1 ∙ append-assoc (print-sheet e ms d f js) (print-sample j) (b .0))
-    ∙ faulty-sample-refused L _ _ _ (said-by js) j (b .0) _ k (check-of-sample-fault L _ (said-by js) (j .says) x)
+    ∙ faulty-sample-refused L _ _ _ (without-endings js) j (b .0) _ k (check-of-sample-fault L _ (without-endings js) (j .content) x)

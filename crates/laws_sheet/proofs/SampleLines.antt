@@ -19,24 +19,24 @@ use Rattle.laws_sheet.proofs.Passed.{after-samples}
 
 -- no reading line begins where the first line is none
 pub unread-no-sample : (s t : List ℕ) (e : LineEnding) (ls : Lines) → lines s ≡ line t e ls → sample-line t ≡ none → (j : Ended Injection)
-    → SampleForm (j .says) → ¬ Begins (print-sample j) s
+    → SampleForm (j .content) → ¬ Begins (print-sample j) s
 unread-no-sample s t e ls g n j f b =
     let p = sym g ∙ ap lines (b .1) ∙ lines-of-sample j (b .0) in
-    let q : t ≡ sample-text (j .says) = cc in
-    let o = sym n ∙ ap sample-line q ∙ sample-line-of-text (j .says) f in
+    let q : t ≡ sample-text (j .content) = cc in
+    let o = sym n ∙ ap sample-line q ∙ sample-line-of-text (j .content) f in
     let z : _≡_ {A = ℕ} 0 1 = cc in
     omega arith
 
 -- a line that is read as a reading is the reading's line
 pub sample-begins : (s t : List ℕ) (e : LineEnding) (ls : Lines) (j : Injection) → lines s ≡ line t e ls → sample-line t ≡ some j
-    → SampleForm j × ((r : List ℕ) × ((s ≡ print-sample (record { says = j; ending = e }) ++ r) × (lines r ≡ ls)))
+    → SampleForm j × ((r : List ℕ) × ((s ≡ print-sample (record { content = j; ending = e }) ++ r) × (lines r ≡ ls)))
 sample-begins s t e ls j g h =
     let i = first-line s t e ls g in
     let w = sample-line-text t j h in
     (w .1, (i .0, (i .1 .0 ∙ sym (append-assoc t (ending-bytes e) (i .0)) ∙ ap (λ (u : List ℕ). (u ++ ending-bytes e) ++ i .0) (w .0), i .1 .2)))
 
 pub no-sample-refused : (L : Limits) (zs hs : List ℕ) (p : ℕ) (all ts vs : List ℕ) (b : ℕ) (rest : List ℕ)
-    → ((j : Ended Injection) → SampleForm (j .says) → ¬ Begins (print-sample j) (b ∷ rest))
+    → ((j : Ended Injection) → SampleForm (j .content) → ¬ Begins (print-sample j) (b ∷ rest))
     → read-samples L zs hs p all ts vs (lines (b ∷ rest)) ≡ refused-at p 3
 no-sample-refused L zs hs p all ts vs b rest w = by (lines (b ∷ rest)) refl
   where
@@ -50,13 +50,13 @@ no-sample-refused L zs hs p all ts vs b rest w = by (lines (b ∷ rest)) refl
         read none e = refl
         read (some j) e =
             let o = sample-begins (b ∷ rest) t d ls j g e in
-            absurd (w (record { says = j; ending = d }) (o .0) (o .1 .0, o .1 .1 .0))
+            absurd (w (record { content = j; ending = d }) (o .0) (o .1 .0, o .1 .1 .0))
 
 pub faulty-sample-refused : (L : Limits) (zs hs : List ℕ) (p : ℕ) (js : List Injection) (j : Ended Injection) (r : List ℕ) (f : Fault)
-    → SampleForm (j .says) → first-of (sample-checks L p (minutes-of js) (length (minutes-of (kept-of js))) (j .says)) ≡ some f
+    → SampleForm (j .content) → first-of (sample-checks L p (minutes-of js) (length (minutes-of (kept-of js))) (j .content)) ≡ some f
     → after-samples L zs hs p js (lines (print-sample j ++ r)) ≡ refused f
 faulty-sample-refused L zs hs p js j r f k e =
-    ap (after-samples L zs hs p js) (lines-of-sample j r) ∙ rw (sample-line-of-text (j .says) k, e)
+    ap (after-samples L zs hs p js) (lines-of-sample j r) ∙ rw (sample-line-of-text (j .content) k, e)
 
 -- the print of one reading line more
 pub print-samples-more : (js : List (Ended Injection)) (j : Ended Injection) → print-samples (js ++ j ∷ []) ≡ print-samples js ++ print-sample j

@@ -25,7 +25,7 @@ mark z h = record { point = z; bandwidth = h }
 
 -- lines that end in a line feed
 mark-line : ℕ → ℕ → Ended EvaluationPoint
-mark-line z h = record { says = mark z h; ending = feed }
+mark-line z h = record { content = mark z h; ending = feed }
 
 abbrev one-each : Limits
 one-each = record { samples = 1; points = 1 }
@@ -34,7 +34,7 @@ reading : ℕ → ℕ → ℕ → Injection
 reading t j v = record { minute = t; injection = j; value = v }
 
 line : ℕ → ℕ → ℕ → Ended Injection
-line t j v = record { says = reading t j v; ending = feed }
+line t j v = record { content = reading t j v; ending = feed }
 
 pub whole-sheet-is-sheet :
     IsSheet full
@@ -58,7 +58,7 @@ whole-sheet-is-sheet = record {
   values = refl;
 }
 
--- the same with a carriage return in the endings of both names lines, of the empty line, of one line of values each, and of the last
+-- the same with a carriage return in the endings of both header lines, of the empty line, of one line of values each, and of the last
 pub mixed-endings-is-sheet :
     IsSheet full
     (ascii "mark,half\r\n20,10\n25,15\r\n60,20\n\r\nminute,inj,vdk\r\n10,3,40\n12,1,900\n14,2,400\r\n20,3,60\n20,4,80\n35,5,20\r\n")
@@ -66,15 +66,15 @@ pub mixed-endings-is-sheet :
 unfolding mark mark-line reading line decimal decimal-with
 mixed-endings-is-sheet = record {
   header-ending = return-feed;
-  point-lines = mark-line 20 10 ∷ record { says = mark 25 15; ending = return-feed } ∷ mark-line 60 20 ∷ [];
+  point-lines = mark-line 20 10 ∷ record { content = mark 25 15; ending = return-feed } ∷ mark-line 60 20 ∷ [];
   empty-line-ending = return-feed;
   sample-header-ending = return-feed;
   sample-lines = line 10 3 40
       ∷ line 12 1 900
-      ∷ record { says = reading 14 2 400; ending = return-feed }
+      ∷ record { content = reading 14 2 400; ending = return-feed }
       ∷ line 20 3 60
       ∷ line 20 4 80
-      ∷ record { says = reading 35 5 20; ending = return-feed }
+      ∷ record { content = reading 35 5 20; ending = return-feed }
       ∷ [];
   printed = refl;
   short = omega arith;

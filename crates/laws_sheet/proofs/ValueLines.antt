@@ -146,21 +146,21 @@ sample-line-text t j e = by (parts t) refl e
     by (a ∷ b ∷ c ∷ d ∷ r) g e = let z : _≡_ {A = ℕ} 0 1 = cc in absurd (omega arith)
 
 -- the lines of bytes that begin with a printed line
-pub lines-of-point : (m : Ended EvaluationPoint) (s : List ℕ) → lines (print-point m ++ s) ≡ line (point-text (m .says)) (m .ending) (lines s)
+pub lines-of-point : (m : Ended EvaluationPoint) (s : List ℕ) → lines (print-point m ++ s) ≡ line (point-text (m .content)) (m .ending) (lines s)
 lines-of-point m s =
-    ap lines (append-assoc (point-text (m .says)) (ending-bytes (m .ending)) s)
-    ∙ lines-of-line (point-text (m .says)) (m .ending) s (point-text-plain (m .says))
+    ap lines (append-assoc (point-text (m .content)) (ending-bytes (m .ending)) s)
+    ∙ lines-of-line (point-text (m .content)) (m .ending) s (point-text-plain (m .content))
 
-pub lines-of-sample : (j : Ended Injection) (s : List ℕ) → lines (print-sample j ++ s) ≡ line (sample-text (j .says)) (j .ending) (lines s)
+pub lines-of-sample : (j : Ended Injection) (s : List ℕ) → lines (print-sample j ++ s) ≡ line (sample-text (j .content)) (j .ending) (lines s)
 lines-of-sample j s =
-    ap lines (append-assoc (sample-text (j .says)) (ending-bytes (j .ending)) s)
-    ∙ lines-of-line (sample-text (j .says)) (j .ending) s (sample-text-plain (j .says))
+    ap lines (append-assoc (sample-text (j .content)) (ending-bytes (j .ending)) s)
+    ∙ lines-of-line (sample-text (j .content)) (j .ending) s (sample-text-plain (j .content))
 
 -- bytes without a line ending do not begin with a printed line
-pub no-point-begins : (s t : List ℕ) → lines s ≡ unended t → (m : Ended EvaluationPoint) → PointForm (m .says) → ¬ Begins (print-point m) s
+pub no-point-begins : (s t : List ℕ) → lines s ≡ unended t → (m : Ended EvaluationPoint) → PointForm (m .content) → ¬ Begins (print-point m) s
 no-point-begins s t e m f b =
     let p = sym e ∙ ap lines (b .1) ∙ lines-of-point m (b .0) in let z : _≡_ {A = ℕ} 0 1 = cc in omega arith
 
-pub no-sample-begins : (s t : List ℕ) → lines s ≡ unended t → (j : Ended Injection) → SampleForm (j .says) → ¬ Begins (print-sample j) s
+pub no-sample-begins : (s t : List ℕ) → lines s ≡ unended t → (j : Ended Injection) → SampleForm (j .content) → ¬ Begins (print-sample j) s
 no-sample-begins s t e j f b =
     let p = sym e ∙ ap lines (b .1) ∙ lines-of-sample j (b .0) in let z : _≡_ {A = ℕ} 0 1 = cc in omega arith

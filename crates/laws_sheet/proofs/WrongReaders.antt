@@ -13,7 +13,7 @@ use Rattle.meanings.specs.Bytes.{ascii, carriage-return, feed}
 use Rattle.meanings.specs.Reports.{Answer, Fault, given, refused}
 use Rattle.meanings.specs.Sheet.{Contents, Outcome, refused-at, read-sheet}
 use Rattle.meanings.specs.Output.{decimal, decimal-with}
-use Rattle.meanings.specs.SheetForm.{Ended, said-by, Each, Neighbours, PointForm, BandwidthRange, Follows, FitPoints}
+use Rattle.meanings.specs.SheetForm.{Ended, without-endings, Each, Neighbours, PointForm, BandwidthRange, Follows, FitPoints}
 use Rattle.meanings.specs.SheetForm.{PointFault, edge, Refused, faulty-point, point-head, print-point, print-points, print-front}
 use Rattle.meanings.specs.Calls.{Counts, counts, read, read-minutes}
 use Rattle.laws_sheet.proofs.Printed.{refused-only}
@@ -85,7 +85,7 @@ pub no-sheet-ends-in-a-return : (c : Contents) → ¬ (read-sheet full (ascii "m
 unfolding read-sheet
 no-sheet-ends-in-a-return c e = let z : _≡_ {A = ℕ} 0 1 = cc in omega arith
 
--- the ending known in lines of values alone, and refused in a names line or in the empty line
+-- the ending known in lines of values alone, and refused in a header line or in the empty line
 pub no-names-line-refused-for-its-return : (f : Fault) → ¬ (read-sheet full (ascii "mark,half\r\n0,1\n\nminute,inj,vdk\r\n5,3,9\n") ≡ refused f)
 unfolding read-sheet
 no-names-line-refused-for-its-return f e = let z : _≡_ {A = ℕ} 0 1 = cc in omega arith
@@ -113,12 +113,12 @@ last-mark = record { point = 4; bandwidth = 4 }
 
 -- their lines
 pub same-line : Ended EvaluationPoint
-same-line = record { says = same-mark; ending = feed }
+same-line = record { content = same-mark; ending = feed }
 
 pub last-line : Ended EvaluationPoint
-last-line = record { says = last-mark; ending = feed }
+last-line = record { content = last-mark; ending = feed }
 
-same-lines-say : (n : ℕ) → said-by (replicate n same-line) ≡ replicate n same-mark
+same-lines-say : (n : ℕ) → without-endings (replicate n same-line) ≡ replicate n same-mark
 unfolding same-line
 same-lines-say zero = refl
 same-lines-say (suc n) = ap (λ (r : List EvaluationPoint). same-mark ∷ r) (same-lines-say n)
@@ -146,7 +146,7 @@ unfolding same-mark same-line decimal decimal-with
 same-lines-length zero = refl
 same-lines-length (suc n) = let e = same-lines-length n in omega arith
 
-same-lines-fit : (n : ℕ) → n ≤ 512 → FitPoints full (said-by (replicate n same-line))
+same-lines-fit : (n : ℕ) → n ≤ 512 → FitPoints full (without-endings (replicate n same-line))
 unfolding same-mark
 same-lines-fit n l =
     rw (same-lines-say n)
@@ -157,7 +157,7 @@ same-lines-fit n l =
       few = let e = length-replicate n same-mark in omega arith;
     })
 
-last-line-falls : (n : ℕ) → PointFault full (said-by (replicate (suc n) same-line)) last-mark 10
+last-line-falls : (n : ℕ) → PointFault full (without-endings (replicate (suc n) same-line)) last-mark 10
 unfolding same-mark last-mark
 last-line-falls n =
     rw (same-lines-say (suc n))

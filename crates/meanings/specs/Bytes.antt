@@ -36,14 +36,14 @@ zero-digit = code "0"
 abbrev pub nine-digit : ℕ
 nine-digit = code "9"
 
--- the names lines of the sheet
+-- the header lines of the sheet
 abbrev pub point-header : List ℕ
 point-header = ascii "mark,half"
 
 abbrev pub sample-header : List ℕ
 sample-header = ascii "minute,inj,vdk"
 
--- the names lines of what the program writes
+-- the header lines of what the program writes
 abbrev pub curve-header : List ℕ
 curve-header = ascii "mark,half,left,right,weight,sum,vdk"
 

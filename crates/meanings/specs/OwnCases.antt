@@ -385,7 +385,7 @@ line-ending-cases =
     ⇒ written whole-curve
     ∷ output "mark,half\n20,10\r\n25,15\n60,20\r\n\nminute,inj,vdk\r\n10,3,40\n12,1,900\r\n14,2,400\n20,3,60\r\n20,4,80\n35,5,20\r\n"
     ⇒ written whole-curve
-    -- in a names line, a line of values and the empty line alone
+    -- in a header line, a line of values and the empty line alone
     ∷ sheet full (ascii "mark,half\r\n0,1\n\nminute,inj,vdk\n5,3,9\n") ⇒ outcome (given one-of-each)
     ∷ sheet full (ascii "mark,half\n0,1\r\n\nminute,inj,vdk\n5,3,9\n") ⇒ outcome (given one-of-each)
     ∷ sheet full (ascii "mark,half\n0,1\n\r\nminute,inj,vdk\n5,3,9\n") ⇒ outcome (given one-of-each)

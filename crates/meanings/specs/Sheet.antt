@@ -1,4 +1,4 @@
--- SPECIFICATION, "The sheet": lines, numbers, names lines, and the reader as a function from any list of bytes to a report with its
+-- SPECIFICATION, "The sheet": lines, numbers, header lines, and the reader as a function from any list of bytes to a report with its
 -- place or the four lists.
 use Prim.Native.Nat.{ℕ, _+_, _-_, _*_}
 use mathlib.Core.Bool.{Bool, true, false, not, _&&_}
@@ -192,7 +192,7 @@ same [] (y ∷ ys) = false
 same (x ∷ xs) [] = false
 same (x ∷ xs) (y ∷ ys) = eqb x y && same xs ys
 
--- the names line at byte p, and what follows it
+-- the header line at byte p, and what follows it
 abbrev pub header : {A : Type 0} → List ℕ → ℕ → Lines → (ℕ → Lines → Answer A) → Answer A
 header names p end next = refused-at p 2
 header names p (unended t) next = refused-at p 2

@@ -15,21 +15,21 @@ use Rattle.meanings.specs.Sheet.{EvaluationPoint}
 use Rattle.meanings.specs.Sheet.{Injection, Contents}
 use Rattle.meanings.specs.Output.{decimal}
 
--- a line: what its text says, and its line ending
+-- a line: its content, and its line ending
 pub record Ended (A : Type 0) : Type 0 where
-  pub says : A
+  pub content : A
   pub ending : LineEnding
 
--- what lines say, without their endings
-abbrev pub said-by : {A : Type 0} → List (Ended A) → List A
-said-by ls = map (λ l. l .says) ls
+-- the content of lines, without their endings
+abbrev pub without-endings : {A : Type 0} → List (Ended A) → List A
+without-endings ls = map (λ l. l .content) ls
 
 -- the text of a mark and its half width, and its line
 abbrev pub point-text : EvaluationPoint → List ℕ
 point-text m = decimal (m .point) ++ comma ∷ decimal (m .bandwidth)
 
 abbrev pub print-point : Ended EvaluationPoint → List ℕ
-print-point l = point-text (l .says) ++ ending-bytes (l .ending)
+print-point l = point-text (l .content) ++ ending-bytes (l .ending)
 
 abbrev pub print-points : List (Ended EvaluationPoint) → List ℕ
 print-points [] = []
@@ -40,7 +40,7 @@ abbrev pub sample-text : Injection → List ℕ
 sample-text j = decimal (j .minute) ++ comma ∷ (decimal (j .injection) ++ comma ∷ decimal (j .value))
 
 abbrev pub print-sample : Ended Injection → List ℕ
-print-sample l = sample-text (l .says) ++ ending-bytes (l .ending)
+print-sample l = sample-text (l .content) ++ ending-bytes (l .ending)
 
 abbrev pub print-samples : List (Ended Injection) → List ℕ
 print-samples [] = []
@@ -139,13 +139,13 @@ pub record IsSheet (L : Limits) (s : List ℕ) (c : Contents) : Type 0 where
   pub sample-lines : List (Ended Injection)
   pub printed : s ≡ print-sheet header-ending point-lines empty-line-ending sample-header-ending sample-lines
   pub short : length s ≤ max-sheet
-  pub some-point : 1 ≤ length (said-by point-lines)
-  pub fit-points : FitPoints L (said-by point-lines)
-  pub fit-samples : FitSamples L (said-by sample-lines)
-  pub points : c .points ≡ map (λ (m : EvaluationPoint). m .point) (said-by point-lines)
-  pub bandwidths : c .bandwidths ≡ map (λ (m : EvaluationPoint). m .bandwidth) (said-by point-lines)
-  pub minutes : c .minutes ≡ map (λ (j : Injection). j .minute) (kept-of (said-by sample-lines))
-  pub values : c .values ≡ map (λ (j : Injection). j .value) (kept-of (said-by sample-lines))
+  pub some-point : 1 ≤ length (without-endings point-lines)
+  pub fit-points : FitPoints L (without-endings point-lines)
+  pub fit-samples : FitSamples L (without-endings sample-lines)
+  pub points : c .points ≡ map (λ (m : EvaluationPoint). m .point) (without-endings point-lines)
+  pub bandwidths : c .bandwidths ≡ map (λ (m : EvaluationPoint). m .bandwidth) (without-endings point-lines)
+  pub minutes : c .minutes ≡ map (λ (j : Injection). j .minute) (kept-of (without-endings sample-lines))
+  pub values : c .values ≡ map (λ (j : Injection). j .value) (kept-of (without-endings sample-lines))
 
 -- the bytes begin with p
 abbrev pub Begins : List ℕ → List ℕ → Type 0
@@ -170,24 +170,24 @@ pub data SampleFault (L : Limits) (js : List Injection) (j : Injection) : ℕ �
 pub data Refused (L : Limits) (s : List ℕ) : ℕ → ℕ → Type 0 where
   too-long : max-sheet < length s → Refused L s 1 max-sheet
   no-point-header : length s ≤ max-sheet → ((e : LineEnding) → ¬ Begins (point-head e) s) → Refused L s 2 0
-  no-empty-line : length s ≤ max-sheet → (e : LineEnding) (ms : List (Ended EvaluationPoint)) → FitPoints L (said-by ms) → s ≡ print-front e ms
+  no-empty-line : length s ≤ max-sheet → (e : LineEnding) (ms : List (Ended EvaluationPoint)) → FitPoints L (without-endings ms) → s ≡ print-front e ms
       → Refused L s 3 (length s)
-  malformed-point : length s ≤ max-sheet → (e : LineEnding) (ms : List (Ended EvaluationPoint)) → FitPoints L (said-by ms) → (b : ℕ) (rest : List ℕ)
+  malformed-point : length s ≤ max-sheet → (e : LineEnding) (ms : List (Ended EvaluationPoint)) → FitPoints L (without-endings ms) → (b : ℕ) (rest : List ℕ)
       → s ≡ print-front e ms ++ b ∷ rest → ((d : LineEnding) → ¬ Begins (ending-bytes d) (b ∷ rest))
-      → ((m : Ended EvaluationPoint) → PointForm (m .says) → ¬ Begins (print-point m) (b ∷ rest))
+      → ((m : Ended EvaluationPoint) → PointForm (m .content) → ¬ Begins (print-point m) (b ∷ rest))
       → Refused L s 3 (length (print-front e ms))
-  faulty-point : length s ≤ max-sheet → (e : LineEnding) (ms : List (Ended EvaluationPoint)) → FitPoints L (said-by ms) → (m : Ended EvaluationPoint)
-      → PointForm (m .says) → Begins (print-front e ms ++ print-point m) s → {r : ℕ} → PointFault L (said-by ms) (m .says) r
+  faulty-point : length s ≤ max-sheet → (e : LineEnding) (ms : List (Ended EvaluationPoint)) → FitPoints L (without-endings ms) → (m : Ended EvaluationPoint)
+      → PointForm (m .content) → Begins (print-front e ms ++ print-point m) s → {r : ℕ} → PointFault L (without-endings ms) (m .content) r
       → Refused L s r (length (print-front e ms))
   no-point : length s ≤ max-sheet → (e d : LineEnding) → Begins (point-head e ++ ending-bytes d) s → Refused L s 7 (length (point-head e))
-  no-sample-header : length s ≤ max-sheet → (e : LineEnding) (ms : List (Ended EvaluationPoint)) → FitPoints L (said-by ms) → 1 ≤ length (said-by ms)
-      → (d : LineEnding) (rest : List ℕ) → s ≡ empty-front e ms d ++ rest → ((f : LineEnding) → ¬ Begins (sample-head f) rest)
+  no-sample-header : length s ≤ max-sheet → (e : LineEnding) (ms : List (Ended EvaluationPoint)) → FitPoints L (without-endings ms)
+      → 1 ≤ length (without-endings ms) → (d : LineEnding) (rest : List ℕ) → s ≡ empty-front e ms d ++ rest → ((f : LineEnding) → ¬ Begins (sample-head f) rest)
       → Refused L s 2 (length (empty-front e ms d))
-  malformed-sample : length s ≤ max-sheet → (e : LineEnding) (ms : List (Ended EvaluationPoint)) → FitPoints L (said-by ms) → 1 ≤ length (said-by ms)
-      → (d f : LineEnding) (js : List (Ended Injection)) → FitSamples L (said-by js) → (b : ℕ) (rest : List ℕ)
-      → s ≡ print-sheet e ms d f js ++ b ∷ rest → ((j : Ended Injection) → SampleForm (j .says) → ¬ Begins (print-sample j) (b ∷ rest))
+  malformed-sample : length s ≤ max-sheet → (e : LineEnding) (ms : List (Ended EvaluationPoint)) → FitPoints L (without-endings ms)
+      → 1 ≤ length (without-endings ms) → (d f : LineEnding) (js : List (Ended Injection)) → FitSamples L (without-endings js) → (b : ℕ) (rest : List ℕ)
+      → s ≡ print-sheet e ms d f js ++ b ∷ rest → ((j : Ended Injection) → SampleForm (j .content) → ¬ Begins (print-sample j) (b ∷ rest))
       → Refused L s 3 (length (print-sheet e ms d f js))
-  faulty-sample : length s ≤ max-sheet → (e : LineEnding) (ms : List (Ended EvaluationPoint)) → FitPoints L (said-by ms) → 1 ≤ length (said-by ms)
-      → (d f : LineEnding) (js : List (Ended Injection)) → FitSamples L (said-by js) → (j : Ended Injection) → SampleForm (j .says)
-      → Begins (print-sheet e ms d f js ++ print-sample j) s → {r : ℕ} → SampleFault L (said-by js) (j .says) r
+  faulty-sample : length s ≤ max-sheet → (e : LineEnding) (ms : List (Ended EvaluationPoint)) → FitPoints L (without-endings ms)
+      → 1 ≤ length (without-endings ms) → (d f : LineEnding) (js : List (Ended Injection)) → FitSamples L (without-endings js) → (j : Ended Injection)
+      → SampleForm (j .content) → Begins (print-sheet e ms d f js ++ print-sample j) s → {r : ℕ} → SampleFault L (without-endings js) (j .content) r
       → Refused L s r (length (print-sheet e ms d f js))

@@ -1,5 +1,5 @@
 -- The sheet's front stops with one report or hands on one place and lists, whatever follows; and the reader of plain sheets is that front before
--- its names line and its readings.
+-- its header line and its readings.
 use Prim.Native.Nat.{ℕ}
 use mathlib.Core.Path.{_≡_, refl}
 use mathlib.Core.Bool.{Bool, true, false}
@@ -70,7 +70,7 @@ module _ {A B : Type 0} (over : Answer A → Answer B) (stops : (e : Fault) → 
 pub front-then : {A : Type 0} (L : Limits) (s : List ℕ) (next : Front → Answer A) → and-then (sheet-front L s given) next ≡ sheet-front L s next
 front-then L s next = sheet-front-over (λ a. and-then a next) (λ e. refl) L s given next (λ f. refl)
 
--- what the reader of plain sheets does from the second names line on
+-- what the reader of plain sheets does from the second header line on
 abbrev pub plain-from : Limits → Front → Outcome
 plain-from L f = header sample-header (f .place) (f .rest) (λ p ls. read-samples L (f .points) (f .bandwidths) p [] [] [] ls)
 

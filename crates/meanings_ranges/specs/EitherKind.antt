@@ -1,5 +1,5 @@
 -- What the reader of both kinds has to do with the reader of specs/Sheet.antt: of every list of bytes it says the same, a value standing as low
--- and high, but where the second names line is the one of ranges; and there the other reader refuses that line.
+-- and high, but where the second header line is the one of ranges; and there the other reader refuses that line.
 use Prim.Native.Nat.{ℕ}
 use mathlib.Core.Path.{_≡_}
 use mathlib.Core.List.{List}
@@ -31,7 +31,7 @@ abbrev pub and-then : {A B : Type 0} → Answer A → (A → Answer B) → Answe
 and-then (given a) next = next a
 and-then (refused e) next = refused e
 
--- the second names line is the one of ranges
+-- the second header line is the one of ranges
 pub record RangesNamed (L : Limits) (s : List ℕ) : Type 0 where
   pub front : Front
   pub ending : LineEnding

@@ -17,7 +17,7 @@ use Rattle.meanings_ranges.specs.Ranges.{range-estimate}
 use Rattle.meanings_ranges.specs.RangeSheet.{RangeContents, read-either}
 use Rattle.meanings_ranges.specs.RangeCalls.{range-front}
 
--- the names line over rows of ranges
+-- the header line over rows of ranges
 abbrev pub range-curve-header : List ℕ
 range-curve-header = ascii "mark,half,left,right,weight,sumlow,sumhigh,vdklow,vdkhigh"
 

@@ -1,5 +1,5 @@
 -- SPECIFICATION, "Ranges": the reader of both kinds of sheet, as a function from any list of bytes to a report with its place or the kind and
--- the five lists. What stands before the second names line is read as by the reader of specs/Sheet.antt.
+-- the five lists. What stands before the second header line is read as by the reader of specs/Sheet.antt.
 use Prim.Native.Nat.{ℕ}
 use mathlib.Core.Bool.{Bool, _&&_}
 use mathlib.Core.List.{List, [], _∷_, _++_}
@@ -16,11 +16,11 @@ use Rattle.meanings.specs.Sheet.{Injection, ranged-sample, sample-line, add-kep
 use Rattle.meanings_ranges.specs.declared.Kind.{Kind}
 use Rattle.meanings_ranges.specs.declared.Kind.the-variants.{Plain, Ranges}
 
--- the second names line of a sheet with ranges
+-- the second header line of a sheet with ranges
 abbrev pub range-header : List ℕ
 range-header = ascii "minute,inj,low,high"
 
--- what is handed on before the second names line: the byte at which that line begins, the lines from there on, the marks and their half widths
+-- what is handed on before the second header line: the byte at which that line begins, the lines from there on, the marks and their half widths
 pub record Front : Type 0 where
   pub place : ℕ
   pub rest : Lines
@@ -36,7 +36,7 @@ front-points L p zs hs (line [] e ls) next =
 front-points L p zs hs (line (b ∷ t) e ls) next =
     with-point L p zs hs (point-line (b ∷ t)) (λ zs′ hs′. front-points L (next-place p (b ∷ t) e) zs′ hs′ ls next)
 
--- a sheet up to its second names line, and then what follows
+-- a sheet up to its second header line, and then what follows
 unfoldable pub sheet-front : {A : Type 0} → Limits → List ℕ → (Front → Answer A) → Answer A
 sheet-front L s next =
     pick (ltb max-sheet (length s)) (refused-at max-sheet 1) (header point-header 0 (lines s) (λ p rest. front-points L p [] [] rest next))
@@ -128,7 +128,7 @@ read-readings L k p r (unended t) next = refused-at p 3
 read-readings L k p r (line t e ls) next =
     with-reading L p r (reading-line k t) (λ r′. read-readings L k (next-place p t e) r′ ls next)
 
--- the second names line at byte p, which alone tells the kind, and what follows it
+-- the second header line at byte p, which alone tells the kind, and what follows it
 abbrev pub second-header : {A : Type 0} → ℕ → Lines → (Kind → ℕ → Lines → Answer A) → Answer A
 second-header p end next = refused-at p 2
 second-header p (unended t) next = refused-at p 2
@@ -147,7 +147,7 @@ range-contents k f r = record {
   bandwidths = f .bandwidths;
 }
 
--- from the second names line on
+-- from the second header line on
 abbrev pub read-either-from : Limits → Front → Answer RangeContents
 read-either-from L f =
     second-header (f .place) (f .rest)

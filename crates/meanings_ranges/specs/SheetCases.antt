@@ -48,7 +48,7 @@ sheet-cases =
     ∷ "mark,half\n1,1\n\nminute,inj,low,high\n3,3,0,5\n4,3,9,5\n5,3,0,5\n4,3,0,5\n" ⇒ refused (record { number = 15; place = 43 })
     -- early and crossed: 4
     ∷ "mark,half\n1,1\n\nminute,inj,low,high\n3,3,0,5\n2,3,9,5\n" ⇒ refused (record { number = 4; place = 43 })
-    -- the names line alone tells the kind
+    -- the header line alone tells the kind
     ∷ "mark,half\n1,1\n\nminute,inj,low,high\n"
     ⇒ given (record { kind = Ranges; minutes = []; lows = []; highs = []; points = 1 ∷ []; bandwidths = 1 ∷ [] })
     ∷ "mark,half\n1,1\n\nminute,inj,vdk\n"
@@ -73,7 +73,7 @@ sheet-cases =
     ∷ "mark,half\n1,1\n\nminute,inj,low,high\n7,3,65536,65535\n" ⇒ refused (record { number = 3; place = 35 })
     ∷ "mark,half\n1,1\n\nminute,inj,low,high\n7,0,5,5\n" ⇒ refused (record { number = 3; place = 35 })
     ∷ "mark,half\n1,1\n\nminute,inj,low,high\n7,3,5,5" ⇒ refused (record { number = 3; place = 35 })
-    -- before the second names line nothing is new
+    -- before the second header line nothing is new
     ∷ "mark,half\n1,0\n\nminute,inj,low,high\n7,3,5,5\n" ⇒ refused (record { number = 9; place = 10 })
     ∷ "" ⇒ refused (record { number = 2; place = 0 })
     ∷ []
@@ -122,7 +122,7 @@ program-cases =
     ∷ [])
     -- a crossed range
     ∷ "mark,half\n20,10\n25,15\n60,20\n\nminute,inj,low,high\n10,3,40,40\n12,1,901,900\n" prints ("refused,place" ∷ "15,60" ∷ [])
-    -- no readings: the names line alone decides
+    -- no readings: the header line alone decides
     ∷ "mark,half\n1,1\n\nminute,inj,low,high\n"
     prints ("mark,half,left,right,weight,sumlow,sumhigh,vdklow,vdkhigh" ∷ "1,1,0,0,0,0,0,-,-" ∷ "" ∷ "kept,passes" ∷ "0,0" ∷ [])
     ∷ "mark,half\n1,1\n\nminute,inj,vdk\n"

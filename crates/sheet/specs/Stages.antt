@@ -1,5 +1,5 @@
 -- What the stages of the reader have found out, as what is left of the sheet's meaning: a stage's contract says that the meaning before it is
--- the meaning of what it gives. Each contract is one record. The stages up to the second names line are those of crates/sheet_front, those from
+-- the meaning of what it gives. Each contract is one record. The stages up to the second header line are those of crates/sheet_front, those from
 -- there on of crates/sheet_samples.
 use Prim.Native.Nat.{ℕ, _≤_}
 use mathlib.Core.Path.{_≡_}

@@ -20,7 +20,7 @@ use Rattle.sheet_lines.specs.Lines.{line-bounds, first-end, line-at}
 use Rattle.sheet_lines.proofs.LineEnds.{LineFound, ended-line, unended-line}
 use Rattle.sheet_front.specs.Stages.{Passed, passed-to, HeaderTried}
 
--- a names line, and then what follows
+-- a header line, and then what follows
 module _ {A : Type 0} (next : ℕ → Lines → Answer A) where
   abbrev then-next : Answer Passed → Answer A
   then-next (given x) = next (x .place) (x .rest)

@@ -17,7 +17,7 @@ use Rattle.meanings_ranges.specs.RangeSheet.{Front, front-points, sheet-front}
 use Rattle.sheet_front.specs.declared.points.FrontRead.{FrontRead}
 use Rattle.sheet_front.specs.declared.points.FrontRead.the-variants.{Points}
 
--- what is handed on behind a names line: where the next line begins, and the lines from there on
+-- what is handed on behind a header line: where the next line begins, and the lines from there on
 pub record Passed : Type 0 where
   pub place : ℕ
   pub rest : Lines
@@ -25,7 +25,7 @@ pub record Passed : Type 0 where
 abbrev pub passed-to : ℕ → Lines → Answer Passed
 passed-to q ls = given (record { place = q; rest = ls })
 
--- after the names line at byte p
+-- after the header line at byte p
 abbrev pub after-header : Found → List ℕ → ℕ → Answer Passed
 after-header (At q) s p = passed-to q (lines (drop q s))
 after-header Nothing s p = refused-at p 2
@@ -55,7 +55,7 @@ pub record PointTried (t : List ℕ) (p : ℕ) (zs hs : List ℕ) (n : ℕ) (v :
       ≡ or-next (verdict-fault v) (next (take (n + 1) zs′) (take (n + 1) hs′))
   pub room : room-after v n
 
--- after the mark lines and the empty line: the second names line follows
+-- after the mark lines and the empty line: the second header line follows
 abbrev pub front-read : FrontRead → List ℕ → List ℕ → List ℕ → Answer Front
 front-read (Points n q) s zs hs = given (record { place = q; rest = lines (drop q s); points = take n zs; bandwidths = take n hs })
 front-read (FrontRead.Refused r) s zs hs = refused (fault-of r)

@@ -1,4 +1,4 @@
-// The front of the tank sheet, up to its second names line: the marks with their half widths, or the report. Every public function takes every
+// The front of the tank sheet, up to its second header line: the marks with their half widths, or the report. Every public function takes every
 // input.
 pub mod points;
 
@@ -11,7 +11,7 @@ ghost use mathlib.Core.Path.{_≡_};
 ghost use lib.ListN.{length};
 ghost use Rattle.sheet_front.specs.Stages.{HeaderTried, FrontFound, FrontOutcome};
 
-// Passes the names line at byte `from`, if it is that.
+// Passes the header line at byte `from`, if it is that.
 pub fn skip_header(sheet: &[u8], from: usize, names: &[u8]) -> Found
     ensures { λ r. ⌜ HeaderTried (now (names .entry)) (now (sheet .entry)) from r ⌝ }
 {

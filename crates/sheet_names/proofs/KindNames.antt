@@ -1,4 +1,4 @@
--- Which names line stands there, and what the lines behind it say by the kind that it tells.
+-- Which header line stands there, and what the lines behind it say by the kind that it tells.
 use Prim.Native.Nat.{ℕ}
 use mathlib.Core.Path.{_≡_, refl, sym, ap, _∙_}
 use mathlib.Core.Bool.{Bool, true, false}
@@ -30,7 +30,7 @@ use Rattle.sheet_names.specs.declared.NamedRead.{NamedRead}
 use Rattle.sheet_names.specs.declared.NamedRead.the-variants.{Kept}
 use Rattle.sheet_names.specs.Stages.{after-names, NamesTried, named-read, with-front, named-call, NamedOutcome}
 
--- the plain names line first, and where it does not stand the one of ranges
+-- the plain header line first, and where it does not stand the one of ranges
 module _ (p : ℕ) (next : Kind → ℕ → Lines → Answer RangeContents) where
   names-plain : (ls : Lines) (x : Passed) → header sample-header p ls passed-to ≡ given x → second-header p ls next ≡ next Plain (x .place) (x .rest)
   names-plain end x h = let z : _≡_ {A = ℕ} 0 1 = cc in absurd (omega arith)
@@ -68,7 +68,7 @@ module _ {s : List ℕ} {p : ℕ} {f : Found} (tried : HeaderTried sample-header
     named-neither e =
         record { goes-on = λ next. names-other p next (lines (drop p s)) (tried .outcome ∙ rw other) ∙ header-stops (next Ranges) again e }
 
--- what comes behind the names line, into lists of so many minutes, lows and highs
+-- what comes behind the header line, into lists of so many minutes, lows and highs
 abbrev behind : ℕ → ℕ → ℕ → List ℕ → List ℕ → Kind → ℕ → Lines → Answer RangeContents
 behind a b c zs hs k q ls =
     with-front k zs hs
@@ -94,7 +94,7 @@ module _ {s : List ℕ} {p a b c : ℕ} {r : Names} (tried : NamesTried s p r) w
     pub lines-kept : {n : ℕ} → x ≡ LinesKept n → NamedOutcome s p a b c (Kept k n) ts ls us
     lines-kept e = record { outcome = λ zs hs. after-lines zs hs ∙ rw e; within = rw e at (call .within) }
 
--- from the names line on, whatever stands behind it
+-- from the header line on, whatever stands behind it
 names-over : (p : ℕ) (ls : Lines) (next next′ : Kind → ℕ → Lines → Answer RangeContents) → ((k : Kind) (q : ℕ) (r : Lines) → next k q r ≡ next′ k q r)
     → second-header p ls next ≡ second-header p ls next′
 names-over p end next next′ h = refl

@@ -1,4 +1,4 @@
--- What the second names line tells, and what stands behind it, as what is left of the sheet's meaning. Each contract is one record.
+-- What the second header line tells, and what stands behind it, as what is left of the sheet's meaning. Each contract is one record.
 use Prim.Native.Nat.{ℕ, _≤_}
 use mathlib.Core.Path.{_≡_}
 use mathlib.Core.List.{List}
@@ -15,7 +15,7 @@ use Rattle.sheet_names.specs.declared.Names.the-variants.{Named, Unnamed
 use Rattle.sheet_names.specs.declared.NamedRead.{NamedRead}
 use Rattle.sheet_names.specs.declared.NamedRead.the-variants.{Kept}
 
--- after the second names line at byte p
+-- after the second header line at byte p
 abbrev pub after-names : Names → List ℕ → ℕ → (Kind → ℕ → Lines → Answer RangeContents) → Answer RangeContents
 after-names (Named k q) s p next = next k q (lines (drop q s))
 after-names Unnamed s p next = refused-at p 2

@@ -1,4 +1,4 @@
-// The second names line of a sheet, which tells its kind, and the reading lines behind it. Every public function takes every input.
+// The second header line of a sheet, which tells its kind, and the reading lines behind it. Every public function takes every input.
 use meanings::Found;
 use meanings::Refusal;
 use meanings::Report;
@@ -9,19 +9,19 @@ use sheet_readings::read_readings;
 ghost use lib.ListN.{length};
 ghost use Rattle.sheet_names.specs.Stages.{NamesTried, NamedOutcome};
 
-// What the second names line tells: the kind, and where the next line begins; or it is another line.
+// What the second header line tells: the kind, and where the next line begins; or it is another line.
 pub(crate) enum Names {
     Named { kind: Kind, next: usize },
     Unnamed,
 }
 
-// What stands from the second names line on: the kind and how many readings are kept, or the report.
+// What stands from the second header line on: the kind and how many readings are kept, or the report.
 pub enum NamedRead {
     Kept { kind: Kind, count: usize },
     Refused(Refusal),
 }
 
-// The second names line at byte `from`, which alone tells the kind.
+// The second header line at byte `from`, which alone tells the kind.
 pub(crate) fn second_header(sheet: &[u8], from: usize) -> Names
     ensures { λ r. ⌜ NamesTried (now (sheet .entry)) from r ⌝ }
 {
@@ -40,7 +40,7 @@ pub(crate) fn second_header(sheet: &[u8], from: usize) -> Names
     }
 }
 
-// From the second names line at byte `from` on, into lists of any lengths. What they hold after a refusal is left open: they are a reader's own.
+// From the second header line at byte `from` on, into lists of any lengths. What they hold after a refusal is left open: they are a reader's own.
 pub fn read_named(
     sheet: &[u8],
     from: usize,

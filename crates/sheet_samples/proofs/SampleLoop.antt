@@ -81,7 +81,7 @@ module _ {s : List ℕ} {from : ℕ} {ts₀ vs₀ ts vs : List ℕ} {p count las
               ∙ rw u (last-minute full zs hs n last m (take count′ ts′) (take count′ vs′) (lines (drop n s)));
         }
 
--- the call: the lengths of the lists, tested, and then the names line before the reading lines
+-- the call: the lengths of the lists, tested, and then the header line before the reading lines
 module _ {s : List ℕ} {from : ℕ} {ts vs : List ℕ} {a b : ℕ} where
   pub minutes-uneven : ¬ (a ≡ 1024) → SamplesOutcome s from a b (SamplesRead.Refused (record { report = LengthMismatch; place = 0 })) ts vs
   unfolding samples-call

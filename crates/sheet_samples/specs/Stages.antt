@@ -43,7 +43,7 @@ pub record SamplesFound (s : List ℕ) (from : ℕ) (r : SamplesRead) (ts vs : L
   pub outcome : (zs hs : List ℕ) → read-samples full zs hs from [] [] [] (lines (drop from s)) ≡ samples-read r zs hs ts vs
   pub within : samples-within r
 
--- the whole call from the names line at byte `from` on, with lists for so many minutes and values: 8, and then what the lines say, behind
+-- the whole call from the header line at byte `from` on, with lists for so many minutes and values: 8, and then what the lines say, behind
 -- marks zs with half widths hs
 unfoldable pub samples-call : Limits → List ℕ → ℕ → ℕ → ℕ → List ℕ → List ℕ → Outcome
 samples-call L s from a b zs hs =

@@ -1,4 +1,4 @@
-// The second names line of the tank sheet and the reading lines behind it. Every public function takes every input.
+// The second header line of the tank sheet and the reading lines behind it. Every public function takes every input.
 use meanings::Found;
 use meanings::Refusal;
 use meanings::Report;
@@ -101,7 +101,7 @@ pub(crate) fn scan_samples(
     SamplesRead::Kept(count)
 }
 
-// The second names line at byte `from` and the reading lines behind it, into lists of any lengths. What the lists hold after a refusal is left
+// The second header line at byte `from` and the reading lines behind it, into lists of any lengths. What the lists hold after a refusal is left
 // open: they are a reader's own.
 pub fn read_samples(
     sheet: &[u8],

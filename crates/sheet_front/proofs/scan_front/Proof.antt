@@ -1,4 +1,4 @@
--- The first names line and the mark lines in order: each stage's contract says what is left of the front's meaning after it.
+-- The first header line and the mark lines in order: each stage's contract says what is left of the front's meaning after it.
 use Rattle.sheet_front.proofs.Fronts.{too-long, no-point-header, points-follow}
 use borrow.Author.Needs.{needs}
 use Rattle.sheet_front.proofs.scan_front.Statement.{statement}

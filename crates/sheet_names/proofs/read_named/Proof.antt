@@ -1,4 +1,4 @@
--- Without a names line the sheet is refused there; with one the lines behind it are read by its kind.
+-- Without a header line the sheet is refused there; with one the lines behind it are read by its kind.
 use Rattle.sheet_names.proofs.KindNames.{names-missing, lines-refused, lines-kept}
 use borrow.Author.Needs.{needs}
 use Rattle.sheet_names.proofs.read_named.Statement.{statement}

@@ -1,4 +1,4 @@
--- The plain names line is looked for first, then the one of ranges; a third text is neither.
+-- The plain header line is looked for first, then the one of ranges; a third text is neither.
 use Rattle.sheet_names.proofs.KindNames.{named-plain, named-ranges, named-neither}
 use borrow.Author.Needs.{needs}
 use Rattle.sheet_names.proofs.second_header.Statement.{statement}

@@ -1,4 +1,4 @@
--- A list of another length is refused first. Where the names line stands the reading lines follow it, and what they give is given;
+-- A list of another length is refused first. Where the header line stands the reading lines follow it, and what they give is given;
 -- where it does not stand the meaning refuses at that byte.
 use Rattle.sheet_samples.proofs.SampleLoop.{minutes-uneven, values-uneven, no-sample-header, samples-after-header}
 use borrow.Author.Needs.{needs}
