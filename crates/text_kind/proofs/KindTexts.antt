@@ -3,7 +3,6 @@ use Prim.Native.Nat.{ℕ, _*_, _^_, _≤_, _<_, min}
 use mathlib.Core.Path.{_≡_, sym, ap, _∙_}
 use mathlib.Core.List.{List}
 use native.Mathlib.Omega.{arith}
-use native.Mathlib.Nat.{mul-le-mul}
 use lib.ListN.{length, take}
 use lib.Seq.{length-take-le}
 use Rattle.meanings.specs.declared.Writing.{Writing}

@@ -9,7 +9,7 @@ abbrev pub lines-of : (ℕ → List ℕ) → ℕ → List ℕ
 lines-of line zero = []
 lines-of line (suc n) = lines-of line n ++ line n
 
--- the names line, the lines of the marks, and behind an empty line kept readings and passes
+-- the header line, the lines of the marks, and behind an empty line kept readings and passes
 unfoldable pub whole-text : List ℕ → List ℕ → ℕ → ℕ → List ℕ
 whole-text names lines kept passes =
     text-line names [] ++ lines ++ line-feed ∷ text-line totals-header [] ++ text-line (decimal kept) (decimal passes ∷ [])

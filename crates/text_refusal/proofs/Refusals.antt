@@ -78,7 +78,7 @@ module _ (a b p : ℕ) (out : List ℕ) (fits : p + length (pair a b) ≤ length
         pub pair-stored : (next : List ℕ) (r : ℕ) → Stored out₃ q₃ (line-feed ∷ []) next r → Stored out p (pair a b) next r
         pair-stored next r end = all-stored (left-behind after-second end)
 
--- the names line, and right behind it the line of the number and the place
+-- the header line, and right behind it the line of the number and the place
 refusal-parts : (n p : ℕ) → refusal-text (record { number = n; place = p }) ≡ joined (text-line refusal-header [] ∷ pair n p ∷ [])
 unfolding refusal-text
 refusal-parts n p = simp append-nil

@@ -40,7 +40,7 @@ fn put_pair(out: &mut [u8], at: usize, a: u64, b: u64) -> usize
     put_text(out, second_end, b"\n")
 }
 
-// The names line, then number and place.
+// The header line, then number and place.
 fn put_refusal(out: &mut [u8], number: u64, place: u64) -> usize
     requires { ⌜ length (text-of (record { number = number; place = place })) ≤ length (now out) ⌝ }
     ensures { λ r. ⌜ Stored (now (out .entry)) 0 (text-of (record { number = number; place = place })) (now (out .exit)) r ⌝ }

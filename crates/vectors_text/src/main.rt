@@ -5,8 +5,6 @@ use abi_text::tankcurve_text;
 use meanings::MAX_OUTPUT;
 use vectors_io::MOST_BYTES;
 use vectors_io::MOST_CASES;
-use vectors_io::Parsed;
-use vectors_io::Taken;
 use vectors_io::lent_u8;
 use vectors_io::next_case;
 use vectors_io::number;

@@ -1,4 +1,4 @@
--- The names line, and right behind it the line of the number and the place.
+-- The header line, and right behind it the line of the number and the place.
 use borrow.Author.Needs.{needs}
 use Rattle.text_refusal.proofs.Refusals.{refusal-names-fit, refusal-pair-fits, refusal-stored}
 use Rattle.text_refusal.proofs.put_refusal.Statement.{statement}
