@@ -83,6 +83,26 @@ pub fn limit_words(tank: &Tank, limit: u16, answer: &LimitAnswer) -> Vec<String>
     vec![first, decisive]
 }
 
+/// The words for the first mark behind the answer's whose value is above the limit again; a missing value is not.
+pub fn above_again_words(
+    points: &[u16],
+    values: &[Option<u16>],
+    limit: u16,
+    answer: &LimitAnswer,
+) -> Option<String> {
+    let (first, _) = answer.first?;
+    let behind = points.iter().zip(values).skip(first + 1);
+    let (&point, value) = behind
+        .filter_map(|(point, value)| Some((point, (*value)?)))
+        .find(|&(_, value)| value > limit)?;
+    Some(format!(
+        "behind mark {} the curve is above the limit again: first at mark {point} ({}) with {}",
+        points[first],
+        day(point),
+        level(value)
+    ))
+}
+
 /// The window of a point.
 #[derive(Clone, Copy, Debug, PartialEq, Eq)]
 pub struct Window {

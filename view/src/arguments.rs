@@ -13,13 +13,16 @@ tankview: the curve of a tank sheet, with words for people and a picture
 FILE is a tank sheet; without it, or with - in its place, the sheet is read from
 standard input. Its curve goes to standard output as the program tankcurve writes it.
 Whatever is said in words goes to standard error.
-SECOND is another tank's sheet, set beside the first over the first one's marks.
+SECOND is another tank's sheet, set beside the first over the first one's marks; neither
+may be a sheet with ranges.
 
     --svg OUT     draws a picture into the file OUT
     --limit N     a limit, as in the sheet in tenths of a microgram per litre (0 to
-                  65535): which mark is the first at or below it, and which reading
-                  decides that
-    --window M    the window of the mark at minute M
+                  65535): which mark is the first at or below it, which reading
+                  decides that, and whether the curve is above it again behind that
+                  mark; not for a sheet with ranges
+    --window M    says which minutes and how many readings the window of the mark at
+                  minute M has, and draws it
     --help        this text
 
 Exit status: 0 for a curve, 1 for a refused sheet, 2 for wrong use and for a file that

@@ -10,6 +10,8 @@ const MARKED: &str =
     "the file begins with a byte order mark; save it as UTF-8 without one, or as plain text";
 const UNENDED: &str =
     "no line feed ends the last line: put the cursor behind it, press Enter, and save";
+const RETURNED: &str = "the last line ends in a carriage return without its line feed";
+const COMMENT: &str = "a comment; a sheet has none";
 const QUOTED: &str = "quotation marks stand around cells; a sheet has none";
 const SEMICOLONS: &str =
     "semicolons stand where commas belong; a spreadsheet program with a decimal comma saves so";
@@ -45,6 +47,7 @@ pub fn of_header(section: Section, line: Option<&Line>, rest: &[u8]) -> String {
         Some(line) => foreign_file(rest)
             .filter(|_| first)
             .or_else(|| misplaced(first, line.text))
+            .or_else(|| returned(first, line))
             .or_else(|| misspelt(first, line.text))
             .unwrap_or(if first {
                 "other names, or another file than a tank sheet"
@@ -65,10 +68,33 @@ fn misplaced(first: bool, text: &[u8]) -> Option<&'static str> {
         Some("the two blocks are swapped: marks come first, then an empty line, then readings")
     } else if !first && text == POINT_HEADER.as_bytes() {
         Some("the marks' names line stands here again, where the readings begin")
+    } else if text.starts_with(b"#") {
+        Some(COMMENT)
     } else if numbers(text).is_some() {
         Some("the names line is missing: numbers stand here already")
     } else {
         None
+    }
+}
+
+fn is_header(first: bool, text: &[u8]) -> bool {
+    match first {
+        true => text == POINT_HEADER.as_bytes(),
+        false => Kind::of_header(text).is_some(),
+    }
+}
+
+/// A last line that is a header line and a carriage return.
+fn returned(first: bool, line: &Line) -> Option<&'static str> {
+    let front = cut_return(line)?;
+    is_header(first, front).then_some(RETURNED)
+}
+
+/// The text of a last line in front of a carriage return without its line feed.
+fn cut_return<'a>(line: &Line<'a>) -> Option<&'a [u8]> {
+    match line.ended {
+        true => None,
+        false => line.text.strip_suffix(b"\r"),
     }
 }
 
@@ -77,10 +103,6 @@ fn misspelt(first: bool, text: &[u8]) -> Option<&'static str> {
     if text.starts_with(BYTE_ORDER_MARK) {
         return Some(MARKED);
     }
-    let is_header = |text: &[u8]| match first {
-        true => text == POINT_HEADER.as_bytes(),
-        false => Kind::of_header(text).is_some(),
-    };
     let front = text.split(|&byte| byte == b'\r').next().unwrap_or(text);
     let mended: [(Vec<u8>, &str); 10] = [
         (text.to_vec(), UNENDED),
@@ -103,21 +125,26 @@ fn misspelt(first: bool, text: &[u8]) -> Option<&'static str> {
             "the lines end in carriage returns without line feeds",
         ),
     ];
-    let found = mended.into_iter().find(|(line, _)| is_header(line));
+    let found = mended.into_iter().find(|(line, _)| is_header(first, line));
     found.map(|(_, words)| words)
 }
 
 /// Why a line of numbers is malformed.
 pub fn of_numbers(section: Section, line: &Line) -> String {
-    let text = line.text;
+    let (text, unended) = match cut_return(line) {
+        Some([]) => return RETURNED.to_string(),
+        Some(front) => (front, RETURNED),
+        None => (line.text, UNENDED),
+    };
     let found = whole_line(section, text)
+        .or_else(|| below_floor(section, text))
         .or_else(|| foreign_byte(text))
         .or_else(|| wrong_count(section, text))
         .or_else(|| wrong_number(section, text));
     match (found, line.ended) {
         (Some(words), true) => words,
-        (Some(words), false) => format!("{words}; besides, {UNENDED}"),
-        (None, _) => UNENDED.to_string(),
+        (Some(words), false) => format!("{words}; besides, {unended}"),
+        (None, _) => unended.to_string(),
     }
 }
 
@@ -147,6 +174,8 @@ fn whole_line(section: Section, text: &[u8]) -> Option<String> {
     } else if trimmed_commas(text).is_empty() {
         "a spreadsheet program has filled up an empty line with commas; it has to be empty"
             .to_string()
+    } else if text.starts_with(b"#") {
+        COMMENT.to_string()
     } else if header && section == Section::Points {
         "the empty line between the marks and this names line is missing".to_string()
     } else if again && section == Section::Points {
@@ -156,6 +185,20 @@ fn whole_line(section: Section, text: &[u8]) -> Option<String> {
     } else {
         return None;
     })
+}
+
+/// A value of which only is said below which number it lies, in a sheet without ranges.
+fn below_floor(section: Section, text: &[u8]) -> Option<String> {
+    if section != Section::Samples(Kind::Plain) {
+        return None;
+    }
+    let mut fields = text.split(|&byte| byte == b',');
+    let floor = fields.find_map(|field| field.strip_prefix(b"<"))?;
+    let floor = numbers(floor.trim_ascii())?;
+    Some(format!(
+        "'<' is neither a digit nor a comma; a value below the detector's floor belongs into a sheet with ranges, as 0,{}",
+        floor.first()?
+    ))
 }
 
 /// A byte that has no place in a line of numbers.
@@ -219,6 +262,12 @@ fn first_letter(bytes: &[u8]) -> String {
 fn wrong_count(section: Section, text: &[u8]) -> Option<String> {
     let (fields, wanted) = (text.split(|&byte| byte == b',').count(), section.fields());
     let decimal = "a decimal comma in a number, which has to be whole";
+    // three digits behind a comma may belong to the number in front of it
+    let mut behind = text.split(|&byte| byte == b',').skip(1);
+    let thousands = match behind.any(|field| field.len() == 3) {
+        true => ", or a separator of thousands",
+        false => "",
+    };
     let words = if fields == wanted {
         return None;
     } else if fields > wanted && trimmed_commas(text).split(|&byte| byte == b',').count() == wanted
@@ -226,15 +275,19 @@ fn wrong_count(section: Section, text: &[u8]) -> Option<String> {
         PADDED.to_string()
     } else {
         match (section, fields) {
-            (Section::Points, 3 | 4) => format!("{decimal}, or a reading line among the marks"),
+            (Section::Points, 3 | 4) => {
+                format!("{decimal}{thousands}, or a reading line among the marks")
+            }
             (Section::Samples(Kind::Plain), 4) => {
-                format!("{decimal} (values are in tenths), or a line of a sheet with ranges")
+                format!(
+                    "{decimal} (values are in tenths){thousands}, or a line of a sheet with ranges"
+                )
             }
             (Section::Samples(Kind::Ranges), 3) => "a line of a sheet without ranges".to_string(),
             (Section::Samples(_), 2) => {
                 "a mark line among the readings, or a number is missing".to_string()
             }
-            _ if fields > wanted => format!("{decimal}, or two lines in one"),
+            _ if fields > wanted => format!("{decimal}{thousands}, or two lines in one"),
             _ => "a number is missing, or the line was cut off".to_string(),
         }
     };

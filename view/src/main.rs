@@ -95,11 +95,11 @@ fn answer(request: &Request) -> Result<(), Stop> {
     if let Some(source) = &request.second {
         let (first, second) = (request.first.name(), source.name());
         say(&format!(
-            "{second}: its own marks are not used; it is drawn over the marks of {first}"
+            "{second}: its own marks are not used; it is set over the marks of {first}"
         ));
     }
     let scene = scene::of(request, &first, second.as_ref(), window)?;
-    for note in &scene.notes {
+    for note in scene.notes.iter().chain(&scene::above_again(&scene)) {
         say(note);
     }
     match out {

@@ -61,22 +61,41 @@ fn limit_notes(request: &Request, tanks: &[Plotted]) -> Vec<String> {
             continue;
         };
         for words in answers::limit_words(plotted.tank, limit, answer) {
-            notes.push(match tanks {
-                [_] => words,
-                _ => format!("{}: {words}", plotted.title),
-            });
+            notes.push(titled(tanks, plotted, words));
         }
     }
     notes
 }
 
+/// Where a curve is above the limit again behind the first mark at or below it. That is said and not written into the
+/// picture, which shows it.
+pub fn above_again(scene: &Scene) -> Vec<String> {
+    let words = |plotted: &Plotted| {
+        let (answer, limit) = (plotted.answer.as_ref()?, scene.limit?);
+        let points = &plotted.tank.points;
+        answers::above_again_words(points, &values(plotted), limit, answer)
+            .map(|words| titled(&scene.tanks, plotted, words))
+    };
+    scene.tanks.iter().filter_map(words).collect()
+}
+
+/// Words about one tank, with its name where there are two.
+fn titled(tanks: &[Plotted], plotted: &Plotted, words: String) -> String {
+    match tanks {
+        [_] => words,
+        _ => format!("{}: {words}", plotted.title),
+    }
+}
+
+/// The values of a plain sheet's curve.
+fn values(plotted: &Plotted) -> Vec<Option<u16>> {
+    let value = |level: &Option<Level>| level.map(|level| level.low);
+    plotted.curve.iter().map(value).collect()
+}
+
 /// Where two tanks part; nothing of one.
 fn parting_note(tanks: &[Plotted], parting: Option<&Parting>) -> Option<String> {
     let [first, second] = tanks else { return None };
-    let values = |plotted: &Plotted| -> Vec<Option<u16>> {
-        let value = |level: &Option<Level>| level.map(|level| level.low);
-        plotted.curve.iter().map(value).collect()
-    };
     let (here, there) = (values(first), values(second));
     Some(answers::parting_words(
         [&first.title, &second.title],

@@ -47,6 +47,9 @@ const NAMES: &str =
 const UNENDED: &str =
     "no line feed ends the last line: put the cursor behind it, press Enter, and save";
 
+const RETURNED: &str = "the last line ends in a carriage return without its line feed";
+const COMMENT: &str = "a comment; a sheet has none";
+
 #[test]
 fn a_good_sheet_is_silent() {
     let ran = run(&[], GOOD.as_bytes());
@@ -215,6 +218,9 @@ fn likely_causes_of_a_heading() {
         "the file begins with a byte order mark; save it as UTF-8 without one, or as plain text",
     );
     caused(b"\x7fELF\x02\0", 2, 1, "this is no file of text");
+    caused(format!("# tank 4\n{GOOD}"), 2, 1, COMMENT);
+    caused("mark,half\r", 2, 1, RETURNED);
+    caused("mark,half\n20,10\n\nminute,inj,vdk\r", 2, 4, RETURNED);
 }
 
 #[test]
@@ -290,6 +296,21 @@ fn likely_causes_of_a_torn_line() {
         "20,3,99999999999999999999999",
         "vdk is a number of 23 digits, above 65,535",
     );
+    reading("20,3,<200", "'<' is neither a digit nor a comma; a value below the detector's floor belongs into a sheet with ranges, as 0,200");
+    reading("20,3,<", "'<' is neither a digit nor a comma");
+    reading("2,100,7,1010", "4 numbers where 3 belong: a decimal comma in a number, which has to be whole (values are in tenths), or a separator of thousands, or a line of a sheet with ranges");
+    reading("2,100,7,1,010", "5 numbers where 3 belong: a decimal comma in a number, which has to be whole, or a separator of thousands, or two lines in one");
+    reading("# 20,3,60", COMMENT);
+    mark("#25,15", COMMENT);
+    mark("1,440,480", "3 numbers where 2 belong: a decimal comma in a number, which has to be whole, or a separator of thousands, or a reading line among the marks");
+    caused(with("35,5,20\n", "35,5,20\r"), 3, 12, RETURNED);
+    caused(
+        with("35,5,20\n", "35,05,20\r"),
+        3,
+        12,
+        &format!("inj is 05, with a zero in front; besides, {RETURNED}"),
+    );
+    caused(format!("{GOOD}\r"), 3, 13, RETURNED);
     reading("", "an empty line stands among the readings or behind them; nothing may follow the last reading");
     reading(
         "mark,half",

@@ -61,6 +61,9 @@ fn help_names_every_option() {
         "--window M",
         "--help",
         "FILE [SECOND]",
+        "neither\nmay be a sheet with ranges",
+        "not for a sheet with ranges",
+        "how many readings the window of the mark",
         "Exit status: 0",
     ] {
         assert!(text.contains(option), "{option}");
@@ -88,6 +91,33 @@ fn a_limit_that_no_single_reading_decides() {
         "first at or below the limit of 100.0 µg/l: mark 14400 (day 10.00) with 93.9 µg/l",
         "no single reading decides that: without any one of them the mark stays at or below the limit",
     ]));
+}
+
+/// Behind the first mark at or below the limit the curve of the afternoon rises above it again.
+#[test]
+fn a_curve_that_is_above_the_limit_again() {
+    let again = "behind mark 14400 the curve is above the limit again: first at mark 15840 (day 11.00) with 108.2 µg/l";
+    let ran = run(&["--limit", "1000", AFTERNOON], b"");
+    let said = words(&[again]);
+    assert!(ran.stderr.ends_with(&said), "{}", ran.stderr);
+    assert_eq!(ran.stderr.matches("above the limit again").count(), 1);
+    let ran = run(&["--limit", "1000", EVEN_FALL, AFTERNOON], b"");
+    let said = words(&[&format!("afternoon: {again}")]);
+    assert!(ran.stderr.ends_with(&said), "{}", ran.stderr);
+    assert_eq!(ran.stderr.matches("above the limit again").count(), 1);
+}
+
+/// A mark without a value is not above the limit, nor is one at it, nor one in front of the first.
+#[test]
+fn a_curve_that_stays_at_the_limit() {
+    let sheet =
+        "mark,half\n5,4\n10,4\n20,4\n30,4\n40,4\n\nminute,inj,vdk\n5,3,90\n10,4,30\n30,5,40\n";
+    let ran = run(&["--limit", "40"], sheet.as_bytes());
+    assert!(ran.stderr.contains("mark 10 "), "{}", ran.stderr);
+    assert!(!ran.stderr.contains("again"), "{}", ran.stderr);
+    let ran = run(&["--limit", "39"], sheet.as_bytes());
+    let said = words(&["behind mark 10 the curve is above the limit again: first at mark 30 (day 0.02) with 4.0 µg/l"]);
+    assert!(ran.stderr.ends_with(&said), "{}", ran.stderr);
 }
 
 #[test]
@@ -124,7 +154,7 @@ fn a_window_in_words() {
 fn two_tanks_in_words() {
     let ran = run(&[EVEN_FALL, AFTERNOON], b"");
     assert_eq!(ran.stderr, words(&[
-        "examples/afternoon.sheet: its own marks are not used; it is drawn over the marks of examples/even-fall.sheet",
+        "examples/afternoon.sheet: its own marks are not used; it is set over the marks of examples/even-fall.sheet",
         "even-fall and afternoon part at mark 13680 (day 9.50): 103.5 µg/l and 103.2 µg/l; even-fall is higher",
     ]));
     assert_eq!(
