@@ -563,8 +563,8 @@ digits, every reading kept. A half and a quarter have every second and every fou
 
 Buffers: lists and sheets on the heap; the lent buffers (minutes and values 1,024 × 2 bytes, marks 512 × 2,
 half widths 512 × 4, rows {} × 8, out {}) in one block of the heap, the same for all contestants. The
-reader's own lists (7 KB), the text's lists and rows (27 KB) and the programs' sheet and output (64 KB) are on
-the stack, in both languages. Inputs and buffers stay in the cache from call to call.
+reader's own lists (7 KB), the text's lists and rows (38 KB, in plain Rust 27) and the programs' sheet and output (44 KB in one buffer, in plain Rust
+77 in two) are on the stack, in both languages. Inputs and buffers stay in the cache from call to call.
 
 Times: contestants take turns in one process, {} rounds of about {} µs each; a process is timed from its start
 to its end, with pipes, {} rounds. Instructions: callgrind, what {} calls more add, divided by {}; of a process
