@@ -1,1 +1,2 @@
 // What is promised of the biweight row, in specs/, and its proof. No code.
+#![tactic(auto)]

@@ -1,4 +1,5 @@
 // The Epanechnikov estimator over readings at one mark: the question, its run, and the single step.
+#![tactic(auto)]
 mod edges;
 mod point;
 mod step;

@@ -1,1 +1,2 @@
 // Laws of strips, cells and boxes, in proofs/.
+#![tactic(auto)]

@@ -1,1 +1,2 @@
 // Laws of what the program writes, in proofs/. No code.
+#![tactic(auto)]

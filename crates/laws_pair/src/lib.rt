@@ -1,1 +1,2 @@
 // Laws of the comparison of two tanks, in proofs/. No code.
+#![tactic(auto)]

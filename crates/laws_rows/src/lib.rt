@@ -1,1 +1,2 @@
 // Laws of rows and sweeps beyond the contracts, in specs/ and proofs/. No code.
+#![tactic(auto)]

@@ -1,1 +1,2 @@
 // Laws of the sheet's meaning, in proofs/. No code.
+#![tactic(auto)]

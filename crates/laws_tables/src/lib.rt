@@ -1,1 +1,2 @@
 // Laws of tables of cumulative sums over the cells of the meaning, in proofs/.
+#![tactic(auto)]

@@ -1,1 +1,2 @@
 // Laws of steps and turns, in proofs/. No code.
+#![tactic(auto)]

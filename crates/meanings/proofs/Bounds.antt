@@ -7,7 +7,7 @@ use mathlib.Core.List.{List}
 use native.Mathlib.Nat.{le_trans, mul-le-mul, mul-le-mul_left}
 use native.Mathlib.Decide.{ℕ_discrete}
 use native.Mathlib.Omega.{arith}
-use lib.ListN.{length}
+use lib.ListN.{length, get_or}
 use Rattle.meanings.specs.Lists.{total, AtMost}
 use Rattle.meanings.specs.Limits.{max_u16, max_bandwidth, full}
 use Rattle.meanings.specs.Estimate.{kernel, left_of, right_of, weight_of, sum_of, value_of, estimate, missing, WithinLimits}
@@ -28,7 +28,7 @@ module _ (ts vs : List ℕ) (z h : ℕ) where
   pub weight_bound : length ts ≤ full.samples → h ≤ max_bandwidth → weight_of ts z h ≤ 2 ^ 42
   unfolding weight_of
   weight_bound few b =
-      le_trans (total_at_most _ (h * h) _ _ (λ i l. kernel_at_most z h _))
+      le_trans (total_at_most (λ i. kernel z h (get_or ts i 0)) (h * h) _ _ (λ i l. kernel_at_most z h (get_or ts (left_of ts z h + i) 0)))
       (le_trans (mul-le-mul (run_at_most) (mul-le-mul b b)) (omega arith))
     where
       run_at_most : right_of ts z h - left_of ts z h ≤ full.samples
@@ -38,9 +38,9 @@ module _ (ts vs : List ℕ) (z h : ℕ) where
   pub sum_at_most_times : length ts ≡ length vs → AtMost max_u16 vs → sum_of ts vs z h ≤ weight_of ts z h * max_u16
   unfolding weight_of sum_of
   sum_at_most_times e m =
-      total_at_most_times _ _ max_u16 _ _
+      total_at_most_times (λ i. kernel z h (get_or ts i 0) * get_or vs i 0) (λ i. kernel z h (get_or ts i 0)) max_u16 (left_of ts z h) _
       (λ i (l : i < right_of ts z h - left_of ts z h).
-      mul-le-mul_left (kernel z h _) (m (left_of ts z h + i) (let r = right_at_most_length ts z h in omega arith)))
+      mul-le-mul_left (kernel z h (get_or ts (left_of ts z h + i) 0)) (m (left_of ts z h + i) (let r = right_at_most_length ts z h in omega arith)))
 
   pub sum_bound : WithinLimits ts vs h → sum_of ts vs z h ≤ 2 ^ 58 - 2 ^ 42
   sum_bound f = let w = weight_bound f.few f.bandwidth in let s = sum_at_most_times f.even f.values in omega arith

@@ -8,7 +8,7 @@ use native.Mathlib.Omega.{arith}
 use lib.ListN.{get_or}
 use Rattle.meanings.specs.Lists.{total, Ordered}
 use Rattle.meanings.specs.Estimate.{Inside, kernel, left_of, right_of, weight_of, sum_of}
-use Rattle.meanings.specs.Running.{window_sum}
+use Rattle.meanings.specs.Running.{window_sum, term}
 use Rattle.meanings.proofs.Kernel.{distance_square, kernel_exact}
 use Rattle.meanings.proofs.Window.{right_at_most_length, run_is_inside}
 
@@ -59,10 +59,14 @@ module _ (ts vs : List ℕ) (z h : ℕ) (o : Ordered ts) where
   pub weight_formula : weight_of ts z h + z * z * window_sum ts vs z h 0 0 + window_sum ts vs z h 2 0
       ≡ h * h * window_sum ts vs z h 0 0 + 2 * z * window_sum ts vs z h 1 0
   unfolding weight_of
-  weight_formula = totals_balance _ _ _ _ _ _ _ _ _ (λ i l. counts_open z h _ (get_or vs (left_of ts z h + i) 0) (inside i l))
+  weight_formula =
+      totals_balance (λ i. kernel z h (get_or ts i 0)) (term 0 0 ts vs) (term 1 0 ts vs) (term 2 0 ts vs) (z * z) _ (2 * z) (left_of ts z h) _
+      (λ i l. counts_open z h _ (get_or vs (left_of ts z h + i) 0) (inside i l))
 
   -- the same with values
   pub sum_formula : sum_of ts vs z h + z * z * window_sum ts vs z h 0 1 + window_sum ts vs z h 2 1
       ≡ h * h * window_sum ts vs z h 0 1 + 2 * z * window_sum ts vs z h 1 1
   unfolding sum_of
-  sum_formula = totals_balance _ _ _ _ _ _ _ _ _ (λ i l. values_open z h _ (get_or vs (left_of ts z h + i) 0) (inside i l))
+  sum_formula =
+      totals_balance (λ i. kernel z h (get_or ts i 0) * get_or vs i 0) (term 0 1 ts vs) (term 1 1 ts vs) (term 2 1 ts vs) (z * z) _ (2 * z) (left_of ts z h) _
+      (λ i l. values_open z h _ (get_or vs (left_of ts z h + i) 0) (inside i l))

@@ -1,6 +1,6 @@
 -- The published estimators say what weight and sum say. Each term of (1) and (2) is 3 / (4 h³) times the kernel, which is 0 outside the
 -- window, so a sum over all samples is the sum over the run; in the quotient (2) the factor cancels. A term of (6) is 0 outside too.
-use Prim.Native.Nat.{ℕ, zero, suc, ◌+◌, ◌-◌, ◌*◌, ◌<◌}
+use Prim.Native.Nat.{ℕ, zero, suc, ◌+◌, ◌-◌, ◌*◌, ◌<◌, ◌^◌}
 use mathlib.Core.Path.{◌≡◌, refl, ap, ◌∙◌}
 use mathlib.Core.Logic.Iff
 use mathlib.Core.Logic.{◌↔◌}
@@ -158,7 +158,7 @@ unfolding range_sum
 range_sum_is_window_sum p q ts vs z h ordered =
     let l = left_at_most_right ts z h in
     let r = right_at_most_length ts z h in
-    total_where _ _ (left_of ts z h) (right_of ts z h - left_of ts z h) (length ts) (omega arith)
+    total_where _ (λ i. get_or ts i 0 ^ p * get_or vs i 0 ^ q) (left_of ts z h) (right_of ts z h - left_of ts z h) (length ts) (omega arith)
     (λ i short. Iff.trans (test_is_inside z h (get_or ts i 0)) (
       λ inside. omega (arith, (run_is_inside ts z h ordered i short).1 inside),
       λ within. (run_is_inside ts z h ordered i short).0 (omega arith),

@@ -1,5 +1,6 @@
 // The types that calls take and give, named by the field's terms. Each comment gives the brewery's word.
 // What each value has to be is defined in specs/.
+#![tactic(auto)]
 
 // The length of the buffer that a text is written into: max_output of specs/Limits.antt.
 pub const MAX_OUTPUT: usize = 44113;

@@ -1,4 +1,5 @@
 // The types of weights and sums for a spreadsheet, whose cells are doubles. What each value has to be is defined in specs/.
+#![tactic(auto)]
 
 // A number from 2^53 on: the remainder by 2^32 as the low part, the rest as the high part.
 #[derive(Drop)]

@@ -1,4 +1,5 @@
 // The row that a running record of any origin gives. The function takes every input.
+#![tactic(auto)]
 ghost use Rattle.std.specs.Prelude.{◌≡◌};
 ghost use Rattle.meanings.specs.Running.{record_row};
 
