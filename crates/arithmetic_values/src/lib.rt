@@ -1,5 +1,6 @@
 // A row's value, and the least minute of a window. Every function takes every input.
 #![tactic(auto)]
+
 ghost use Rattle.std.specs.Prelude.{◌≡◌, ◌-◌};
 ghost use Rattle.meanings.specs.Estimate.{value_of};
 

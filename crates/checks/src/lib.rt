@@ -1,5 +1,6 @@
 // The single tests that the calls' refusals are made of, the limits, and the reports' numbers. Every function takes every input.
 #![tactic(auto)]
+
 ghost use Rattle.std.specs.Prelude.{◌≡◌, length};
 ghost use Rattle.meanings.specs.Limits.{full as full_limits, preview};
 ghost use Rattle.meanings.specs.Lists.{lowest};

@@ -1,5 +1,6 @@
 // The refusals of the mark filler, for any pair of limits. Every function takes every input.
 #![tactic(auto)]
+
 ghost use Rattle.std.specs.Prelude.{◌≡◌, ◌+◌, ◌-◌, ◌*◌, ltb, length};
 ghost use Rattle.meanings.specs.Limits.{max_u16};
 ghost use Rattle.meanings.specs.Reports.{verdict_fault, first_of, fill_checks};

@@ -1,5 +1,6 @@
 // The lengths of the five lists of the reader of both kinds of sheet.
 #![tactic(auto)]
+
 ghost use Rattle.std.specs.Prelude.{◌≡◌};
 ghost use Rattle.meanings.specs.Limits.{full};
 ghost use Rattle.checks_reader.specs.Lengths.{uneven_reader};

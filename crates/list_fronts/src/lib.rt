@@ -1,5 +1,6 @@
 // The front of one list stored at the front of another. Every public function takes every input.
 #![tactic(auto)]
+
 ghost use Rattle.std.specs.Prelude.{◌≡◌, ◌≤◌, ◌++◌, length, take, drop};
 ghost use Rattle.list_fronts.specs.Copied.{copied};
 

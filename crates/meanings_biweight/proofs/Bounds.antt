@@ -54,9 +54,9 @@ module _ (ts vs : List ℕ) (z h : ℕ) where
   pub sum_at_most_times : length ts ≡ length vs → AtMost max_u16 vs → biweight_sum ts vs z h ≤ biweight_weight ts z h * max_u16
   unfolding biweight_weight biweight_sum
   sum_at_most_times e m =
-      total_at_most_times _ _ max_u16 _ _
+      total_at_most_times (λ x'. biweight_kernel z h (get_or ts x' 0) * get_or vs x' 0) (λ x'. biweight_kernel z h (get_or ts x' 0)) max_u16 (left_of ts z h) _
       (λ i (l : i < right_of ts z h - left_of ts z h).
-      mul-le-mul_left (biweight_kernel z h _) (m (left_of ts z h + i) (let r = right_at_most_length ts z h in omega arith)))
+      mul-le-mul_left (biweight_kernel z h (get_or ts (left_of ts z h + i) 0)) (m (left_of ts z h + i) (let r = right_at_most_length ts z h in omega arith)))
 
   pub value_bound : length ts ≡ length vs → AtMost max_u16 vs → 0 < biweight_weight ts z h
       → value_of (biweight_sum ts vs z h) (biweight_weight ts z h) ≤ max_u16

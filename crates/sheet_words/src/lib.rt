@@ -1,5 +1,6 @@
 // Eight bytes as one word, and where a line feed stands in one. Every function takes every input.
 #![tactic(auto)]
+
 ghost use Rattle.std.specs.Prelude.{◌≡◌, ◌+◌, ◌-◌, ◌*◌};
 ghost use Rattle.meanings.specs.Bytes.{line_feed};
 ghost use Rattle.sheet_words.specs.Words.{byte, whole_word, word_at, Marks};
