@@ -1,6 +1,7 @@
 // Rows, records and refusals as plain numbers, for the calls that programs in C and Rust make. A list of another length than what is to be stored in
 // it stays as it was.
 #![tactic(auto)]
+
 ghost use Rattle.std.specs.Prelude.{◌≡◌, [], ◌∷◌};
 ghost use Rattle.meanings.specs.Reports.{fault_of, found_position};
 ghost use Rattle.meanings.specs.Estimate.{fields};

@@ -1,6 +1,7 @@
 // The estimator's six running sums with one reading more or less, or with six others less, and the passes with the way of an edge, kept modulo 2^64. Every
 // function takes every input.
 #![tactic(auto)]
+
 ghost use Rattle.std.specs.Prelude.{◌≡◌, ◌*◌, ◌^◌};
 ghost use Rattle.meanings.specs.Lists.{distance};
 ghost use Rattle.meanings.specs.Running.{six, sum_at, plus, minus};

@@ -1,5 +1,6 @@
 // Count and value sum of every pair of windows, from two tables of cumulative sums. The function that another crate can reach takes every input.
 #![tactic(auto)]
+
 mod pairs;
 
 ghost use Rattle.box_sums.specs.Pairs.{StripsTested, BoxesTried};

@@ -1,6 +1,7 @@
 // The refusals of readings with marks by their lengths and by their order, and of a list of half widths, for any pair of limits. Every public function takes
 // every input.
 #![tactic(auto)]
+
 ghost use Rattle.std.specs.Prelude.{◌≡◌, ◌||◌, length};
 ghost use Rattle.meanings.specs.Lists.{lowest};
 ghost use Rattle.meanings.specs.Reports.{verdict_fault, found_position, first_of, outside_at, uneven_samples, uneven_points};

@@ -1,5 +1,6 @@
 // The refusals of readings, of a record's edges and of one half width, for any pair of limits. Every function takes every input.
 #![tactic(auto)]
+
 ghost use Rattle.std.specs.Prelude.{◌≡◌};
 ghost use Rattle.meanings.specs.Reports.{verdict_fault, first_of, size_checks, series_checks, record_checks, bandwidth_checks};
 

@@ -1,5 +1,6 @@
 // A table of cumulative sums over a list of cells. The function that another crate can reach takes every input.
 #![tactic(auto)]
+
 mod rows;
 
 ghost use Rattle.cumulative.specs.Tables.{Tried};

@@ -1,5 +1,6 @@
 // Weights and sums of a row as doubles, for a spreadsheet. Every number of 64 bits is taken, under every weight, and handed over exactly.
 #![tactic(auto)]
+
 ghost use Rattle.std.specs.Prelude.{◌≡◌};
 ghost use Rattle.meanings_doubles.specs.Doubles.{handed, cell_doubles, row_handed, row_doubles};
 

@@ -2,7 +2,7 @@
 -- cut: a carriage return that is met there belongs to a text either way. And a sheet without a fault is read as its lists, which know nothing
 -- of endings, so the same lines under other endings are read as the same.
 use Prim.Native.Nat.{ℕ, ◌≤◌}
-use mathlib.Core.Path.{◌≡◌, refl, ap, ◌∙◌}
+use mathlib.Core.Path.{◌≡◌, refl, ap, subst, ◌∙◌}
 use mathlib.Core.List.{List, [], ◌∷◌}
 use native.Mathlib.Omega.{arith}
 use borrow.Author.Tests.{eq-eqb}
@@ -37,7 +37,7 @@ lines_as_before (b ∷ s) n = by (first_byte b s) (lines_as_before s (rest_free 
   where
     by : FirstByte b s → lines s ≡ feed_lines s → lines (b ∷ s) ≡ feed_lines (b ∷ s)
     by (is_feed f g) k = g ∙ rw (eq-eqb b line_feed f, k)
-    by (is_return f ls h g) k = absurd (no_return_here s ls h (rw f at n))
+    by (is_return f ls h g) k = absurd (no_return_here s ls h (subst (λ x. NoReturnFeed (x ∷ s)) f n))
     by (is_text f g w) k = g ∙ rw (f, k)
 
 -- a sheet in which no carriage return stands directly before a line feed has the outcome it had

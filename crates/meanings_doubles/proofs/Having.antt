@@ -7,7 +7,7 @@ use native.Mathlib.Omega.{arith}
 use borrow.Author.Tests.{lt-ltb, le-ltb, eq-eqb, ne_eqb, ltb-true, ltb-false, eqb-true, eqb-false}
 use lib.Dec.{T, ltb, eqb}
 use lib.IntN.{pos}
-use lib.Ieee.{Float, fin, binary64, to_unsigned, fits, up, down}
+use lib.Ieee.{Float, nan, inf, fin, binary64, to_unsigned, fits, up, down}
 use lib.Ieee.Fits.{of_int-fits, down_pos}
 use lib.Ieee.Back.{whole_unique}
 use Rattle.meanings_doubles.specs.Doubles.{Doubles, empty, one, pair, double, handed, one_limit, low_unit, low_of, high_of}
@@ -98,10 +98,14 @@ handed_had_back w n l zero = by (handed w n) (handed_over w n l)
 
 -- a double has one whole value, and that is what the cast gives
 one_value : (d : Float) (n m : ℕ) → Exactly d n → Exactly d m → n ≡ m
+one_value nan n m a b = elim a [ ]
+one_value (inf s) n m a b = elim a [ ]
 one_value (fin t k e) n m a b = eq_of_mul-eq-mul_right (down e) (down_pos e) n m (sym a.1 ∙ b.1)
 
 cast_value : (d : Float) (n : ℕ) → n < 2 ^ 64 → Exactly d n → to_unsigned 64 d ≡ n
 unfolding to_unsigned
+cast_value nan n l a = elim a [ ]
+cast_value (inf s) n l a = elim a [ ]
 cast_value (fin true k e) n l a = absurd (true≢false a.0)
 cast_value (fin false k e) n l a =
     let whole : k * up e / down e ≡ n =

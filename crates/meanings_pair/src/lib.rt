@@ -1,5 +1,6 @@
 // The types that the comparison of two tanks gives. What each value has to be is defined in specs/.
 #![tactic(auto)]
+
 use meanings::Refusal;
 
 // One of the two tanks.

@@ -1,6 +1,6 @@
 -- The kernel is no less than 0, so a greater value gives no smaller sum, and by one weight no smaller rounded quotient; edges and weight do not
 -- look at values. The lowest values are themselves a choice, and so are the highest: each end is reached, by one choice for the whole curve.
-use Prim.Native.Nat.{ℕ, zero, suc, ◌+◌, ◌-◌, ◌≤◌, ◌<◌, zero-le}
+use Prim.Native.Nat.{ℕ, zero, suc, ◌+◌, ◌-◌, ◌≤◌, ◌<◌, zero-le, ◌*◌}
 use mathlib.Core.Path.{◌≡◌, refl, sym, ◌∙◌}
 use mathlib.Core.Logic.{◌↔◌}
 use mathlib.Core.List.{List, [], ◌∷◌}
@@ -23,7 +23,7 @@ total_grows f g a (suc n) k = omega (arith, total_grows f g a n (λ i l. k i (om
 -- a list of values that is nowhere less gives no smaller sum
 sum_grows : (ts vs vs' : List ℕ) (z h : ℕ) → ((i : ℕ) → get_or vs i 0 ≤ get_or vs' i 0) → sum_of ts vs z h ≤ sum_of ts vs' z h
 unfolding sum_of
-sum_grows ts vs vs' z h m = total_grows _ _ (left_of ts z h) (right_of ts z h - left_of ts z h) (λ i l. mul-le-mul_left (kernel z h _) (m (left_of ts z h + i)))
+sum_grows ts vs vs' z h m = total_grows (λ x'. ◌*◌ (kernel z h (get_or ts x' 0)) (get_or vs x' 0)) (λ x'. ◌*◌ (kernel z h (get_or ts x' 0)) (get_or vs' x' 0)) (left_of ts z h) (right_of ts z h - left_of ts z h) (λ i l. mul-le-mul_left (kernel z h (get_or ts (left_of ts z h + i) 0)) (m (left_of ts z h + i)))
 
 value_grows : (s t w : ℕ) → s ≤ t → value_of s w ≤ value_of t w
 value_grows s t w l = by (ℕ_discrete w 0)

@@ -1,5 +1,6 @@
 // The types that readings known as ranges give. What each value has to be is defined in specs/.
 #![tactic(auto)]
+
 use meanings::Refusal;
 
 // The least and the greatest that a number can be.

@@ -1,5 +1,6 @@
 // The lines of the tank sheet: where a line ends, and whether its text is a given one. Every function takes every input.
 #![tactic(auto)]
+
 ghost use Rattle.std.specs.Prelude.{◌≡◌, ◌<◌, length};
 ghost use Rattle.meanings.specs.Sheet.{same};
 ghost use Rattle.sheet_lines.specs.Lines.{line_bounds, line_at, feed_from, text_before};

@@ -9,8 +9,7 @@ ghost use Rattle.tankcurve.specs.Input.{InputWithin};
 
 use checks::report_number;
 use meanings::{MAX_OUTPUT, Refusal, Writing};
-
-const IN: i32 = 0;
+use std::io::{Read, Stdin};
 
 const OUT: i32 = 1;
 
@@ -24,25 +23,24 @@ enum Input {
 }
 
 // One read into a part of the buffer: how many bytes came, 0 at the end of the input.
-fn read_part(part: &mut [u8]) -> Input
+fn read_part(mut input: Stdin, part: &mut [u8]) -> Input
     ensures { InputWithin result (length part.new) }
 {
-    let got = libc::read(IN, part);
-    if got < 0 {
-        return Input::Failed;
+    match input.read(part) {
+        Ok(got) => Input::Bytes(got),
+        Err(_) => Input::Failed,
     }
-    Input::Bytes(io::count(got, part))
 }
 
 // Reads until the buffer is full or the input ends: one byte more than a sheet may have decides whether it is overlong. A short read is read
 // on; a failed one is told from the end.
-fn read_input(buf: &mut [u8]) -> Input
+fn read_input(input: Stdin, buf: &mut [u8]) -> Input
     requires { length buf.old ≡ max_sheet + 1 }
     ensures { InputWithin result (length buf.new) }
 {
     let mut done = 0;
     while done < buf.len() {
-        let Input::Bytes(more) = read_part(&mut buf[done..]) else {
+        let Input::Bytes(more) = read_part(input, &mut buf[done..]) else {
             return Input::Failed;
         };
         if more == 0 {
@@ -90,11 +88,11 @@ fn write_answer(buf: &mut [u8], size: usize)
 }
 
 // From standard input to standard output in one buffer: the sheet is read into its front, and its curve is written over it.
-fn run(buf: &mut [u8])
+fn run(input: Stdin, buf: &mut [u8])
     requires { length buf.old ≡ max_output }
 {
     let room = 32769;
-    match read_input(&mut buf[..room]) {
+    match read_input(input, &mut buf[..room]) {
         Input::Bytes(n) => write_answer(buf, n),
         Input::Failed => {
             io::write_all(ERR, b"tankcurve: standard input cannot be read\n");
@@ -102,7 +100,7 @@ fn run(buf: &mut [u8])
     }
 }
 
-fn main() {
+fn main(rt: HostRuntime) {
     let mut buf = [0u8; MAX_OUTPUT];
-    run(&mut buf);
+    run(rt.stdin(), &mut buf);
 }

@@ -1,5 +1,6 @@
 // Texts and numbers in decimal, stored in a lent list. Four digits at a time: those of a number below 10,000 are made in one word, a byte each.
 #![tactic(auto)]
+
 ghost use Rattle.std.specs.Prelude.{◌≡◌, ◌+◌, ◌≤◌, ◌<◌, [], ◌∷◌, length};
 ghost use Rattle.meanings.specs.Output.{decimal};
 ghost use Rattle.text_decimal.specs.Written.{Stored, put_end, put_list};

@@ -1,7 +1,6 @@
 -- Each field is the wrapping difference of the old one and its product of powers of minute and value.
 -- The products fit: minute and value are below 2^16.
-use Rattle.std.proofs.Common.{rules}
-use Rattle.arithmetic.proofs.OneSample.{product_of_two_fits, product_of_three_fits, sample_wrapped_back}
+use Rattle.arithmetic.proofs.OneSample.{sample_wrapped_back}
 use Rattle.arithmetic.proofs.minus_sample.Goals as goal
 
 pub returns : goal.returns

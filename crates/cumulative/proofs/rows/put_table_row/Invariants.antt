@@ -1,8 +1,6 @@
 -- Each turn adds a cell to the running sum, and stores the number above with it.
 use Prim.Native.Nat.{◌-◌}
-use borrow.Author.Rules.{rules}
-use Rattle.cumulative.proofs.Filling.{RowPart, row_begins, row_goes_on, row_ends, first_place, cell_there, above_there, place_there, row_length}
-use Rattle.cumulative.proofs.Filling.{cell_fits, running_fits, number_fits}
+use Rattle.cumulative.proofs.Filling.{RowPart}
 use Rattle.cumulative.proofs.rows.put_table_row.Given as goal
 
 abbrev pub invariant-loop-b : goal.invariant-loop-b

@@ -1,8 +1,6 @@
 -- Each turn stores one row more.
 use Prim.Native.Nat.{◌-◌}
 use Rattle.cumulative.specs.Tables.{RowsTo}
-use borrow.Author.Rules.{rules}
-use Rattle.cumulative.proofs.Filling.{row_before, all_rows, rows_length}
 use Rattle.cumulative.proofs.rows.put_table_rows.Given as goal
 
 abbrev pub invariant-loop-a : goal.invariant-loop-a
