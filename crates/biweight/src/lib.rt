@@ -18,7 +18,7 @@ use meanings::{Estimate, Evaluation, Verdict};
 const BANDWIDTH: u32 = 720;
 
 // Weight and sum over a run.
-#[derive(Drop)]
+#[derive(Clone, Copy)]
 struct Weighed {
     weight: u64,
     sum: u64,

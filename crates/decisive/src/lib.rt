@@ -16,7 +16,7 @@ use sample_weight::sample_weight;
 use threshold::at_or_below;
 
 // Bounds outside of which no reading has weight, with the row's weight and sum.
-#[derive(Drop)]
+#[derive(Clone, Copy)]
 pub(crate) struct Run {
     pub(crate) left: usize,
     pub(crate) right: usize,

@@ -13,7 +13,7 @@ use meanings::{Estimate, RunningSums};
 use row::record_row;
 
 // A window's run: positions left up to but without right.
-#[derive(Drop)]
+#[derive(Clone, Copy)]
 pub(crate) struct Span {
     pub(crate) left: usize,
     pub(crate) right: usize,

@@ -1,5 +1,6 @@
 // The bandwidth presets, "the knob", and the evaluation grid, which "the mark filler" fills.
 #![tactic(auto)]
+
 ghost use Rattle.std.specs.Prelude.{◌≡◌, ◌+◌, ◌-◌, ◌*◌, ◌≤◌, ◌<◌, length, get_or, replicate};
 ghost use Rattle.meanings.specs.Limits.{full as full_limits, max_u16};
 ghost use Rattle.meanings.specs.Grid.{presets, grid};

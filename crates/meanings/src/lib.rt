@@ -15,7 +15,7 @@ pub const ROW_WIDTH: usize = 5;
 pub const DETAIL_UNIT: u64 = 256;
 
 // SPECIFICATION, "Reports": the seventeen reports. `number` of specs/Reports.antt gives each its number.
-#[derive(Drop)]
+#[derive(Clone, Copy)]
 pub enum Report {
     TooLong, // 1, "overlong"
     BadHeader, // 2, "heading"
@@ -37,35 +37,35 @@ pub enum Report {
 }
 
 // A report with its place.
-#[derive(Drop)]
+#[derive(Clone, Copy)]
 pub struct Refusal {
     pub report: Report,
     pub place: usize,
 }
 
 // How many kept readings and how many marks there may be.
-#[derive(Drop)]
+#[derive(Clone, Copy)]
 pub struct Limits {
     pub samples: usize,
     pub points: usize,
 }
 
 // What a check finds: nothing, or the report.
-#[derive(Drop)]
+#[derive(Clone, Copy)]
 pub enum Verdict {
     Fit,
     Faulty(Refusal),
 }
 
 // What a search for a position finds.
-#[derive(Drop)]
+#[derive(Clone, Copy)]
 pub enum Found {
     At(usize),
     Nothing,
 }
 
 // The row of a mark.
-#[derive(Drop)]
+#[derive(Clone, Copy)]
 pub struct Estimate {
     pub left: u64,
     pub right: u64,
@@ -75,7 +75,7 @@ pub struct Estimate {
 }
 
 // The six running sums: spq is the sum of time to the power p times value to the power q.
-#[derive(Drop)]
+#[derive(Clone, Copy)]
 pub struct PowerSums {
     pub s00: u64,
     pub s10: u64,
@@ -86,7 +86,7 @@ pub struct PowerSums {
 }
 
 // The running record: the edges, the sums over the run between them, and how far both edges have travelled.
-#[derive(Drop)]
+#[derive(Clone, Copy)]
 pub struct RunningSums {
     pub left: usize,
     pub right: usize,
@@ -95,49 +95,49 @@ pub struct RunningSums {
 }
 
 // What the question at one mark gives: the row or the report.
-#[derive(Drop)]
+#[derive(Clone, Copy)]
 pub enum Evaluation {
     Row(Estimate),
     Refused(Refusal),
 }
 
 // What a step gives: the new record or the report.
-#[derive(Drop)]
+#[derive(Clone, Copy)]
 pub enum Advance {
     Moved(RunningSums),
     Refused(Refusal),
 }
 
 // What a turn gives: the record, as it was where the turn is refused, and what the turn is refused for.
-#[derive(Drop)]
+#[derive(Clone, Copy)]
 pub struct Turning {
     pub running: RunningSums,
     pub verdict: Verdict,
 }
 
 // What a sweep gives: its passes or the report.
-#[derive(Drop)]
+#[derive(Clone, Copy)]
 pub enum Smoothing {
     Passes(u64),
     Refused(Refusal),
 }
 
 // What the mark filler gives.
-#[derive(Drop)]
+#[derive(Clone, Copy)]
 pub enum Filling {
     Filled,
     Refused(Refusal),
 }
 
 // What the reader gives: how many readings are kept and how many marks there are, or the report.
-#[derive(Drop)]
+#[derive(Clone, Copy)]
 pub enum Parsing {
     Used { samples: usize, points: usize },
     Refused(Refusal),
 }
 
 // What a writer of a text gives: how many bytes it has written into the lent buffer, or the report.
-#[derive(Drop)]
+#[derive(Clone, Copy)]
 pub enum Writing {
     Written(usize),
     Refused(Refusal),

@@ -3,7 +3,7 @@
 use meanings::Refusal;
 
 // Which reading decides: the lowest position whose reading's removal alone turns the answer at the mark, none, or the report.
-#[derive(Drop)]
+#[derive(Clone, Copy)]
 pub enum Decisive {
     Sample(usize),
     NoSample,

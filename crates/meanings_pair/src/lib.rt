@@ -4,14 +4,14 @@
 use meanings::Refusal;
 
 // One of the two tanks.
-#[derive(Drop)]
+#[derive(Clone, Copy)]
 pub enum Tank {
     First,
     Second,
 }
 
 // Where two tanks part: a position among the marks and the tank that is higher there, nowhere, or the report.
-#[derive(Drop)]
+#[derive(Clone, Copy)]
 pub enum Comparison {
     Apart { point: usize, higher: Tank },
     Alike,
@@ -19,7 +19,7 @@ pub enum Comparison {
 }
 
 // The same with the run of the higher tank there: positions left up to but without right of its own lists.
-#[derive(Drop)]
+#[derive(Clone, Copy)]
 pub enum Split {
     Apart {
         point: usize,

@@ -4,14 +4,14 @@
 use meanings::Refusal;
 
 // The least and the greatest that a number can be.
-#[derive(Drop)]
+#[derive(Clone, Copy)]
 pub struct Bounds {
     pub low: u64,
     pub high: u64,
 }
 
 // The row of a mark over readings of which each value is known only to lie between two.
-#[derive(Drop)]
+#[derive(Clone, Copy)]
 pub struct RangeEstimate {
     pub left: u64,
     pub right: u64,
@@ -24,14 +24,14 @@ pub struct RangeEstimate {
 pub const RANGE_ROW_WIDTH: usize = 7;
 
 // What the reading lines of a sheet hold: a value each, or a range.
-#[derive(Drop)]
+#[derive(Clone, Copy)]
 pub enum Kind {
     Plain,
     Ranges,
 }
 
 // What the reader of both kinds gives: how many readings are kept, how many marks there are and the kind, or the report.
-#[derive(Drop)]
+#[derive(Clone, Copy)]
 pub enum RangeParsing {
     Used {
         samples: usize,

@@ -1,5 +1,6 @@
 // Fronts of the five lists of a sheet of either kind.
 #![tactic(auto)]
+
 ghost use Rattle.std.specs.Prelude.{◌≡◌};
 ghost use Rattle.list_fronts.specs.Copied.{copied};
 

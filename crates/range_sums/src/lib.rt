@@ -12,7 +12,7 @@ use meanings::PowerSums;
 use meanings_ranges::{Bounds, RangeEstimate};
 
 // The three sums that values move.
-#[derive(Drop)]
+#[derive(Clone, Copy)]
 pub struct ValueSums {
     pub s01: u64,
     pub s11: u64,
@@ -20,7 +20,7 @@ pub struct ValueSums {
 }
 
 // Six sums of the lows and six of the highs.
-#[derive(Drop)]
+#[derive(Clone, Copy)]
 pub struct BothSums {
     pub s00: u64,
     pub s10: u64,
@@ -30,7 +30,7 @@ pub struct BothSums {
 }
 
 // A running record of each, with the same edges and passes.
-#[derive(Drop)]
+#[derive(Clone, Copy)]
 pub struct BothRecord {
     pub left: usize,
     pub right: usize,

@@ -12,7 +12,7 @@ use sheet_fields::{Field, number_at};
 use sheet_values::{SampleLine, ranged_sample, sample_line};
 
 // The values of a reading line: minute, inj, and the lowest and the highest that the value can be.
-#[derive(Drop)]
+#[derive(Clone, Copy)]
 pub enum ReadingLine {
     Reading {
         minute: u16,

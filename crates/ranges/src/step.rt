@@ -7,7 +7,7 @@ use arithmetic_values::lowest_minute;
 use range_sums::{BothRecord, BothSums, minus_range, plus_range};
 
 // Where an edge has stopped, and the sums there.
-#[derive(Drop)]
+#[derive(Clone, Copy)]
 pub(crate) struct BothEdge {
     pub(crate) at: usize,
     pub(crate) sums: BothSums,

@@ -4,7 +4,7 @@ ghost use Rattle.std.specs.Prelude.{◌≡◌};
 ghost use Rattle.sheet_fields.specs.Fields.{field_number, field_at};
 
 // What stands before the next comma or the text's end: a number and where it ends, or no number.
-#[derive(Drop)]
+#[derive(Clone, Copy)]
 pub enum Field {
     Number { value: u32, end: usize },
     NoNumber,

@@ -8,7 +8,7 @@ use sheet_lines::Line;
 use sheet_values::PointLine;
 
 // What the mark lines give: how many there are and where the line after the empty line begins, or the report.
-#[derive(Drop)]
+#[derive(Clone, Copy)]
 pub enum FrontRead {
     Points { count: usize, next: usize },
     Refused(Refusal),

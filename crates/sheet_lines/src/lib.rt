@@ -8,7 +8,7 @@ ghost use Rattle.sheet_lines.specs.Lines.{line_bounds, line_at, feed_from, text_
 use sheet_words::{WordAt, feed_bits, word_at};
 
 // What a search for a line finds: the end of its text with the start of the next line, or no line feed.
-#[derive(Drop)]
+#[derive(Clone, Copy)]
 pub enum Line {
     Ended { end: usize, next: usize },
     Unended,

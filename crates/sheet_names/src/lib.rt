@@ -9,14 +9,14 @@ use sheet_front::skip_header;
 use sheet_readings::{ReadingsRead, read_readings};
 
 // What the second header line tells: the kind, and where the next line begins; or it is another line.
-#[derive(Drop)]
+#[derive(Clone, Copy)]
 pub(crate) enum Names {
     Named { kind: Kind, next: usize },
     Unnamed,
 }
 
 // What stands from the second header line on: the kind and how many readings are kept, or the report.
-#[derive(Drop)]
+#[derive(Clone, Copy)]
 pub enum NamedRead {
     Kept { kind: Kind, count: usize },
     Refused(Refusal),

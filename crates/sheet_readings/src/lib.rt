@@ -9,14 +9,14 @@ use range_values::{ReadingLine, reading_line};
 use sheet_lines::Line;
 
 // What a reading line gives: how many readings are kept with it, and its minute, or the report.
-#[derive(Drop)]
+#[derive(Clone, Copy)]
 pub(crate) enum ReadingStored {
     Stored { count: usize, minute: u16 },
     Refused(Refusal),
 }
 
 // What the reading lines give: how many are kept, or the report.
-#[derive(Drop)]
+#[derive(Clone, Copy)]
 pub enum ReadingsRead {
     Kept(usize),
     Refused(Refusal),

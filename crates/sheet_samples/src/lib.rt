@@ -9,14 +9,14 @@ use sheet_lines::Line;
 use sheet_values::SampleLine;
 
 // What a reading line gives: how many readings are kept with it, and its minute, or the report.
-#[derive(Drop)]
+#[derive(Clone, Copy)]
 pub(crate) enum SampleStored {
     Stored { count: usize, minute: u16 },
     Refused(Refusal),
 }
 
 // What the reading lines give: how many are kept, or the report.
-#[derive(Drop)]
+#[derive(Clone, Copy)]
 pub enum SamplesRead {
     Kept(usize),
     Refused(Refusal),

@@ -8,14 +8,14 @@ ghost use Rattle.sheet_values.specs.LineValues.{point_values, sample_values};
 use sheet_fields::{Field, number_at};
 
 // The values of a mark line; its half width has no range here.
-#[derive(Drop)]
+#[derive(Clone, Copy)]
 pub enum PointLine {
     Point { point: u16, bandwidth: u32 },
     NoPoint,
 }
 
 // The values of a reading line: minute, inj, vdk.
-#[derive(Drop)]
+#[derive(Clone, Copy)]
 pub enum SampleLine {
     Sample {
         minute: u16,

@@ -6,7 +6,7 @@ ghost use Rattle.meanings.specs.Bytes.{line_feed};
 ghost use Rattle.sheet_words.specs.Words.{byte, whole_word, word_at, Marks};
 
 // What stands at a byte of a list: eight bytes as one word, the first lowest, or fewer than eight.
-#[derive(Drop)]
+#[derive(Clone, Copy)]
 pub enum WordAt {
     Whole(u64),
     Short,

@@ -9,7 +9,7 @@ use row::record_row;
 use stepping_fused::fused_step;
 
 // A record and the row that it gives at the mark of its last step.
-#[derive(Drop)]
+#[derive(Clone, Copy)]
 pub struct Reached {
     pub running: RunningSums,
     pub row: Estimate,

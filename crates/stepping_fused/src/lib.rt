@@ -14,7 +14,7 @@ use checks_point::advance_fault;
 use meanings::{PowerSums, RunningSums, Verdict};
 
 // Where an edge has stopped, and the sums there.
-#[derive(Drop)]
+#[derive(Clone, Copy)]
 struct Edge {
     at: usize,
     sums: PowerSums,

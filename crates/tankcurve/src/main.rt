@@ -16,7 +16,7 @@ const OUT: i32 = 1;
 const ERR: i32 = 2;
 
 // What reading gives: how many bytes there are, or a failure, after which the bytes that came before may be a sheet cut short.
-#[derive(Drop)]
+#[derive(Clone, Copy)]
 enum Input {
     Bytes(usize),
     Failed,

@@ -4,7 +4,7 @@ ghost use Rattle.turn.specs.Travels.{Among, Reaches, Raised, Lowered};
 use arithmetic::{minus_sample, plus_sample};
 use meanings::PowerSums;
 
-#[derive(Drop)]
+#[derive(Clone, Copy)]
 pub(crate) struct Edge {
     pub(crate) at: usize,
     pub(crate) sums: PowerSums,

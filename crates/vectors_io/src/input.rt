@@ -14,14 +14,14 @@ pub const MOST_BYTES: usize = 40000;
 pub const MOST_ELEMENTS: usize = 1100;
 
 // A number, and where the next one begins.
-#[derive(Drop)]
+#[derive(Clone, Copy)]
 pub struct Parsed {
     pub value: u64,
     pub next: usize,
 }
 
 // How many elements of a list are used, and where the next number begins.
-#[derive(Drop)]
+#[derive(Clone, Copy)]
 pub struct Taken {
     pub count: usize,
     pub next: usize,

@@ -8,7 +8,7 @@ const OUT: i32 = 1;
 
 // What is shown of a list: how many elements are written, then the run that is not written yet, its element and how often it stands there,
 // 0 before the first.
-#[derive(Drop)]
+#[derive(Clone, Copy)]
 struct Shown {
     written: usize,
     value: u64,

@@ -1,12 +1,23 @@
 -- Every check is made before the first store, so a refusal leaves both lists.
 -- Where there is none each list is filled whole.
-use borrow.Author.Rules.{rules}
-use Rattle.grid.proofs.FillVerdicts.{points_few, last_fits, preset_known, fill_refused, points_kept, bandwidths_kept, fill_given, points_given}
+use Rattle.grid.proofs.FillVerdicts.{fill_refused, points_kept, bandwidths_kept, fill_given, points_given}
 use Rattle.grid.proofs.FillVerdicts.{bandwidths_given}
 use Rattle.grid.proofs.fill_grid.Goals as goal
 
-pub returns-in-Faulty : goal.returns-in-Faulty
-returns-in-Faulty c = (search fill_refused, (search points_kept, search bandwidths_kept))
+pub returns-in-Faulty-clause-result_value : goal.returns-in-Faulty-clause-result_value
+returns-in-Faulty-clause-result_value c = search fill_refused
 
-pub returns-in-Fit : goal.returns-in-Fit
-returns-in-Fit c = (search fill_given, (search points_given, search bandwidths_given))
+pub returns-in-Faulty-clause-points_after : goal.returns-in-Faulty-clause-points_after
+returns-in-Faulty-clause-points_after c = search points_kept
+
+pub returns-in-Faulty-clause-bandwidths_after : goal.returns-in-Faulty-clause-bandwidths_after
+returns-in-Faulty-clause-bandwidths_after c = search bandwidths_kept
+
+pub returns-in-Fit-clause-result_value : goal.returns-in-Fit-clause-result_value
+returns-in-Fit-clause-result_value c = search fill_given
+
+pub returns-in-Fit-clause-points_after : goal.returns-in-Fit-clause-points_after
+returns-in-Fit-clause-points_after c = search points_given
+
+pub returns-in-Fit-clause-bandwidths_after : goal.returns-in-Fit-clause-bandwidths_after
+returns-in-Fit-clause-bandwidths_after c = search bandwidths_given

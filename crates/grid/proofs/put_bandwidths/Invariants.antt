@@ -1,10 +1,8 @@
 -- Each turn stores one half width more behind those before.
 -- At the end they fill the list.
 use Prim.Native.Nat.{◌-◌}
-use native.Mathlib.Omega.{arith}
-use borrow.Author.Rules.{rules}
-use lib.ListN.{length, length-set}
-use Rattle.grid.proofs.Fills.{BandwidthsTo, bandwidths_begin, bandwidths_length, bandwidths_go_on, bandwidths_end}
+use lib.ListN.{length}
+use Rattle.grid.proofs.Fills.{BandwidthsTo}
 use Rattle.grid.proofs.put_bandwidths.Given as goal
 
 abbrev pub invariant-loop-k : goal.invariant-loop-k
