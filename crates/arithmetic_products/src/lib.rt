@@ -1,5 +1,6 @@
 // Products modulo 2^64, and the weight or sum that three of the running sums give. Every function takes every input.
 #![tactic(auto)]
+
 ghost use Rattle.std.specs.Prelude.{◌≡◌, ◌*◌, ◌%◌, ◌^◌};
 ghost use Rattle.meanings.specs.Running.{combined};
 

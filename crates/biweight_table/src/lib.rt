@@ -1,5 +1,6 @@
 // The weights of the biweight row, by distance: a table for 720 minutes on each side, and its reader, which takes every distance.
 #![tactic(auto)]
+
 ghost use Rattle.std.specs.Prelude.{◌≡◌, get_or};
 ghost use Rattle.biweight_table.specs.Table.{IsTable};
 

@@ -1,5 +1,6 @@
 // Two rows set against each other: whether their values differ, and whose tank is higher then. Every function takes every input.
 #![tactic(auto)]
+
 ghost use Rattle.std.specs.Prelude.{◌≡◌};
 ghost use Rattle.std.proofs.Math.Option.{some};
 ghost use Rattle.meanings.specs.Reports.{given};

@@ -1,5 +1,6 @@
 // A number in the text of a line, up to the next comma. The function takes every input.
 #![tactic(auto)]
+
 ghost use Rattle.std.specs.Prelude.{◌≡◌};
 ghost use Rattle.sheet_fields.specs.Fields.{field_number, field_at};
 

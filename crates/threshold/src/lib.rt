@@ -1,5 +1,6 @@
 // Whether a value is present and at or below a limit: the one test of the questions with a limit. It takes every input.
 #![tactic(auto)]
+
 ghost use Rattle.std.specs.Prelude.{◌≡◌};
 ghost use Rattle.meanings_limit.specs.Threshold.{at_or_below as at_or_below_meaning};
 
