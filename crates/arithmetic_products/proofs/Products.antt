@@ -1,6 +1,7 @@
 -- Products modulo 2^w. A number of two halves times k is, up to whole multiples of 2^(w + w), the lower half's product and the lower half of the
 -- upper half's product, moved up. A factor may be taken modulo 2^w first, so a product of three is had two by two.
-use Rattle.std.proofs.Common.{◌≡◌, ℕ, ◌+◌, ◌*◌, ◌/◌, ◌%◌, ◌^◌, ◌<◌, sym, ap, ◌∙◌, mod-lt, mul_assoc, mul_comm, div-lt_iff_lt-mul, add-mul, div-add-mod', mul-add, mul_left_comm, two-mul, arith, pow-add}
+use Rattle.std.proofs.Common.{◌≡◌, ℕ, ◌+◌, ◌*◌, ◌/◌, ◌%◌, ◌^◌, ◌<◌, sym, ap, ◌∙◌, mod-lt, mul_assoc, mul_comm, div-lt_iff_lt-mul, add-mul}
+use Rattle.std.proofs.Common.{div-add-mod', mul-add, mul_left_comm, two-mul, arith, pow-add}
 use native.Mathlib.Nat.{div-add-mod, mod-mod}
 use native.Mathlib.Nat.{mod-add-mod, add-mod-mod, add-mul-mod_self_left}
 use Rattle.meanings.specs.Running.{combined, minus}

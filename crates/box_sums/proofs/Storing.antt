@@ -1,5 +1,6 @@
 -- Two numbers of a pair stand behind those of the pairs before it, and a minute mark's row behind the rows before it; and the call from it.
-use Rattle.std.proofs.Common.{◌≡◌, ℕ, zero, suc, ◌+◌, ◌*◌, ◌%◌, ◌^◌, ◌<◌, ◌≤◌, Bool, true, false, List, [], ◌∷◌, ◌++◌, length, get_or, take, set, sym, refl, ap, ◌∙◌, true≢false, zero-le, mul_comm, add-one, arith, length-set, take_all, take-suc-set, w64, Fits}
+use Rattle.std.proofs.Common.{◌≡◌, ℕ, zero, suc, ◌+◌, ◌*◌, ◌%◌, ◌^◌, ◌<◌, ◌≤◌, Bool, true, false, List, [], ◌∷◌, ◌++◌, length, get_or, take, set, sym}
+use Rattle.std.proofs.Common.{refl, ap, ◌∙◌, true≢false, zero-le, mul_comm, add-one, arith, length-set, take_all, take-suc-set, w64, Fits}
 use native.Mathlib.Decide.{ℕ_discrete}
 use Rattle.meanings.specs.Running.{minus}
 use Rattle.arithmetic.proofs.Wrapping.{wraps_back_is_minus}

@@ -85,7 +85,8 @@ value_fits vs f i = omega (arith, f i)
 -- After i readings.
 -- what weighs in a cell of the meaning
 cell_by_cuts : (ts us zs hs ys ks : List ℕ) (w : ℕ → ℕ) (n c : ℕ)
-    → gathered (λ i. eqb (65 * strip (cuts_to 65537 zs hs (length zs)) (get_or ts i 0 + 65537) + strip (cuts_to 257 ys ks (length ys)) (get_or us i 0 + 257)) c) w n
+    → gathered (λ i. eqb (65 * strip (cuts_to 65537 zs hs (length zs)) (get_or ts i 0 + 65537)
+    + strip (cuts_to 257 ys ks (length ys)) (get_or us i 0 + 257)) c) w n
     ≡ cell (minute_axis ts zs hs) (temperature_axis us ys ks) w n c
 unfolding cell cuts
 cell_by_cuts ts us zs hs ys ks w n c = refl

@@ -59,7 +59,8 @@ pub record EdgeFallsAt (zs hs : List ℕ) (p : ℕ) : Type 0 where
   pub before : ℕ
   pub next : p ≡ suc before
   pub within : p < length zs
-  pub falls : (get_or zs p 0 + get_or hs before 0 < get_or zs before 0 + get_or hs p 0) ⊎ (get_or zs p 0 + get_or hs p 0 < get_or zs before 0 + get_or hs before 0)
+  pub falls : (get_or zs p 0 + get_or hs before 0 < get_or zs before 0 + get_or hs p 0)
+      ⊎ (get_or zs p 0 + get_or hs p 0 < get_or zs before 0 + get_or hs before 0)
 
 -- The pieces, each in front of the conditions that count later.
 

@@ -309,7 +309,8 @@ module _ (ts ls us ls₀ us₀ zs hs rs rs₀ : List ℕ) (n m : ℕ) (q : smoot
   same_rows rs' rs₀' e e₀ k l =
       let o = (lows_accepted full (same_limits full) ts ls us zs hs rs (free ts ls us zs hs rs n q)).ordered in
       row_is ts ls us zs hs rs n q rs' e k l
-      ∙ same_range_row ts ls us ls₀ us₀ (get_or zs k 0) (get_or hs k 0) ((same_curves ts ls ls₀ lows).estimates o _ _) ((same_curves ts us us₀ highs).estimates o _ _)
+      ∙ same_range_row ts ls us ls₀ us₀ (get_or zs k 0) (get_or hs k 0) ((same_curves ts ls ls₀ lows).estimates o _ _)
+      ((same_curves ts us us₀ highs).estimates o _ _)
       ∙ sym (row_is ts ls₀ us₀ zs hs rs₀ m q₀ rs₀' e₀ k l)
 
 one_between_low : (i : ℕ) → i < 1 → get_or (0 ∷ []) i 0 ≤ get_or (1 ∷ []) i 0

@@ -54,7 +54,8 @@ module _ (ts vs : List ℕ) (z h : ℕ) where
   pub sum_at_most_times : length ts ≡ length vs → AtMost max_u16 vs → biweight_sum ts vs z h ≤ biweight_weight ts z h * max_u16
   unfolding biweight_weight biweight_sum
   sum_at_most_times e m =
-      total_at_most_times (λ x'. biweight_kernel z h (get_or ts x' 0) * get_or vs x' 0) (λ x'. biweight_kernel z h (get_or ts x' 0)) max_u16 (left_of ts z h) _
+      total_at_most_times (λ i. biweight_kernel z h (get_or ts i 0) * get_or vs i 0) (λ i. biweight_kernel z h (get_or ts i 0)) max_u16
+      (left_of ts z h) _
       (λ i (l : i < right_of ts z h - left_of ts z h).
       mul-le-mul_left (biweight_kernel z h (get_or ts (left_of ts z h + i) 0)) (m (left_of ts z h + i) (let r = right_at_most_length ts z h in omega arith)))
 

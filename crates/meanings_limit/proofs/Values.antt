@@ -54,7 +54,8 @@ module _ (ts zs hs : List ℕ) where
         by : (j ≡ suc k) ⊎ (j < suc k) → (j ≤ k → k < length zs → right_at j ≤ right_at k) → right_at j ≤ right_at (suc k)
         by (inl e) f = rw e (le_refl _)
         by (inr m) f =
-            le_trans (f (le_of_suc-le-suc m) (omega arith)) (right_grows ts (get_or zs k 0) (get_or hs k 0) (get_or zs (suc k) 0) (get_or hs (suc k) 0) (edges k l))
+            le_trans (f (le_of_suc-le-suc m) (omega arith))
+            (right_grows ts (get_or zs k 0) (get_or hs k 0) (get_or zs (suc k) 0) (get_or hs (suc k) 0) (edges k l))
 
 module _ (ts vs vs' zs hs : List ℕ) (limit : ℕ) (a : CurveAccepted ts vs zs hs) where
   -- every mark up to k

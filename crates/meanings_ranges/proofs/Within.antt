@@ -23,7 +23,9 @@ total_grows f g a (suc n) k = omega (arith, total_grows f g a n (λ i l. k i (om
 -- a list of values that is nowhere less gives no smaller sum
 sum_grows : (ts vs vs' : List ℕ) (z h : ℕ) → ((i : ℕ) → get_or vs i 0 ≤ get_or vs' i 0) → sum_of ts vs z h ≤ sum_of ts vs' z h
 unfolding sum_of
-sum_grows ts vs vs' z h m = total_grows (λ x'. ◌*◌ (kernel z h (get_or ts x' 0)) (get_or vs x' 0)) (λ x'. ◌*◌ (kernel z h (get_or ts x' 0)) (get_or vs' x' 0)) (left_of ts z h) (right_of ts z h - left_of ts z h) (λ i l. mul-le-mul_left (kernel z h (get_or ts (left_of ts z h + i) 0)) (m (left_of ts z h + i)))
+sum_grows ts vs vs' z h m =
+    total_grows (λ i. kernel z h (get_or ts i 0) * get_or vs i 0) (λ i. kernel z h (get_or ts i 0) * get_or vs' i 0) (left_of ts z h)
+    (right_of ts z h - left_of ts z h) (λ i l. mul-le-mul_left (kernel z h (get_or ts (left_of ts z h + i) 0)) (m (left_of ts z h + i)))
 
 value_grows : (s t w : ℕ) → s ≤ t → value_of s w ≤ value_of t w
 value_grows s t w l = by (ℕ_discrete w 0)

@@ -1,7 +1,10 @@
 -- The number before the next comma: a part with a byte that is no digit is no number, nor is one that goes on after digits that say 10,000 or
 -- more, since they are five at least; one that ends after its digits is the number that they say, if it has a digit and no leading zero. Digits
 -- without a leading zero that say less than 100,000 are at most five.
-use Rattle.std.proofs.Common.{◌≡◌, ℕ, suc, ◌+◌, ◌-◌, ◌*◌, ◌%◌, ◌^◌, ◌<◌, ◌≤◌, Bool, true, false, ◌&&◌, ltb, leb, ◌⊎◌, List, [], ◌∷◌, ◌++◌, length, get_or, drop, sym, refl, ap, ◌∙◌, inl, inr, append_assoc, append-nil, mul-le-mul_right, mul_assoc, eq-or-lt_of_le, add-one, arith, length-append, length-drop, drop_of_length-le, drop-cons, ltb-false, ltb-true, eq-eqb, ne_eqb, le-leb, leb-false, leb-true}
+use Rattle.std.proofs.Common.{◌≡◌, ℕ, suc, ◌+◌, ◌-◌, ◌*◌, ◌%◌, ◌^◌, ◌<◌, ◌≤◌, Bool, true, false, ◌&&◌, ltb, leb, ◌⊎◌, List, [], ◌∷◌, ◌++◌, length}
+use Rattle.std.proofs.Common.{get_or, drop, sym, refl, ap, ◌∙◌, inl, inr, append_assoc, append-nil, mul-le-mul_right, mul_assoc, eq-or-lt_of_le}
+use Rattle.std.proofs.Common.{add-one, arith, length-append, length-drop, drop_of_length-le, drop-cons, ltb-false, ltb-true, eq-eqb, ne_eqb, le-leb}
+use Rattle.std.proofs.Common.{leb-false, leb-true}
 use mathlib.Core.Option.{none, some}
 use native.Mathlib.Nat.{pow-succ', pow-le-pow_right}
 use borrow.Author.Tests.{lt-leb}

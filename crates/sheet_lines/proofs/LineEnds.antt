@@ -148,7 +148,8 @@ line_to_first s (suc n) p e = by (first_byte (get_or s p 0) (drop (suc p) s)) (l
           lt-ltb (suc p) (length s) l,
           ← text_to_first_byte s p h,
         )
-    by (is_text h g w) k = line_goes_on s p (omega arith) g ∙ k ∙ rw h (stays (first (λ k. eqb (get_or s k 0) line_feed) (suc p) n) (first_is_first _ (suc p) n))
+    by (is_text h g w) k =
+        line_goes_on s p (omega arith) g ∙ k ∙ rw h (stays (first (λ k. eqb (get_or s k 0) line_feed) (suc p) n) (first_is_first _ (suc p) n))
       where
         stays : (k : ℕ) → IsFirst (λ k. eqb (get_or s k 0) line_feed) (suc p) n k → line_to s (suc p) k ≡ line_to s p k
         stays k i = within (ltb k (length s)) refl

@@ -1,7 +1,8 @@
 -- The bits that mark a byte, for any byte b and any number n of bytes. x has 0 exactly where a byte is b. From the low end, x less a one in each
 -- byte does not borrow as long as each byte of x is above 0, and there the high bit is not set both in it and in the complement of x. At the
 -- first 0 it borrows and becomes 255, as the complement is: the high bit is set in both. What follows above need not be looked at.
-use Rattle.std.proofs.Common.{◌≡◌, ℕ, zero, suc, ◌+◌, ◌-◌, ◌*◌, ◌/◌, ◌%◌, ◌^◌, ◌<◌, Bool, true, false, eqb, sym, refl, ap, ◌∙◌, add-zero, mul_assoc, pow-suc, mul-one, arith, eqb-true}
+use Rattle.std.proofs.Common.{◌≡◌, ℕ, zero, suc, ◌+◌, ◌-◌, ◌*◌, ◌/◌, ◌%◌, ◌^◌, ◌<◌, Bool, true, false, eqb, sym, refl, ap, ◌∙◌, add-zero, mul_assoc}
+use Rattle.std.proofs.Common.{pow-suc, mul-one, arith, eqb-true}
 use lib.Bits.{bit_and, bit_xor, xor_block, xor_lt, xor_self, xor_add_and}
 use lib.Bits.{and_le_l, and_le_r, and_comm, and_zero_r, and_shifted, and_shr, and_mod, shifted_half, shifted_even}
 use lib.Pow.{split, high, low}
