@@ -1,5 +1,6 @@
 // What minute and temperature together are refused for. Every function takes every input.
 #![tactic(auto)]
+
 ghost use Rattle.std.specs.Prelude.{◌*◌, ◌≡◌, ◌++◌, length};
 ghost use Rattle.meanings.specs.Limits.{max_bandwidth};
 ghost use Rattle.meanings.specs.Lists.{lowest};

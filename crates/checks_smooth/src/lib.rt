@@ -1,6 +1,7 @@
 // The refusals of calls over readings and marks, with a rows list or without one, for any pair of limits, and those of the sweep. Every public
 // function takes every input.
 #![tactic(auto)]
+
 ghost use Rattle.std.specs.Prelude.{◌≡◌, length};
 ghost use Rattle.meanings.specs.Reports.{verdict_fault, first_of, curve_checks, smooth_checks};
 ghost use Rattle.checks_smooth.specs.Verdicts.{WindowsJudged, FirstEdgeBack};

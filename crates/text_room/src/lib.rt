@@ -1,5 +1,6 @@
 // Whether a line of a curve's text fits. Where 164 bytes are left it does; nearer to the end its digits are counted.
 #![tactic(auto)]
+
 ghost use Rattle.std.specs.Prelude.{◌≡◌, ◌+◌, ◌≤◌, [], ◌∷◌, leb, length};
 ghost use Rattle.meanings.specs.Output.{decimal, text_line, value_text, curve_line};
 ghost use Rattle.meanings_ranges.specs.RangeOutput.{range_curve_line};
