@@ -1,5 +1,6 @@
 // What half widths by neighbours are refused for, for any pair of limits. Every function takes every input.
 #![tactic(auto)]
+
 ghost use Rattle.std.specs.Prelude.{◌≡◌};
 ghost use Rattle.meanings.specs.Reports.{verdict_fault, first_of};
 ghost use Rattle.meanings_neighbours.specs.Neighbours.{too_few_checks, neighbours_checks};

@@ -1,5 +1,6 @@
 // The refusals of the three calls at one mark, the question, the step and the turn, for any pair of limits. Every function takes every input.
 #![tactic(auto)]
+
 ghost use Rattle.std.specs.Prelude.{◌≡◌};
 ghost use Rattle.meanings.specs.Reports.{verdict_fault, first_of, evaluate_checks, advance_checks, turn_checks};
 

@@ -1,6 +1,7 @@
 // The running sums of the lows and of the highs over the same readings, side by side: of the six of each, the three without values are the same
 // and stand once. Every function takes every input.
 #![tactic(auto)]
+
 ghost use Rattle.std.specs.Prelude.{◌≡◌};
 ghost use Rattle.meanings.specs.Running.{plus, minus};
 ghost use Rattle.range_sums.specs.Both.{low_sums, high_sums, beside, RangeJoined, RowOfBoth};

@@ -1,5 +1,6 @@
 // The row that a running record of any origin gives. The function takes every input.
 #![tactic(auto)]
+
 ghost use Rattle.std.specs.Prelude.{◌≡◌};
 ghost use Rattle.meanings.specs.Running.{record_row};
 

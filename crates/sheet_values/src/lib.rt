@@ -1,5 +1,6 @@
 // The values of a line of the tank sheet: of a mark line and of a reading line. Every function takes every input.
 #![tactic(auto)]
+
 ghost use Rattle.std.specs.Prelude.{◌≡◌};
 ghost use Rattle.std.proofs.Math.Option.{some};
 ghost use Rattle.meanings.specs.Sheet.{point_line, sample_line, ranged_sample};
