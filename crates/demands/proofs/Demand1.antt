@@ -56,11 +56,11 @@ evaluate_refused ts vs z h a c = decided_exactly (estimate ts vs z h) (evaluate_
 
 pub window_refused : (ts vs : List ℕ) (z h : ℕ) (values_at : Place) (part : Bor (List ℕ)) → WindowCall ts vs z h values_at part
     → (n p : ℕ) → FirstFault (evaluate_conditions ts vs h) n p
-    → (part.now ≡ []) × (part.ref_ptr.0 ≡ values_at.ptr.0) × (part.ref_ptr.1 ≡ values_at.ptr.1)
+    → (part.now ≡ []) × (part.ref_ptr.0 ≡ values_at.ref_ptr.0) × (part.ref_ptr.1 ≡ values_at.ref_ptr.1)
 unfolding window window_start
 window_refused ts vs z h values_at part c n p f =
     let e = ((refused_exactly (evaluate_finds ts vs h)).refused n p).1 f in
-    let start : part.ref_ptr.1 ≡ values_at.ptr.1 + 0 = rw e at c.ensured.1.1 in
+    let start : part.ref_ptr.1 ≡ values_at.ref_ptr.1 + 0 = rw e at c.ensured.1.1 in
     (c.ensured.0 ∙ ap (λ (o : Option Fault). accepted_or o (run_of ts vs z h) []) e, c.ensured.1.0, omega arith)
 
 pub advance_refused : (r : RunningSums) (ts vs : List ℕ) (z h : ℕ) (a : Advance) → AdvanceCall r ts vs z h a

@@ -75,7 +75,7 @@ demand_2 = record {
       let q = sym c.ensured in (
         w.ensured.0 ∙ a.0 ∙ ap (part_of vs) q,
         w.ensured.1.0,
-        w.ensured.1.1 ∙ ap (λ (n : ℕ). at.ptr.1 + n * 2) (a.1 ∙ ap start_of q),
+        w.ensured.1.1 ∙ ap (λ (n : ℕ). at.ref_ptr.1 + n * 2) (a.1 ∙ ap start_of q),
       );
   smooth_rows = λ ts vs zs hs rs n rs' v c. swept_rows full (same_limits full) ts vs zs hs rs rs' n v (sym c.ensured.0) c.ensured.1;
   exported_row = λ ts vs z h row c row' v k q.

@@ -3,7 +3,7 @@
 -- source's `ensures`, of the arguments, the answer and the arguments at exit. A list that is lent to be read is at exit what it was, by the
 -- type of the loan; a lifetime is how long a loan lasts.
 use Rattle.std.specs.Prelude.{ℕ, List}
-use denote.Ref.{Bor, Gone}
+use denote.Ref.{Bor, MutBor, Gone}
 use contract.Lifetimes.{Lfts}
 use borrow.Fn.Kinds.{Dens}
 use Rattle.meanings.specs.declared.Estimate.{Estimate}
@@ -81,13 +81,17 @@ use Rattle.abi_text.proofs.tankcurve_refusal_text.Statement as exported_refusal_
 use Rattle.abi_version.proofs.tankcurve_version.Kinds as exported_version_kinds
 use Rattle.abi_version.proofs.tankcurve_version.Statement as exported_version_code
 
--- where a lent list lies: ptr is the block and the byte in it
+-- where a lent list lies: ref_ptr is the block and the byte in it
 abbrev pub Place : Type 0
 Place = Gone
 
--- the list xs, lent from that place
+-- the list xs, lent from that place to be read
 abbrev pub lent : Place → List ℕ → Bor (List ℕ)
-lent x xs = record { ref_ptr = x.ptr; ghost_name = x.name; now = xs }
+lent x xs = record { ref_ptr = x.ref_ptr; now = xs }
+
+-- and to be written: such a loan has a name too
+abbrev pub lent_mut : Place → List ℕ → MutBor (List ℕ)
+lent_mut x xs = record { ref_ptr = x.ref_ptr; ghost_name = x.ghost_name; now = xs }
 
 pub record EvaluateCall (ts vs : List ℕ) (z h : ℕ) (a : Evaluation) : Type 0 where
   pub lifetimes : Lfts 2
@@ -124,8 +128,8 @@ pub record SmoothCall (ts vs zs hs rs : List ℕ) (a : Smoothing) (rs' : List �
   pub bandwidths_at : Place
   pub rows_at : Place
   pub ensured :
-      smooth.Post lifetimes (lent minutes_at ts, (lent values_at vs, (lent points_at zs, (lent bandwidths_at hs, (lent rows_at rs, tt))))) a
-      (lent minutes_at ts, (lent values_at vs, (lent points_at zs, (lent bandwidths_at hs, (lent rows_at rs', tt)))))
+      smooth.Post lifetimes (lent minutes_at ts, (lent values_at vs, (lent points_at zs, (lent bandwidths_at hs, (lent_mut rows_at rs, tt))))) a
+      (lent minutes_at ts, (lent values_at vs, (lent points_at zs, (lent bandwidths_at hs, (lent_mut rows_at rs', tt)))))
 
 pub record PreviewCall (ts vs zs hs rs : List ℕ) (a : Smoothing) (rs' : List ℕ) : Type 0 where
   pub lifetimes : Lfts 5
@@ -135,16 +139,16 @@ pub record PreviewCall (ts vs zs hs rs : List ℕ) (a : Smoothing) (rs' : List �
   pub bandwidths_at : Place
   pub rows_at : Place
   pub ensured :
-      preview.Post lifetimes (lent minutes_at ts, (lent values_at vs, (lent points_at zs, (lent bandwidths_at hs, (lent rows_at rs, tt))))) a
-      (lent minutes_at ts, (lent values_at vs, (lent points_at zs, (lent bandwidths_at hs, (lent rows_at rs', tt)))))
+      preview.Post lifetimes (lent minutes_at ts, (lent values_at vs, (lent points_at zs, (lent bandwidths_at hs, (lent_mut rows_at rs, tt))))) a
+      (lent minutes_at ts, (lent values_at vs, (lent points_at zs, (lent bandwidths_at hs, (lent_mut rows_at rs', tt)))))
 
 pub record FillCall (z₀ spacing preset : ℕ) (zs hs : List ℕ) (a : Filling) (zs' hs' : List ℕ) : Type 0 where
   pub lifetimes : Lfts 2
   pub points_at : Place
   pub bandwidths_at : Place
   pub ensured :
-      fill_grid.Post lifetimes (z₀, (spacing, (preset, (lent points_at zs, (lent bandwidths_at hs, tt))))) a
-      (z₀, (spacing, (preset, (lent points_at zs', (lent bandwidths_at hs', tt)))))
+      fill_grid.Post lifetimes (z₀, (spacing, (preset, (lent_mut points_at zs, (lent_mut bandwidths_at hs, tt))))) a
+      (z₀, (spacing, (preset, (lent_mut points_at zs', (lent_mut bandwidths_at hs', tt)))))
 
 pub record ReadCall (s ts vs zs hs : List ℕ) (a : Parsing) (ts' vs' zs' hs' : List ℕ) : Type 0 where
   pub lifetimes : Lfts 5
@@ -155,25 +159,25 @@ pub record ReadCall (s ts vs zs hs : List ℕ) (a : Parsing) (ts' vs' zs' hs' : 
   pub bandwidths_at : Place
   pub ensured :
       read_sheet.Post lifetimes
-      (lent sheet_at s, (lent minutes_at ts, (lent values_at vs, (lent points_at zs, (lent bandwidths_at hs, tt))))) a
-      (lent sheet_at s, (lent minutes_at ts', (lent values_at vs', (lent points_at zs', (lent bandwidths_at hs', tt)))))
+      (lent sheet_at s, (lent_mut minutes_at ts, (lent_mut values_at vs, (lent_mut points_at zs, (lent_mut bandwidths_at hs, tt))))) a
+      (lent sheet_at s, (lent_mut minutes_at ts', (lent_mut values_at vs', (lent_mut points_at zs', (lent_mut bandwidths_at hs', tt)))))
 
 pub record TextCall (s out : List ℕ) (a : Writing) (out' : List ℕ) : Type 0 where
   pub lifetimes : Lfts 2
   pub sheet_at : Place
   pub out_at : Place
-  pub ensured : curve_text.Post lifetimes (lent sheet_at s, (lent out_at out, tt)) a (lent sheet_at s, (lent out_at out', tt))
+  pub ensured : curve_text.Post lifetimes (lent sheet_at s, (lent_mut out_at out, tt)) a (lent sheet_at s, (lent_mut out_at out', tt))
 
 -- the sheet is the buffer's first n bytes
 pub record OverCall (buf : List ℕ) (n : ℕ) (a : Writing) (buf' : List ℕ) : Type 0 where
   pub lifetimes : Lfts 1
   pub buf_at : Place
-  pub ensured : curve_text_over.Post lifetimes (lent buf_at buf, (n, tt)) a (lent buf_at buf', (n, tt))
+  pub ensured : curve_text_over.Post lifetimes (lent_mut buf_at buf, (n, tt)) a (lent_mut buf_at buf', (n, tt))
 
 pub record RefusalTextCall (n p : ℕ) (out : List ℕ) (a : Writing) (out' : List ℕ) : Type 0 where
   pub lifetimes : Lfts 1
   pub out_at : Place
-  pub ensured : refusal_text.Post lifetimes (n, (p, (lent out_at out, tt))) a (n, (p, (lent out_at out', tt)))
+  pub ensured : refusal_text.Post lifetimes (n, (p, (lent_mut out_at out, tt))) a (n, (p, (lent_mut out_at out', tt)))
 
 -- the calls for C and Rust: the answer is one number
 pub record ExportedEvaluate (ts vs : List ℕ) (z h : ℕ) (row : List ℕ) (c : ℕ) (row' : List ℕ) : Type 0 where
@@ -182,8 +186,8 @@ pub record ExportedEvaluate (ts vs : List ℕ) (z h : ℕ) (row : List ℕ) (c :
   pub values_at : Place
   pub stored_row : Place
   pub ensured :
-      exported_evaluate.Post lifetimes (lent minutes_at ts, (lent values_at vs, (z, (h, (lent stored_row row, tt))))) c
-      (lent minutes_at ts, (lent values_at vs, (z, (h, (lent stored_row row', tt)))))
+      exported_evaluate.Post lifetimes (lent minutes_at ts, (lent values_at vs, (z, (h, (lent_mut stored_row row, tt))))) c
+      (lent minutes_at ts, (lent values_at vs, (z, (h, (lent_mut stored_row row', tt)))))
 
 pub record ExportedWindow (ts vs : List ℕ) (z h : ℕ) (bounds : List ℕ) (c : ℕ) (bounds' : List ℕ) : Type 0 where
   pub lifetimes : Lfts 3
@@ -191,8 +195,8 @@ pub record ExportedWindow (ts vs : List ℕ) (z h : ℕ) (bounds : List ℕ) (c 
   pub values_at : Place
   pub bounds_at : Place
   pub ensured :
-      exported_window.Post lifetimes (lent minutes_at ts, (lent values_at vs, (z, (h, (lent bounds_at bounds, tt))))) c
-      (lent minutes_at ts, (lent values_at vs, (z, (h, (lent bounds_at bounds', tt)))))
+      exported_window.Post lifetimes (lent minutes_at ts, (lent values_at vs, (z, (h, (lent_mut bounds_at bounds, tt))))) c
+      (lent minutes_at ts, (lent values_at vs, (z, (h, (lent_mut bounds_at bounds', tt)))))
 
 pub record ExportedAdvance (xs ts vs : List ℕ) (z h c : ℕ) (xs' : List ℕ) : Type 0 where
   pub lifetimes : Lfts 3
@@ -200,8 +204,8 @@ pub record ExportedAdvance (xs ts vs : List ℕ) (z h c : ℕ) (xs' : List ℕ) 
   pub minutes_at : Place
   pub values_at : Place
   pub ensured :
-      exported_advance.Post lifetimes (lent running_at xs, (lent minutes_at ts, (lent values_at vs, (z, (h, tt))))) c
-      (lent running_at xs', (lent minutes_at ts, (lent values_at vs, (z, (h, tt)))))
+      exported_advance.Post lifetimes (lent_mut running_at xs, (lent minutes_at ts, (lent values_at vs, (z, (h, tt))))) c
+      (lent_mut running_at xs', (lent minutes_at ts, (lent values_at vs, (z, (h, tt)))))
 
 -- the record is lent to be read
 pub record ExportedRecordRow (xs : List ℕ) (z h : ℕ) (row : List ℕ) (c : ℕ) (row' : List ℕ) : Type 0 where
@@ -209,8 +213,8 @@ pub record ExportedRecordRow (xs : List ℕ) (z h : ℕ) (row : List ℕ) (c : �
   pub running_at : Place
   pub stored_row : Place
   pub ensured :
-      exported_record_row.Post lifetimes (lent running_at xs, (z, (h, (lent stored_row row, tt)))) c
-      (lent running_at xs, (z, (h, (lent stored_row row', tt))))
+      exported_record_row.Post lifetimes (lent running_at xs, (z, (h, (lent_mut stored_row row, tt)))) c
+      (lent running_at xs, (z, (h, (lent_mut stored_row row', tt))))
 
 pub record ExportedSmooth (ts vs zs hs rs : List ℕ) (c : ℕ) (rs' : List ℕ) : Type 0 where
   pub lifetimes : Lfts 5
@@ -221,8 +225,8 @@ pub record ExportedSmooth (ts vs zs hs rs : List ℕ) (c : ℕ) (rs' : List ℕ)
   pub rows_at : Place
   pub ensured :
       exported_smooth.Post lifetimes
-      (lent minutes_at ts, (lent values_at vs, (lent points_at zs, (lent bandwidths_at hs, (lent rows_at rs, tt))))) c
-      (lent minutes_at ts, (lent values_at vs, (lent points_at zs, (lent bandwidths_at hs, (lent rows_at rs', tt)))))
+      (lent minutes_at ts, (lent values_at vs, (lent points_at zs, (lent bandwidths_at hs, (lent_mut rows_at rs, tt))))) c
+      (lent minutes_at ts, (lent values_at vs, (lent points_at zs, (lent bandwidths_at hs, (lent_mut rows_at rs', tt)))))
 
 pub record ExportedPreview (ts vs zs hs rs : List ℕ) (c : ℕ) (rs' : List ℕ) : Type 0 where
   pub lifetimes : Lfts 5
@@ -233,16 +237,16 @@ pub record ExportedPreview (ts vs zs hs rs : List ℕ) (c : ℕ) (rs' : List ℕ
   pub rows_at : Place
   pub ensured :
       exported_preview.Post lifetimes
-      (lent minutes_at ts, (lent values_at vs, (lent points_at zs, (lent bandwidths_at hs, (lent rows_at rs, tt))))) c
-      (lent minutes_at ts, (lent values_at vs, (lent points_at zs, (lent bandwidths_at hs, (lent rows_at rs', tt)))))
+      (lent minutes_at ts, (lent values_at vs, (lent points_at zs, (lent bandwidths_at hs, (lent_mut rows_at rs, tt))))) c
+      (lent minutes_at ts, (lent values_at vs, (lent points_at zs, (lent bandwidths_at hs, (lent_mut rows_at rs', tt)))))
 
 pub record ExportedFill (z₀ spacing preset : ℕ) (zs hs : List ℕ) (c : ℕ) (zs' hs' : List ℕ) : Type 0 where
   pub lifetimes : Lfts 2
   pub points_at : Place
   pub bandwidths_at : Place
   pub ensured :
-      exported_fill.Post lifetimes (z₀, (spacing, (preset, (lent points_at zs, (lent bandwidths_at hs, tt))))) c
-      (z₀, (spacing, (preset, (lent points_at zs', (lent bandwidths_at hs', tt)))))
+      exported_fill.Post lifetimes (z₀, (spacing, (preset, (lent_mut points_at zs, (lent_mut bandwidths_at hs, tt))))) c
+      (z₀, (spacing, (preset, (lent_mut points_at zs', (lent_mut bandwidths_at hs', tt)))))
 
 pub record ExportedRead (s ts vs zs hs ns : List ℕ) (c : ℕ) (ts' vs' zs' hs' ns' : List ℕ) : Type 0 where
   pub lifetimes : Lfts 6
@@ -255,22 +259,22 @@ pub record ExportedRead (s ts vs zs hs ns : List ℕ) (c : ℕ) (ts' vs' zs' hs'
   pub ensured :
       exported_read.Post lifetimes (
         lent sheet_at s,
-        (lent minutes_at ts, (lent values_at vs, (lent points_at zs, (lent bandwidths_at hs, (lent counts_at ns, tt))))),
+        (lent_mut minutes_at ts, (lent_mut values_at vs, (lent_mut points_at zs, (lent_mut bandwidths_at hs, (lent_mut counts_at ns, tt))))),
       ) c (
         lent sheet_at s,
-        (lent minutes_at ts', (lent values_at vs', (lent points_at zs', (lent bandwidths_at hs', (lent counts_at ns', tt))))),
+        (lent_mut minutes_at ts', (lent_mut values_at vs', (lent_mut points_at zs', (lent_mut bandwidths_at hs', (lent_mut counts_at ns', tt))))),
       )
 
 pub record ExportedText (s out : List ℕ) (c : ℕ) (out' : List ℕ) : Type 0 where
   pub lifetimes : Lfts 2
   pub sheet_at : Place
   pub out_at : Place
-  pub ensured : exported_text.Post lifetimes (lent sheet_at s, (lent out_at out, tt)) c (lent sheet_at s, (lent out_at out', tt))
+  pub ensured : exported_text.Post lifetimes (lent sheet_at s, (lent_mut out_at out, tt)) c (lent sheet_at s, (lent_mut out_at out', tt))
 
 pub record ExportedRefusalText (n p : ℕ) (out : List ℕ) (c : ℕ) (out' : List ℕ) : Type 0 where
   pub lifetimes : Lfts 1
   pub out_at : Place
-  pub ensured : exported_refusal_text.Post lifetimes (n, (p, (lent out_at out, tt))) c (n, (p, (lent out_at out', tt)))
+  pub ensured : exported_refusal_text.Post lifetimes (n, (p, (lent_mut out_at out, tt))) c (n, (p, (lent_mut out_at out', tt)))
 
 -- which build it is: this number is no answer
 pub record ExportedVersion (v : ℕ) : Type 0 where

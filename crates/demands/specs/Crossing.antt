@@ -24,7 +24,7 @@ use Rattle.crossing.proofs.first_at_most.Statement as first_at_most_code
 use Rattle.abi_crossing.proofs.tankcurve_first_at_most.Reads as exported_first_at_most
 use Rattle.abi_crossing.proofs.tankcurve_first_at_most.Kinds as exported_first_at_most_kinds
 use Rattle.abi_crossing.proofs.tankcurve_first_at_most.Statement as exported_first_at_most_code
-use Rattle.demands.specs.Calls.{Place, lent, SmoothCall}
+use Rattle.demands.specs.Calls.{Place, lent, lent_mut, SmoothCall}
 use Rattle.demands.specs.Conditions.{Conditions, RefusedExactly, FirstFault, curve_conditions, length_first, code_refusal}
 
 -- calls that were made
@@ -47,8 +47,8 @@ pub record ExportedFirstAtMost (ts vs zs hs : List ℕ) (limit : ℕ) (xs : List
   pub position_at : Place
   pub ensured :
       exported_first_at_most.Post lifetimes
-      (lent minutes_at ts, (lent values_at vs, (lent points_at zs, (lent bandwidths_at hs, (limit, (lent position_at xs, tt)))))) c
-      (lent minutes_at ts, (lent values_at vs, (lent points_at zs, (lent bandwidths_at hs, (limit, (lent position_at xs', tt))))))
+      (lent minutes_at ts, (lent values_at vs, (lent points_at zs, (lent bandwidths_at hs, (limit, (lent_mut position_at xs, tt)))))) c
+      (lent minutes_at ts, (lent values_at vs, (lent points_at zs, (lent bandwidths_at hs, (limit, (lent_mut position_at xs', tt))))))
 
 -- readings with marks and no further list: 8, 6, 7, 4, 5, 9, 10, over whole lists
 abbrev pub crossing_conditions : List ℕ → List ℕ → List ℕ → List ℕ → Conditions

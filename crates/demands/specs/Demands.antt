@@ -145,7 +145,7 @@ pub record Demand1 : Type 2 where
   -- its run: where the question is refused the part is empty, at the start of the values
   pub window_refused : (ts vs : List ℕ) (z h : ℕ) (values_at : Place) (part : Bor (List ℕ)) → WindowCall ts vs z h values_at part
       → (n p : ℕ) → FirstFault (evaluate_conditions ts vs h) n p
-      → (part.now ≡ []) × (part.ref_ptr.0 ≡ values_at.ptr.0) × (part.ref_ptr.1 ≡ values_at.ptr.1)
+      → (part.now ≡ []) × (part.ref_ptr.0 ≡ values_at.ref_ptr.0) × (part.ref_ptr.1 ≡ values_at.ref_ptr.1)
   -- the single step, on a record of any origin
   pub advance_refused : (r : RunningSums) (ts vs : List ℕ) (z h : ℕ) (a : Advance) → AdvanceCall r ts vs z h a
       → RefusedExactly (refusal (advance_answer a)) (FirstFault (advance_conditions ts vs r.left r.right h))
@@ -210,7 +210,7 @@ pub record Demand2 : Type 0 where
   pub window_run : (ts vs : List ℕ) (z h : ℕ) (e : Estimate) (values_at : Place) (part : Bor (List ℕ)) → EvaluateCall ts vs z h (Row e)
       → WindowCall ts vs z h values_at part
       → (part.now ≡ take (e.right - e.left) (drop e.left vs))
-      × (part.ref_ptr.0 ≡ values_at.ptr.0) × (part.ref_ptr.1 ≡ values_at.ptr.1 + e.left * 2)
+      × (part.ref_ptr.0 ≡ values_at.ref_ptr.0) × (part.ref_ptr.1 ≡ values_at.ref_ptr.1 + e.left * 2)
   -- each five numbers of an accepted sweep's rows
   pub smooth_rows : (ts vs zs hs rs : List ℕ) (n : ℕ) (rs' : List ℕ) → AtMost max_u16 vs → SmoothCall ts vs zs hs rs (Passes n) rs'
       → (length rs' ≡ row_width * length zs)

@@ -220,7 +220,7 @@ biweights = record {
       record {
         holds = m.ensured.0 ∙ window_is ts vs z e k.ensured;
         block = m.ensured.1.0;
-        begins = m.ensured.1.1 ∙ ap (λ (n : ℕ). values_at.ptr.1 + n * 2) (start_is ts vs z e k.ensured);
+        begins = m.ensured.1.1 ∙ ap (λ (n : ℕ). values_at.ref_ptr.1 + n * 2) (start_is ts vs z e k.ensured);
       };
   a_row = there_is;
   one_published = λ ts vs z d e. one_published_row ts vs z biweight_bandwidth d e;

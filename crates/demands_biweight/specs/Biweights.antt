@@ -25,7 +25,7 @@ use Rattle.abi_biweight.proofs.tankcurve_biweight.Reads as exported_biweight
 use Rattle.abi_biweight.proofs.tankcurve_biweight.Kinds as exported_biweight_kinds
 use Rattle.abi_biweight.proofs.tankcurve_biweight.Statement as exported_biweight_code
 use Rattle.text.specs.Table.{stored_row}
-use Rattle.demands.specs.Calls.{Place, lent, EvaluateCall, WindowCall, ExportedEvaluate, ExportedWindow}
+use Rattle.demands.specs.Calls.{Place, lent, lent_mut, EvaluateCall, WindowCall, ExportedEvaluate, ExportedWindow}
 use Rattle.demands.specs.Conditions.{Conditions, RefusedExactly, NoFault, FirstFault, no_more, series_conditions, length_first, code_refusal}
 use Rattle.demands.specs.Demands.{RefusedAndStays}
 
@@ -43,8 +43,8 @@ pub record ExportedBiweight (ts vs : List ℕ) (z : ℕ) (row : List ℕ) (c : �
   pub values_at : Place
   pub row_at : Place
   pub ensured :
-      exported_biweight.Post lifetimes (lent minutes_at ts, (lent values_at vs, (z, (lent row_at row, tt)))) c
-      (lent minutes_at ts, (lent values_at vs, (z, (lent row_at row', tt))))
+      exported_biweight.Post lifetimes (lent minutes_at ts, (lent values_at vs, (z, (lent_mut row_at row, tt)))) c
+      (lent minutes_at ts, (lent values_at vs, (z, (lent_mut row_at row', tt))))
 
 -- 8, 6, 4; no half width is given, so no 9
 abbrev pub biweight_conditions : List ℕ → List ℕ → Conditions
@@ -60,8 +60,8 @@ pub record Fits (e : Estimate) : Type 0 where
 -- a part of the lent values: the run of a row, and where it begins
 pub record RunOf (vs : List ℕ) (values_at : Place) (e : Estimate) (part : Bor (List ℕ)) : Type 0 where
   pub holds : part.now ≡ take (e.right - e.left) (drop e.left vs)
-  pub block : part.ref_ptr.0 ≡ values_at.ptr.0
-  pub begins : part.ref_ptr.1 ≡ values_at.ptr.1 + e.left * 2
+  pub block : part.ref_ptr.0 ≡ values_at.ref_ptr.0
+  pub begins : part.ref_ptr.1 ≡ values_at.ref_ptr.1 + e.left * 2
 
 pub record Biweights : Type 2 where
   -- every input is taken, each call ends, and nothing is left for the caller to check

@@ -19,7 +19,7 @@ use Rattle.boxes.proofs.boxes.Statement as boxes_code
 use Rattle.abi_boxes.proofs.tankcurve_boxes.Reads as exported_boxes
 use Rattle.abi_boxes.proofs.tankcurve_boxes.Kinds as exported_boxes_kinds
 use Rattle.abi_boxes.proofs.tankcurve_boxes.Statement as exported_boxes_code
-use Rattle.demands.specs.Calls.{Place, lent}
+use Rattle.demands.specs.Calls.{Place, lent, lent_mut}
 use Rattle.demands.specs.Conditions.{FirstFault, code_refusal}
 use Rattle.demands.specs.Demands.{RefusedAndStays}
 use Rattle.demands_boxes.specs.Filled.{TenLists, box_conditions, FilledIn, IsCut}
@@ -56,7 +56,7 @@ pub record BoxesCall (q : TenLists) (a : Filling) (bs' cs' ss' : List ℕ) : Typ
                   lent loans.temperature_points q.temperature_points,
                   (
                     lent loans.temperature_bandwidths q.temperature_bandwidths,
-                    (lent loans.boxes q.boxes, (lent loans.counts q.counts, (lent loans.sums q.sums, tt))),
+                    (lent_mut loans.boxes q.boxes, (lent_mut loans.counts q.counts, (lent_mut loans.sums q.sums, tt))),
                   ),
                 ),
               ),
@@ -78,7 +78,7 @@ pub record BoxesCall (q : TenLists) (a : Filling) (bs' cs' ss' : List ℕ) : Typ
                   lent loans.temperature_points q.temperature_points,
                   (
                     lent loans.temperature_bandwidths q.temperature_bandwidths,
-                    (lent loans.boxes bs', (lent loans.counts cs', (lent loans.sums ss', tt))),
+                    (lent_mut loans.boxes bs', (lent_mut loans.counts cs', (lent_mut loans.sums ss', tt))),
                   ),
                 ),
               ),
@@ -105,7 +105,7 @@ pub record ExportedBoxes (q : TenLists) (c : ℕ) (bs' cs' ss' : List ℕ) : Typ
                   lent loans.temperature_points q.temperature_points,
                   (
                     lent loans.temperature_bandwidths q.temperature_bandwidths,
-                    (lent loans.boxes q.boxes, (lent loans.counts q.counts, (lent loans.sums q.sums, tt))),
+                    (lent_mut loans.boxes q.boxes, (lent_mut loans.counts q.counts, (lent_mut loans.sums q.sums, tt))),
                   ),
                 ),
               ),
@@ -127,7 +127,7 @@ pub record ExportedBoxes (q : TenLists) (c : ℕ) (bs' cs' ss' : List ℕ) : Typ
                   lent loans.temperature_points q.temperature_points,
                   (
                     lent loans.temperature_bandwidths q.temperature_bandwidths,
-                    (lent loans.boxes bs', (lent loans.counts cs', (lent loans.sums ss', tt))),
+                    (lent_mut loans.boxes bs', (lent_mut loans.counts cs', (lent_mut loans.sums ss', tt))),
                   ),
                 ),
               ),

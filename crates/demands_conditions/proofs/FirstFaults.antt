@@ -38,6 +38,8 @@ some_same n p m q e = let f : fault n p ≡ fault m q = cc in (ap (λ (f : Fault
 
 pub first_found : (ks : List Check) (cs : Conditions) → FindEach ks cs → (n p : ℕ) → first_of ks ≡ some (fault n p) → FirstFault cs n p
 first_found [] no_more f n p e = let z : ◌≡◌ {A = ℕ} 0 1 = cc in absurd (omega arith)
+first_found [] (condition m At cs) f n p e = elim f [ ]
+first_found (k ∷ ks) no_more f n p e = elim f [ ]
 first_found (k ∷ ks) (condition m At cs) f n p e = by k.place refl e (first_found ks cs f.1 n p)
   where
     by : (o : Option ℕ) → k.place ≡ o → fault_or k.number o (first_of ks) ≡ some (fault n p)
@@ -50,6 +52,8 @@ first_found (k ∷ ks) (condition m At cs) f n p e = by k.place refl e (first_fo
 
 pub none_found : (ks : List Check) (cs : Conditions) → FindEach ks cs → first_of ks ≡ none → NoFault cs
 none_found [] no_more f e = tt
+none_found [] (condition m At cs) f e = elim f [ ]
+none_found (k ∷ ks) no_more f e = elim f [ ]
 none_found (k ∷ ks) (condition m At cs) f e = by k.place refl e (none_found ks cs f.1)
   where
     by : (o : Option ℕ) → k.place ≡ o → fault_or k.number o (first_of ks) ≡ none → (first_of ks ≡ none → NoFault cs) → NoFault (condition m At cs)

@@ -27,7 +27,7 @@ use Rattle.decisive.proofs.decisive_sample.Statement as decisive_sample_code
 use Rattle.abi_decisive.proofs.tankcurve_decisive.Reads as exported_decisive
 use Rattle.abi_decisive.proofs.tankcurve_decisive.Kinds as exported_decisive_kinds
 use Rattle.abi_decisive.proofs.tankcurve_decisive.Statement as exported_decisive_code
-use Rattle.demands.specs.Calls.{Place, lent, EvaluateCall, ExportedEvaluate}
+use Rattle.demands.specs.Calls.{Place, lent, lent_mut, EvaluateCall, ExportedEvaluate}
 use Rattle.demands.specs.Conditions.{RefusedExactly, FirstFault, evaluate_conditions, length_first, code_refusal}
 use Rattle.demands.specs.Crossing.{LowEnough}
 
@@ -46,8 +46,8 @@ pub record ExportedDecisive (ts vs : List ℕ) (z h limit : ℕ) (xs : List ℕ)
   pub values_at : Place
   pub position_at : Place
   pub ensured :
-      exported_decisive.Post lifetimes (lent minutes_at ts, (lent values_at vs, (z, (h, (limit, (lent position_at xs, tt)))))) c
-      (lent minutes_at ts, (lent values_at vs, (z, (h, (limit, (lent position_at xs', tt))))))
+      exported_decisive.Post lifetimes (lent minutes_at ts, (lent values_at vs, (z, (h, (limit, (lent_mut position_at xs, tt)))))) c
+      (lent minutes_at ts, (lent values_at vs, (z, (h, (limit, (lent_mut position_at xs', tt))))))
 
 -- both lists without reading i
 pub record Without (i : ℕ) (ts vs ts' vs' : List ℕ) : Type 0 where

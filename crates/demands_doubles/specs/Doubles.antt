@@ -2,7 +2,7 @@
 -- ts are minutes, vs values, z a mark, h a half width, zs and hs lists of these, rs rows, as in Demands.antt of the crate demands.
 use Rattle.std.specs.Prelude.{ℕ, ◌*◌, ◌/◌, ◌^◌, ◌≤◌, ◌<◌, ◌≡◌, List, map, length, drop, Float}
 use Rattle.std.proofs.Math.Option.{none, some}
-use Rattle.std.specs.Borrow.{Bor}
+use Rattle.std.specs.Borrow.{MutBor}
 use contract.Lifetimes.{Lfts}
 use borrow.Fn.Kinds.{Dens}
 use Rattle.meanings.specs.declared.Estimate.{Estimate}
@@ -54,13 +54,13 @@ pub record RowCellsCall (e : Estimate) (c : RowCells) : Type 0 where
   pub ensured : row_cells.Post lifetimes (e, tt) c (e, tt)
 
 -- for C and Rust, on a lent list xs of doubles that is xs' at exit
-abbrev pub lent : Place → List Float → Bor (List Float)
-lent x xs = record { ref_ptr = x.ptr; ghost_name = x.name; now = xs }
+abbrev pub lent_mut : Place → List Float → MutBor (List Float)
+lent_mut x xs = record { ref_ptr = x.ref_ptr; ghost_name = x.ghost_name; now = xs }
 
 pub record ExportedDoubles (w n : ℕ) (xs : List Float) (c : ℕ) (xs' : List Float) : Type 0 where
   pub lifetimes : Lfts 1
   pub doubles_at : Place
-  pub ensured : exported_doubles.Post lifetimes (w, (n, (lent doubles_at xs, tt))) c (w, (n, (lent doubles_at xs', tt)))
+  pub ensured : exported_doubles.Post lifetimes (w, (n, (lent_mut doubles_at xs, tt))) c (w, (n, (lent_mut doubles_at xs', tt)))
 
 -- both numbers of a row, each by a call with two doubles to write
 pub record ExportedRow (e : Estimate) (c : ℕ) (xs' : List Float) (d : ℕ) (ys' : List Float) : Type 0 where

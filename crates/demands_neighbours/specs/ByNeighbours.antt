@@ -25,7 +25,7 @@ use Rattle.neighbours.proofs.neighbours.Statement as neighbours_code
 use Rattle.abi_neighbours.proofs.tankcurve_neighbours.Reads as exported_neighbours
 use Rattle.abi_neighbours.proofs.tankcurve_neighbours.Kinds as exported_neighbours_kinds
 use Rattle.abi_neighbours.proofs.tankcurve_neighbours.Statement as exported_neighbours_code
-use Rattle.demands.specs.Calls.{Place, lent, SmoothCall, ExportedSmooth}
+use Rattle.demands.specs.Calls.{Place, lent, lent_mut, SmoothCall, ExportedSmooth}
 use Rattle.demands.specs.Conditions.{Conditions, no_more, condition, NoFault, FirstFault, AtZero, OutOfRange, EdgeFallsAt, curve_size_conditions}
 use Rattle.demands.specs.Conditions.{order_conditions, code_refusal}
 use Rattle.demands.specs.Demands.{RefusedAndStays}
@@ -40,8 +40,8 @@ pub record NeighboursCall (ts vs zs : List ℕ) (k : ℕ) (hs rs : List ℕ) (a 
   pub rows_at : Place
   pub ensured :
       neighbours.Post lifetimes
-      (lent minutes_at ts, (lent values_at vs, (lent points_at zs, (k, (lent bandwidths_at hs, (lent rows_at rs, tt)))))) a
-      (lent minutes_at ts, (lent values_at vs, (lent points_at zs, (k, (lent bandwidths_at hs', (lent rows_at rs', tt))))))
+      (lent minutes_at ts, (lent values_at vs, (lent points_at zs, (k, (lent_mut bandwidths_at hs, (lent_mut rows_at rs, tt)))))) a
+      (lent minutes_at ts, (lent values_at vs, (lent points_at zs, (k, (lent_mut bandwidths_at hs', (lent_mut rows_at rs', tt))))))
 
 pub record ExportedNeighbours (ts vs zs : List ℕ) (k : ℕ) (hs rs : List ℕ) (c : ℕ) (hs' rs' : List ℕ) : Type 0 where
   pub lifetimes : Lfts 5
@@ -52,8 +52,8 @@ pub record ExportedNeighbours (ts vs zs : List ℕ) (k : ℕ) (hs rs : List ℕ)
   pub rows_at : Place
   pub ensured :
       exported_neighbours.Post lifetimes
-      (lent minutes_at ts, (lent values_at vs, (lent points_at zs, (k, (lent bandwidths_at hs, (lent rows_at rs, tt)))))) c
-      (lent minutes_at ts, (lent values_at vs, (lent points_at zs, (k, (lent bandwidths_at hs', (lent rows_at rs', tt))))))
+      (lent minutes_at ts, (lent values_at vs, (lent points_at zs, (k, (lent_mut bandwidths_at hs, (lent_mut rows_at rs, tt)))))) c
+      (lent minutes_at ts, (lent values_at vs, (lent points_at zs, (k, (lent_mut bandwidths_at hs', (lent_mut rows_at rs', tt))))))
 
 -- lengths and order of the lists, with so many numbers for the rows, in front of other conditions: 8, 6, 7, 4, 5
 abbrev pub list_conditions : List ℕ → List ℕ → List ℕ → List ℕ → ℕ → Conditions → Conditions

@@ -131,14 +131,14 @@ parting_stays (refused f) xs e q = refl
 module _ (ts vs us ws zs hs : List ℕ) (first-at second_at : Place) (part : Bor (List ℕ)) (c : CompareRunCall ts vs us ws zs hs first-at second_at part) where
   part_by : {a : Answer (Option Parting)} → compare full ts vs us ws zs hs ≡ a
       → (part.now ≡ run_in ts vs us ws zs hs a)
-      × (part.ref_ptr.0 ≡ of_tank (tank_in a) first-at.ptr.0 second_at.ptr.0)
-      × (part.ref_ptr.1 ≡ of_tank (tank_in a) first-at.ptr.1 second_at.ptr.1 + start_in ts us zs hs a * 2)
+      × (part.ref_ptr.0 ≡ of_tank (tank_in a) first-at.ref_ptr.0 second_at.ref_ptr.0)
+      × (part.ref_ptr.1 ≡ of_tank (tank_in a) first-at.ref_ptr.1 second_at.ref_ptr.1 + start_in ts us zs hs a * 2)
   unfolding compare_run run_tank run_start
   part_by q = (
     c.ensured.0 ∙ ap (run_in ts vs us ws zs hs) q,
-    c.ensured.1.0 ∙ ap (λ (a : Answer (Option Parting)). of_tank (tank_in a) first-at.ptr.0 second_at.ptr.0) q,
+    c.ensured.1.0 ∙ ap (λ (a : Answer (Option Parting)). of_tank (tank_in a) first-at.ref_ptr.0 second_at.ref_ptr.0) q,
     c.ensured.1.1
-        ∙ ap (λ (a : Answer (Option Parting)). of_tank (tank_in a) first-at.ptr.1 second_at.ptr.1 + start_in ts us zs hs a * 2) q,
+        ∙ ap (λ (a : Answer (Option Parting)). of_tank (tank_in a) first-at.ref_ptr.1 second_at.ref_ptr.1 + start_in ts us zs hs a * 2) q,
   )
 
   empty_by_refusal : {e : Fault} → compare full ts vs us ws zs hs ≡ refused e → EmptyAtFirst first-at part

@@ -26,7 +26,7 @@ use Rattle.pair.proofs.compare_run.Statement as compare_run_code
 use Rattle.abi_pair.proofs.tankcurve_compare.Reads as exported_compare
 use Rattle.abi_pair.proofs.tankcurve_compare.Kinds as exported_compare_kinds
 use Rattle.abi_pair.proofs.tankcurve_compare.Statement as exported_compare_code
-use Rattle.demands.specs.Calls.{Place, lent, SmoothCall}
+use Rattle.demands.specs.Calls.{Place, lent, lent_mut, SmoothCall}
 use Rattle.demands.specs.Conditions.{Conditions, no_more, condition, FirstFault, RefusedExactly, series_conditions, curve_size_conditions, order_conditions}
 use Rattle.demands.specs.Conditions.{windows_conditions, length_first, code_refusal}
 use Rattle.demands.specs.Demands.{RefusedAndStays}
@@ -80,13 +80,13 @@ pub record ExportedCompare (ts vs us ws zs hs out : List ℕ) (c : ℕ) (out' : 
         lent minutes_at ts,
         (
           lent values_at vs,
-          (lent others_at us, (lent other_values_at ws, (lent points_at zs, (lent bandwidths_at hs, (lent out_at out, tt))))),
+          (lent others_at us, (lent other_values_at ws, (lent points_at zs, (lent bandwidths_at hs, (lent_mut out_at out, tt))))),
         ),
       ) c (
         lent minutes_at ts,
         (
           lent values_at vs,
-          (lent others_at us, (lent other_values_at ws, (lent points_at zs, (lent bandwidths_at hs, (lent out_at out', tt))))),
+          (lent others_at us, (lent other_values_at ws, (lent points_at zs, (lent bandwidths_at hs, (lent_mut out_at out', tt))))),
         ),
       )
 
@@ -103,14 +103,14 @@ compare_conditions ts vs us ws zs hs =
 -- the part is empty, at the start of the first tank's values
 pub record EmptyAtFirst (first-at : Place) (part : Bor (List ℕ)) : Type 0 where
   pub empty : part.now ≡ []
-  pub block : part.ref_ptr.0 ≡ first-at.ptr.0
-  pub start : part.ref_ptr.1 ≡ first-at.ptr.1
+  pub block : part.ref_ptr.0 ≡ first-at.ref_ptr.0
+  pub start : part.ref_ptr.1 ≡ first-at.ref_ptr.1
 
 -- the part is the run of tank t at mark z with half width h, in that tank's own values, two bytes each
 pub record RunOfTank (ts vs us ws : List ℕ) (t : Tank) (z h : ℕ) (first-at second_at : Place) (part : Bor (List ℕ)) : Type 0 where
   pub values : part.now ≡ of_tank t (run_of ts vs z h) (run_of us ws z h)
-  pub block : part.ref_ptr.0 ≡ of_tank t first-at.ptr.0 second_at.ptr.0
-  pub start : part.ref_ptr.1 ≡ of_tank t first-at.ptr.1 second_at.ptr.1 + of_tank t (left_of ts z h) (left_of us z h) * 2
+  pub block : part.ref_ptr.0 ≡ of_tank t first-at.ref_ptr.0 second_at.ref_ptr.0
+  pub start : part.ref_ptr.1 ≡ of_tank t first-at.ref_ptr.1 second_at.ref_ptr.1 + of_tank t (left_of ts z h) (left_of us z h) * 2
 
 -- every input is taken, and the calls come to an end
 pub record EveryPairTaken : Type 2 where

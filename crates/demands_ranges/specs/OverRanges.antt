@@ -29,7 +29,7 @@ use Rattle.ranges.proofs.smooth_ranges.Statement as smooth_ranges_code
 use Rattle.abi_ranges.proofs.tankcurve_smooth_ranges.Reads as exported_ranges
 use Rattle.abi_ranges.proofs.tankcurve_smooth_ranges.Kinds as exported_ranges_kinds
 use Rattle.abi_ranges.proofs.tankcurve_smooth_ranges.Statement as exported_ranges_code
-use Rattle.demands.specs.Calls.{Place, lent, SmoothCall, ExportedSmooth}
+use Rattle.demands.specs.Calls.{Place, lent, lent_mut, SmoothCall, ExportedSmooth}
 use Rattle.demands.specs.Conditions.{Conditions, no_more, condition, FirstFault, FallsAt, curve_size_conditions, windows_conditions, code_refusal}
 use Rattle.demands.specs.Demands.{RefusedAndStays, log_passes}
 
@@ -44,8 +44,8 @@ pub record RangesCall (ts ls us zs hs rs : List ℕ) (a : Smoothing) (rs' : List
   pub rows_at : Place
   pub ensured :
       smooth_ranges.Post lifetimes
-      (lent minutes_at ts, (lent lows_at ls, (lent highs_at us, (lent points_at zs, (lent bandwidths_at hs, (lent rows_at rs, tt)))))) a
-      (lent minutes_at ts, (lent lows_at ls, (lent highs_at us, (lent points_at zs, (lent bandwidths_at hs, (lent rows_at rs', tt))))))
+      (lent minutes_at ts, (lent lows_at ls, (lent highs_at us, (lent points_at zs, (lent bandwidths_at hs, (lent_mut rows_at rs, tt)))))) a
+      (lent minutes_at ts, (lent lows_at ls, (lent highs_at us, (lent points_at zs, (lent bandwidths_at hs, (lent_mut rows_at rs', tt))))))
 
 pub record ExportedRanges (ts ls us zs hs rs : List ℕ) (c : ℕ) (rs' : List ℕ) : Type 0 where
   pub lifetimes : Lfts 6
@@ -57,8 +57,8 @@ pub record ExportedRanges (ts ls us zs hs rs : List ℕ) (c : ℕ) (rs' : List �
   pub rows_at : Place
   pub ensured :
       exported_ranges.Post lifetimes
-      (lent minutes_at ts, (lent lows_at ls, (lent highs_at us, (lent points_at zs, (lent bandwidths_at hs, (lent rows_at rs, tt)))))) c
-      (lent minutes_at ts, (lent lows_at ls, (lent highs_at us, (lent points_at zs, (lent bandwidths_at hs, (lent rows_at rs', tt))))))
+      (lent minutes_at ts, (lent lows_at ls, (lent highs_at us, (lent points_at zs, (lent bandwidths_at hs, (lent_mut rows_at rs, tt)))))) c
+      (lent minutes_at ts, (lent lows_at ls, (lent highs_at us, (lent points_at zs, (lent bandwidths_at hs, (lent_mut rows_at rs', tt))))))
 
 -- report 15: the lowest value at p is above the highest
 pub record CrossedAt (ls us : List ℕ) (p : ℕ) : Type 0 where

@@ -32,7 +32,7 @@ use Rattle.abi_sheet_ranges.specs.KindNumbers.{kind_number}
 use Rattle.abi_sheet_ranges.proofs.tankcurve_read_ranges.Reads as exported_read
 use Rattle.abi_sheet_ranges.proofs.tankcurve_read_ranges.Kinds as exported_read_kinds
 use Rattle.abi_sheet_ranges.proofs.tankcurve_read_ranges.Statement as exported_read_code
-use Rattle.demands.specs.Calls.{Place, lent, SmoothCall, ReadCall}
+use Rattle.demands.specs.Calls.{Place, lent, lent_mut, SmoothCall, ReadCall}
 use Rattle.demands.specs.Conditions.{Conditions, no_more, condition, FirstOrElse, AtZero, length_first, code_refusal}
 use Rattle.demands.specs.Demands.{RefusedAndStays}
 use Rattle.demands_ranges.specs.OverRanges.{RangesCall, ExportedRanges, stored_range_row, twice}
@@ -48,8 +48,8 @@ pub record ReadRangesCall (s ts ls us zs hs : List ℕ) (a : RangeParsing) (ts' 
   pub bandwidths_at : Place
   pub ensured :
       read_ranges.Post lifetimes
-      (lent sheet_at s, (lent minutes_at ts, (lent lows_at ls, (lent highs_at us, (lent points_at zs, (lent bandwidths_at hs, tt)))))) a
-      (lent sheet_at s, (lent minutes_at ts', (lent lows_at ls', (lent highs_at us', (lent points_at zs', (lent bandwidths_at hs', tt))))))
+      (lent sheet_at s, (lent_mut minutes_at ts, (lent_mut lows_at ls, (lent_mut highs_at us, (lent_mut points_at zs, (lent_mut bandwidths_at hs, tt)))))) a
+      (lent sheet_at s, (lent_mut minutes_at ts', (lent_mut lows_at ls', (lent_mut highs_at us', (lent_mut points_at zs', (lent_mut bandwidths_at hs', tt))))))
 
 -- the call for C and Rust, with a list ns for its counts
 pub record ExportedReadRanges (s ts ls us zs hs ns : List ℕ) (a : ℕ) (ts' ls' us' zs' hs' ns' : List ℕ) : Type 0 where
@@ -64,10 +64,10 @@ pub record ExportedReadRanges (s ts ls us zs hs ns : List ℕ) (a : ℕ) (ts' ls
   pub ensured :
       exported_read.Post lifetimes (
         lent sheet_at s,
-        (lent minutes_at ts, (lent lows_at ls, (lent highs_at us, (lent points_at zs, (lent bandwidths_at hs, (lent counts_at ns, tt)))))),
+        (lent_mut minutes_at ts, (lent_mut lows_at ls, (lent_mut highs_at us, (lent_mut points_at zs, (lent_mut bandwidths_at hs, (lent_mut counts_at ns, tt)))))),
       ) a (
         lent sheet_at s,
-        (lent minutes_at ts', (lent lows_at ls', (lent highs_at us', (lent points_at zs', (lent bandwidths_at hs', (lent counts_at ns', tt)))))),
+        (lent_mut minutes_at ts', (lent_mut lows_at ls', (lent_mut highs_at us', (lent_mut points_at zs', (lent_mut bandwidths_at hs', (lent_mut counts_at ns', tt)))))),
       )
 
 -- the lists for a sheet have their lengths

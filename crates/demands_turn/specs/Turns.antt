@@ -28,7 +28,7 @@ use Rattle.turn.proofs.turn_own.Statement as turn_own_code
 use Rattle.abi_turn.proofs.tankcurve_turn.Reads as exported_turn
 use Rattle.abi_turn.proofs.tankcurve_turn.Kinds as exported_turn_kinds
 use Rattle.abi_turn.proofs.tankcurve_turn.Statement as exported_turn_code
-use Rattle.demands.specs.Calls.{Place, lent, EvaluateCall, AdvanceCall, RecordRowCall, ExportedAdvance, ExportedEvaluate, ExportedRecordRow}
+use Rattle.demands.specs.Calls.{Place, lent, lent_mut, EvaluateCall, AdvanceCall, RecordRowCall, ExportedAdvance, ExportedEvaluate, ExportedRecordRow}
 use Rattle.demands.specs.Conditions.{Conditions, FirstFault, no_more, series_conditions, record_conditions, bandwidth_conditions, length_first, code_refusal}
 use Rattle.demands.specs.Demands.{RefusedAndStays, held, Steps, OrderedSteps, ExportedSteps, zeros}
 
@@ -48,8 +48,8 @@ pub record ExportedTurn (xs ts vs : List ℕ) (z h c : ℕ) (xs' : List ℕ) : T
   pub minutes_at : Place
   pub values_at : Place
   pub ensured :
-      exported_turn.Post lifetimes (lent running_at xs, (lent minutes_at ts, (lent values_at vs, (z, (h, tt))))) c
-      (lent running_at xs', (lent minutes_at ts, (lent values_at vs, (z, (h, tt)))))
+      exported_turn.Post lifetimes (lent_mut running_at xs, (lent minutes_at ts, (lent values_at vs, (z, (h, tt))))) c
+      (lent_mut running_at xs', (lent minutes_at ts, (lent values_at vs, (z, (h, tt)))))
 
 -- the turn of a record with these edges is refused for: 8, 6, 4, 11, 9
 abbrev pub turn_conditions : List ℕ → List ℕ → ℕ → ℕ → ℕ → Conditions
