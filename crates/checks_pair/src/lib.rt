@@ -1,5 +1,6 @@
 // The refusals of the comparison of two tanks, for any pair of limits. Every function takes every input.
 #![tactic(auto)]
+
 ghost use Rattle.std.specs.Prelude.{◌≡◌};
 ghost use Rattle.meanings.specs.Reports.{verdict_fault, first_of};
 ghost use Rattle.meanings_pair.specs.Comparison.{second_checks, compare_checks};

@@ -1,5 +1,6 @@
 // The refusals of the sweep over ranges, for any pair of limits. Every public function takes every input.
 #![tactic(auto)]
+
 ghost use Rattle.std.specs.Prelude.{◌≡◌, ◌||◌, length};
 ghost use Rattle.meanings.specs.Reports.{verdict_fault, first_of, uneven_samples, uneven_rows};
 ghost use Rattle.meanings_ranges.specs.Ranges.{range_row_width, range_checks};

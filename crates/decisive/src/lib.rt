@@ -1,6 +1,7 @@
 // Which reading decides whether the row at a mark is low enough: one pass for weight and sum, and one over the run that takes each of its
 // readings out of them.
 #![tactic(auto)]
+
 ghost use Rattle.std.specs.Prelude.{◌≡◌};
 ghost use Rattle.meanings.specs.Limits.{full as full_limits};
 ghost use Rattle.meanings.proofs.Checks.{EvaluateAccepted};

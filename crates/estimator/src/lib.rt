@@ -1,5 +1,6 @@
 // The Epanechnikov estimator over readings at one mark: the question, its run, and the single step.
 #![tactic(auto)]
+
 mod edges;
 mod point;
 mod step;

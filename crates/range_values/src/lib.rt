@@ -1,5 +1,6 @@
 // The values of a reading line of either kind: one value, which stands as low and high, or two. Every function takes every input.
 #![tactic(auto)]
+
 ghost use Rattle.std.specs.Prelude.{◌≡◌};
 ghost use Rattle.std.proofs.Math.Option.{some};
 ghost use Rattle.meanings.specs.Sheet.{ranged_sample};

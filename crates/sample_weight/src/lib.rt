@@ -1,5 +1,6 @@
 // The weight of one reading at a mark. It takes every input.
 #![tactic(auto)]
+
 ghost use Rattle.std.specs.Prelude.{◌≡◌};
 ghost use Rattle.meanings.specs.Lists.{distance as distance_meaning};
 ghost use Rattle.meanings.specs.Estimate.{kernel};

@@ -1,6 +1,7 @@
 // The front of the tank sheet, up to its second header line: the marks with their half widths, or the report. Every public function takes every
 // input.
 #![tactic(auto)]
+
 pub mod points;
 
 ghost use Rattle.std.specs.Prelude.{◌≡◌, length};

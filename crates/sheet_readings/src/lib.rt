@@ -1,5 +1,6 @@
 // The reading lines of a sheet of either kind. Every public function takes every input.
 #![tactic(auto)]
+
 ghost use Rattle.std.specs.Prelude.{◌≡◌, ◌≤◌, length};
 ghost use Rattle.sheet_readings.specs.Stages.{ReadingTried, ReadingsFound, ReadingsOutcome};
 

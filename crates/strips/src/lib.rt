@@ -1,6 +1,7 @@
 // The strip of a number among a direction's cuts, without a branch on how a cut and the number compare: of readings in no order such branches are
 // guessed wrong half the time.
 #![tactic(auto)]
+
 mod counting;
 
 ghost use Rattle.strips.specs.Strips.{StripOrZero};

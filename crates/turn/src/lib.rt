@@ -1,5 +1,6 @@
 // The turn: a running record moved to any window, its edges forth or back.
 #![tactic(auto)]
+
 mod edges;
 mod window;
 

@@ -1,6 +1,7 @@
 // Weights and sums as doubles on the vectors of stdin: each answer, with the bit patterns of every double. What is written is held to the file stdout.
 // Both files are made by the second implementation: bin gate_vectors of reference/, which says their form.
 #![tactic(auto)]
+
 use abi_doubles::tankcurve_doubles;
 use doubles::row_cells;
 use meanings::Estimate;

@@ -1,5 +1,6 @@
 // The strips of marks' windows, by search among a direction's cuts. Every function takes every input.
 #![tactic(auto)]
+
 ghost use Rattle.windows.specs.Windows.{WindowsTried};
 
 use cuts::{left_cut, place, right_cut};

@@ -1,0 +1,32 @@
+-- The part is cut at the span's edges, which lie within the values: for accepted readings the row's left and right.
+-- On a refusal it is the empty part at the start.
+use mathlib.Core.Path.{refl}
+use Rattle.estimator.proofs.Verdicts.{accepted_ordered, window_refused, start_refused, span_ordered, span_within, span_fits, window_given, start_given}
+use Rattle.estimator.proofs.window.Goals as goal
+
+pub returns-in-Faulty-clause-result_value : goal.returns-in-Faulty-clause-result_value
+returns-in-Faulty-clause-result_value c = search window_refused
+
+pub returns-in-Faulty-clause-ref_ptr_value : goal.returns-in-Faulty-clause-ref_ptr_value
+returns-in-Faulty-clause-ref_ptr_value c = (refl, search start_refused)
+
+pub returns-in-Fit-clause-result_value : goal.returns-in-Fit-clause-result_value
+returns-in-Fit-clause-result_value c = search window_given
+
+pub returns-in-Fit-clause-ref_ptr_value : goal.returns-in-Fit-clause-ref_ptr_value
+returns-in-Fit-clause-ref_ptr_value c = (refl, search start_given)
+
+pub span_at-span-requires : goal.span_at-span-requires
+span_at-span-requires c = search accepted_ordered
+
+pub offset_bounds-values-left : goal.offset_bounds-values-left
+offset_bounds-values-left c = search span_fits
+
+pub slice_bounds-result-count-in-Fit : goal.slice_bounds-result-count-in-Fit
+slice_bounds-result-count-in-Fit c = search span_ordered
+
+pub slice_bounds-result-start-in-Fit : goal.slice_bounds-result-start-in-Fit
+slice_bounds-result-start-in-Fit c = search span_ordered
+
+pub slice_bounds-result-end-in-Fit : goal.slice_bounds-result-end-in-Fit
+slice_bounds-result-end-in-Fit c = search span_within

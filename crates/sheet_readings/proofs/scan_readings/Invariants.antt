@@ -1,0 +1,13 @@
+-- Each turn reads one line: its reading joins those before or is not kept, or its report is the sheet's. A line is passed each turn, so the
+-- loop ends.
+use Prim.Native.Nat.{◌-◌}
+use lib.ListN.{length}
+use Rattle.sheet_readings.proofs.ReadingLoop.{ReadingsSoFar}
+use Rattle.sheet_readings.proofs.scan_readings.Given as goal
+
+abbrev pub invariant-loop-at : goal.invariant-loop-at
+invariant-loop-at l =
+    ReadingsSoFar l.sheet l.from l.kind l.initial.minutes l.initial.lows l.initial.highs l.minutes l.lows l.highs l.at l.count l.last
+
+abbrev pub decreases-loop-at : goal.decreases-loop-at
+decreases-loop-at l = length l.sheet - l.at

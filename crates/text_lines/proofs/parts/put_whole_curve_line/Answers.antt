@@ -1,0 +1,23 @@
+-- The mark, a comma with the half width and with each edge, and right behind them weight, sum and value to the line's end.
+use borrow.Author.Rules.{rules}
+use Rattle.text_lines.proofs.Lines.{point_fits, bandwidth_fits, left_fits, right_fits, sums_fit, line_stored}
+use Rattle.text_lines.proofs.parts.put_whole_curve_line.Goals as goal
+
+pub put_decimal-point_end-requires : goal.put_decimal-point_end-requires
+put_decimal-point_end-requires c = search point_fits
+
+pub put_after_comma-bandwidth_end-requires : goal.put_after_comma-bandwidth_end-requires
+put_after_comma-bandwidth_end-requires c = search bandwidth_fits
+
+pub put_after_comma-left_end-requires : goal.put_after_comma-left_end-requires
+put_after_comma-left_end-requires c = search left_fits
+
+pub put_after_comma-right_end-requires : goal.put_after_comma-right_end-requires
+put_after_comma-right_end-requires c = search right_fits
+
+pub put_sums-requires : goal.put_sums-requires
+put_sums-requires c = search sums_fit
+
+pub returns : goal.returns
+returns c =
+    search (line_stored, c.put_after_comma-right_end.ensures, c.put_after_comma-left_end.ensures, c.put_after_comma-bandwidth_end.ensures)

@@ -1,0 +1,19 @@
+-- A line that fits is stored part by part; for any other nothing is.
+use borrow.Author.Rules.{rules}
+use Rattle.text_lines.proofs.Fitting.{line_fits, line_ends, line_listed, no_line_ends, no_line_listed}
+use Rattle.text_lines.proofs.put_curve_line.Goals as goal
+
+pub put_whole_curve_line-requires : goal.put_whole_curve_line-requires
+put_whole_curve_line-requires c = search line_fits
+
+pub returns-then-curve_line_fits-clause-value : goal.returns-then-curve_line_fits-clause-value
+returns-then-curve_line_fits-clause-value c = search line_ends
+
+pub returns-then-curve_line_fits-clause-out_after : goal.returns-then-curve_line_fits-clause-out_after
+returns-then-curve_line_fits-clause-out_after c = search line_listed
+
+pub returns-clause-value : goal.returns-clause-value
+returns-clause-value c = search no_line_ends
+
+pub returns-clause-out_after : goal.returns-clause-out_after
+returns-clause-out_after c = search no_line_listed

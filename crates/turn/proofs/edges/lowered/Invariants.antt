@@ -1,0 +1,10 @@
+-- At each turn the sums have let go what lies between where the edge stood at first and where it stands, and its minute is not below the bound.
+-- It stops behind the first minute below it, or at the start.
+use Rattle.turn.proofs.Travels.{Falling}
+use Rattle.turn.proofs.edges.lowered.Given as goal
+
+abbrev pub invariant-loop-at : goal.invariant-loop-at
+invariant-loop-at l = Falling l.minutes l.values l.bound l.initial.at l.initial.sums l.at l.sums
+
+abbrev pub decreases-loop-at : goal.decreases-loop-at
+decreases-loop-at l = l.at
