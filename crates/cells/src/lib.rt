@@ -1,6 +1,7 @@
 // The cells of both directions' strips: how many readings lie in each, and the sum of their values. Every function that another crate can reach
 // takes every input.
 #![tactic(auto)]
+
 mod readings;
 
 ghost use Rattle.cells.specs.Cells.{FitsTested, CellsTried};

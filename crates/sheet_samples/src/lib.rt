@@ -1,5 +1,6 @@
 // The second header line of the tank sheet and the reading lines behind it. Every public function takes every input.
 #![tactic(auto)]
+
 ghost use Rattle.std.specs.Prelude.{◌≡◌, ◌≤◌, length};
 ghost use Rattle.sheet_samples.specs.Stages.{SampleTried, SamplesFound, SamplesOutcome};
 

@@ -1,6 +1,7 @@
 // A step that looks at each reading once: where an edge stops is found while the sums take in or let go what it passes. The public function takes every
 // input.
 #![tactic(auto)]
+
 ghost use Rattle.std.specs.Prelude.{◌≡◌};
 ghost use Rattle.meanings.specs.Running.{plus, minus, moved, after_step};
 ghost use Rattle.meanings.proofs.Checks.{AdvanceAccepted};

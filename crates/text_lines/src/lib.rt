@@ -1,5 +1,6 @@
 // The lines of a curve's text: of a mark, of a mark over ranges, and of two numbers.
 #![tactic(auto)]
+
 mod parts;
 
 ghost use Rattle.std.specs.Prelude.{◌≡◌, [], ◌∷◌};

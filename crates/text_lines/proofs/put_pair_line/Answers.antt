@@ -1,5 +1,4 @@
 -- A line that fits is stored part by part; for any other nothing is.
-use borrow.Author.Rules.{rules}
 use Rattle.text_lines.proofs.Fitting.{line_fits, line_ends, line_listed, no_line_ends, no_line_listed}
 use Rattle.text_lines.proofs.put_pair_line.Goals as goal
 

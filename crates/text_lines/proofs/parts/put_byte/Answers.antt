@@ -1,5 +1,4 @@
 -- One store at byte `at` is the text of that one byte.
-use borrow.Author.Rules.{rules}
 use Rattle.text_decimal.proofs.Writing.{byte_stored}
 use Rattle.text_lines.proofs.parts.put_byte.Goals as goal
 

@@ -1,5 +1,4 @@
 -- The parts are stored one behind the other: a comma with each of three numbers.
-use borrow.Author.Rules.{rules}
 use Rattle.text_lines.proofs.RangeLines.{weight_fits, low_sum_fits, high_sum_fits, sums_stored}
 use Rattle.text_lines.proofs.parts.put_range_sums.Goals as goal
 

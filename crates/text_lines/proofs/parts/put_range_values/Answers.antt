@@ -1,5 +1,4 @@
 -- The parts are stored one behind the other: a comma with each value, and a line feed.
-use borrow.Author.Rules.{rules}
 use Rattle.text_lines.proofs.RangeLines.{low_value_fits, high_value_fits, values_end_fits, values_stored}
 use Rattle.text_lines.proofs.parts.put_range_values.Goals as goal
 

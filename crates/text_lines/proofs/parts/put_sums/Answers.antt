@@ -1,5 +1,4 @@
 -- The parts are stored one behind the other: a comma with each of two numbers and with the value, and a line feed.
-use borrow.Author.Rules.{rules}
 use Rattle.text_lines.proofs.Lines.{weight_fits, sum_fits, value_fits, sums_end_fits, sums_stored}
 use Rattle.text_lines.proofs.parts.put_sums.Goals as goal
 

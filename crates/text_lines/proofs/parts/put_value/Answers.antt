@@ -1,6 +1,5 @@
 -- 65536 is the value that means missing; any other is written as a number.
 use Rattle.text_lines.proofs.Values.{dash_fits, dash_stored, value_fits, value_stored}
-use borrow.Author.Rules.{rules}
 use Rattle.text_lines.proofs.parts.put_value.Goals as goal
 
 pub put_byte-requires : goal.put_byte-requires

@@ -1,6 +1,5 @@
 -- The value begins behind the comma.
 use Rattle.text_lines.proofs.Lines.{value_after_comma}
-use borrow.Author.Rules.{rules}
 use Rattle.text_lines.proofs.parts.put_value_after_comma.Goals as goal
 
 pub returns : goal.returns

@@ -1,5 +1,4 @@
 -- The mark, a comma with the half width and with each edge, and right behind them weight, sum and value to the line's end.
-use borrow.Author.Rules.{rules}
 use Rattle.text_lines.proofs.Lines.{point_fits, bandwidth_fits, left_fits, right_fits, sums_fit, line_stored}
 use Rattle.text_lines.proofs.parts.put_whole_curve_line.Goals as goal
 

@@ -1,6 +1,5 @@
 -- The line's parts are stored one behind the other: a number, a comma with the other number, and a line feed.
 use Rattle.text_lines.proofs.Lines.{first_fits, second_fits, pair_end_fits, pair_stored}
-use borrow.Author.Rules.{rules}
 use Rattle.text_lines.proofs.parts.put_whole_pair_line.Goals as goal
 
 pub put_decimal-first_end-requires : goal.put_decimal-first_end-requires

@@ -1,5 +1,4 @@
 -- The mark, a comma with the half width and with each edge, right behind them weight and sums, and the values to the line's end.
-use borrow.Author.Rules.{rules}
 use Rattle.text_lines.proofs.RangeLines.{point_fits, bandwidth_fits, left_fits, right_fits, sums_fit, values_fit, line_stored}
 use Rattle.text_lines.proofs.parts.put_whole_range_line.Goals as goal
 

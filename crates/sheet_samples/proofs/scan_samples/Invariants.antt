@@ -1,0 +1,13 @@
+-- Each turn reads one line: its reading joins those before or is not kept, or its report is the sheet's. A line is passed each turn, so the
+-- loop ends.
+use Prim.Native.Nat.{◌-◌}
+use lib.ListN.{length}
+use Rattle.sheet_samples.proofs.SampleLoop.{SamplesSoFar}
+use Rattle.sheet_samples.proofs.scan_samples.Given as goal
+
+abbrev pub invariant-loop-at : goal.invariant-loop-at
+invariant-loop-at l =
+    SamplesSoFar l.sheet l.from l.initial.minutes l.initial.values l.minutes l.values l.at l.count l.last
+
+abbrev pub decreases-loop-at : goal.decreases-loop-at
+decreases-loop-at l = length l.sheet - l.at

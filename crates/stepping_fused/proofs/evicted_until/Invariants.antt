@@ -1,0 +1,11 @@
+-- At each turn the readings from `from` up to i are let go and none of their minutes is at least `bound`; the first that is, or `to`, ends it.
+use Prim.Native.Nat.{◌-◌}
+use Rattle.meanings.specs.Running.{minus}
+use Rattle.stepping_fused.proofs.Passing.{PassedTo}
+use Rattle.stepping_fused.proofs.evicted_until.Given as goal
+
+abbrev pub invariant-loop-i : goal.invariant-loop-i
+invariant-loop-i l = PassedTo (minus 64) l.initial.sums l.minutes l.values l.from l.to l.least l.i l.sums
+
+abbrev pub decreases-loop-i : goal.decreases-loop-i
+decreases-loop-i l = l.to - l.i
