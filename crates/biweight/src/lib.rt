@@ -1,5 +1,6 @@
 // The biweight row: the call `biweight`, a second form of the row of the question at one mark, over 720 minutes on each side.
 #![tactic(auto)]
+
 ghost use Rattle.std.specs.Prelude.{◌≡◌, ◌≤◌, length};
 ghost use Rattle.meanings.specs.Lists.{distance};
 ghost use Rattle.meanings.specs.Limits.{full as full_limits};

@@ -1,5 +1,6 @@
 // The text of a refusal, as bytes in a lent buffer.
 #![tactic(auto)]
+
 ghost use Rattle.std.specs.Prelude.{◌≡◌, ◌+◌, ◌≤◌, [], ◌∷◌, length};
 ghost use Rattle.meanings.specs.Output.{decimal, text_line, refusal_text as text_of};
 ghost use Rattle.meanings.specs.Calls.{writing_answer, write_refusal_text, refusal_buffer};

@@ -1,5 +1,4 @@
 -- The number fits, so it is stored.
-use borrow.Author.Rules.{rules}
 use Rattle.text_decimal.proofs.Room.{put_is_stored}
 use Rattle.text_refusal.proofs.put_decimal.Goals as goal
 

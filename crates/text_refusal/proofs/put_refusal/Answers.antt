@@ -1,5 +1,4 @@
 -- The header line, and right behind it the line of the number and the place.
-use borrow.Author.Rules.{rules}
 use Rattle.text_refusal.proofs.Refusals.{refusal_names_fit, refusal_pair_fits, refusal_stored}
 use Rattle.text_refusal.proofs.put_refusal.Goals as goal
 

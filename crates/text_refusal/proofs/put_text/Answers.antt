@@ -1,5 +1,4 @@
 -- The text fits, so it is stored.
-use borrow.Author.Rules.{rules}
 use Rattle.text_decimal.proofs.Room.{put_is_stored}
 use Rattle.text_refusal.proofs.put_text.Goals as goal
 

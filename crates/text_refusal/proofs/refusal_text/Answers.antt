@@ -1,6 +1,5 @@
 -- The buffer is checked first; a number of 64 bits has at most 20 digits, so the text fits.
 use Rattle.text_refusal.proofs.Refusals.{other_refusal_buffer, other_refusal_buffer_stays, refusal_fits, refusal_size, refusal_written}
-use borrow.Author.Rules.{rules}
 use Rattle.text_refusal.proofs.refusal_text.Goals as goal
 
 pub returns-then-size-ne-MAX_OUTPUT-clause-result_value : goal.returns-then-size-ne-MAX_OUTPUT-clause-result_value

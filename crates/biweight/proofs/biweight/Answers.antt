@@ -1,0 +1,13 @@
+-- A refusal is the check's, told by number and place.
+-- Where there is none the readings are accepted, and the row is the meaning's.
+use Rattle.biweight.proofs.Rows.{readings_accepted, call_refused, call_answers}
+use Rattle.biweight.proofs.biweight.Goals as goal
+
+pub returns-in-Faulty : goal.returns-in-Faulty
+returns-in-Faulty c = search call_refused
+
+pub returns-in-Fit : goal.returns-in-Fit
+returns-in-Fit c = search call_answers
+
+pub row_at-requires : goal.row_at-requires
+row_at-requires c = search readings_accepted
