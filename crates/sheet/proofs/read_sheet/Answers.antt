@@ -5,12 +5,28 @@ use borrow.Author.Rules.{rules}
 use Rattle.sheet.proofs.read_sheet.Goals as goal
 
 pub returns-then-uneven_lists : goal.returns-then-uneven_lists
-returns-then-uneven_lists c = uneven_refused _ _ _ _ _ c.uneven_lists.ensures c.if-uneven_lists.true
+returns-then-uneven_lists c =
+    let a = uneven_refused c.args.sheet.now c.args.minutes.now c.args.values.now c.args.points.now c.args.bandwidths.now c.uneven_lists.ensures
+    c.if-uneven_lists.true in
+    record {
+      result_value = a.0;
+      minutes_after = a.1.0;
+      values_after = a.1.1.0;
+      points_after = a.1.1.1.0;
+      bandwidths_after = a.1.1.1.1;
+    }
 
 pub read_into-requires : goal.read_into-requires
 read_into-requires c = even_lengths c.uneven_lists.ensures c.if-uneven_lists.false
 
 pub returns : goal.returns
 returns c =
-    even_answered _ _ _ _ _ c.uneven_lists.ensures
-    c.if-uneven_lists.false c.read_into.ensures
+    let a = even_answered c.args.sheet.now c.args.minutes.now c.args.values.now c.args.points.now c.args.bandwidths.now c.uneven_lists.ensures
+    c.if-uneven_lists.false c.read_into.ensures in
+    record {
+      result_value = a.0;
+      minutes_after = a.1.0;
+      values_after = a.1.1.0;
+      points_after = a.1.1.1.0;
+      bandwidths_after = a.1.1.1.1;
+    }
