@@ -1,6 +1,7 @@
 // The reader of a sheet, for programs in C and Rust: numbers and slices of numbers only.
 // Each answer is one number, DETAIL_UNIT × detail + report: report 0 is accepted, and the detail of a report is its place.
 #![tactic(auto)]
+
 ghost use Rattle.std.specs.Prelude.{◌≡◌};
 ghost use Rattle.meanings.specs.Limits.{full};
 ghost use Rattle.meanings.specs.Calls.{counts as CountsOf, read, read_minutes, read_values, read_evaluation_points, read_bandwidths};

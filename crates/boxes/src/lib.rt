@@ -1,5 +1,6 @@
 // Minute and temperature together: the cells that the cuts of both directions make, and count and value sum of every pair of marks.
 #![tactic(auto)]
+
 mod filling;
 
 ghost use Rattle.std.specs.Prelude.{◌≡◌};

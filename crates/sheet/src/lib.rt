@@ -1,5 +1,6 @@
 // The reader of the tank sheet: from any bytes to the kept readings and the marks, or the report.
 #![tactic(auto)]
+
 ghost use Rattle.std.specs.Prelude.{◌≡◌, length};
 ghost use Rattle.meanings.specs.Limits.{full};
 ghost use Rattle.meanings.specs.Calls.{parsing_answer, counts, read, read_minutes, read_values, read_evaluation_points, read_bandwidths};

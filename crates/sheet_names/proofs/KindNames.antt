@@ -12,7 +12,7 @@ use Rattle.meanings.specs.declared.Found.TheVariants.{At, Nothing}
 use Rattle.meanings.specs.Lists.{pick}
 use Rattle.meanings.specs.Limits.{full}
 use Rattle.meanings.specs.Bytes.{sample_header}
-use Rattle.meanings.specs.Reports.{Answer, given, at}
+use Rattle.meanings.specs.Reports.{Answer, given}
 use Rattle.meanings.specs.Sheet.{Lines, end, unended, line, lines, next_place, same, refused_at, or_next, header}
 use Rattle.meanings.proofs.Checks.{differ_same}
 use Rattle.meanings_ranges.specs.declared.Kind.{Kind}

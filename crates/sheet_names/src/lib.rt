@@ -1,5 +1,6 @@
 // The second header line of a sheet, which tells its kind, and the reading lines behind it. Every public function takes every input.
 #![tactic(auto)]
+
 ghost use Rattle.std.specs.Prelude.{length};
 ghost use Rattle.sheet_names.specs.Stages.{NamesTried, NamedOutcome};
 

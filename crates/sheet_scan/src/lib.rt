@@ -1,5 +1,6 @@
 // A sheet of either kind read into lists whose holder counts on them only once it is accepted. Every public function takes every input.
 #![tactic(auto)]
+
 ghost use Rattle.std.specs.Prelude.{◌≡◌, length};
 ghost use Rattle.sheet_scan.specs.Stages.{EitherScanned, ScanOutcome};
 

@@ -1,5 +1,6 @@
 // A running record on its way over a list of marks, for the sweep and for calls that stop at a mark. Every function takes every input.
 #![tactic(auto)]
+
 ghost use Rattle.stepping.specs.Steps.{IsFresh, Stepped, SteppedRow};
 
 use arithmetic::zero_sums;

@@ -1,6 +1,7 @@
 // The calls at one mark, the single step, the turn and the row of a record on the vectors of stdin: each answer, with the lent list whole. What is written is held to the
 // file stdout. Both files are made by the second implementation: bin gate_vectors of reference/, which says their form.
 #![tactic(auto)]
+
 use abi_point::{tankcurve_evaluate, tankcurve_window};
 use abi_record::{tankcurve_advance, tankcurve_row};
 use abi_turn::tankcurve_turn;

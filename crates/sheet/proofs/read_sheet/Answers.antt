@@ -1,7 +1,6 @@
 -- Lists of other lengths are refused before the sheet is looked at.
 -- With those of the right lengths the meaning is that of the sheet alone, which is read into them.
 use Rattle.sheet.proofs.Scans.{even_lengths, uneven_refused, even_answered}
-use borrow.Author.Rules.{rules}
 use Rattle.sheet.proofs.read_sheet.Goals as goal
 
 pub returns-then-uneven_lists : goal.returns-then-uneven_lists

@@ -1,7 +1,6 @@
 -- The sheet's parts in order: each stage's contract says what is left of the meaning after it.
 -- A stage that refuses gives the sheet's refusal, and after the last stage nothing is left.
 use Rattle.sheet.proofs.Scans.{front_refused, samples_refused, sheet_used}
-use borrow.Author.Rules.{rules}
 use Rattle.sheet.proofs.scan.Goals as goal
 
 pub returns-in-Refused : goal.returns-in-Refused

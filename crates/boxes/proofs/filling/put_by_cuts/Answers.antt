@@ -1,0 +1,12 @@
+-- Among ranked cuts the searches give the strips of every window.
+use Rattle.boxes.proofs.Calls.{boxes_by_cuts}
+use Rattle.boxes.proofs.filling.put_by_cuts.Goals as goal
+
+pub returns : goal.returns
+returns c =
+    search (
+      boxes_by_cuts,
+      c.put_by_strips.ensures,
+      c.temperature_windows.ensures,
+      c.minute_windows.ensures,
+    )
