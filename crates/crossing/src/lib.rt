@@ -1,5 +1,6 @@
 // The first mark at which the curve has a value at or below a limit: one step a mark from a fresh record, up to that mark and no further.
 #![tactic(auto)]
+
 ghost use Rattle.std.specs.Prelude.{◌≡◌};
 ghost use Rattle.meanings.specs.Limits.{full as full_limits};
 ghost use Rattle.meanings.proofs.SmoothSteps.{CurveAccepted};

@@ -1,6 +1,7 @@
 // Two tanks set against each other: one step a mark on each tank's running record, side by side, up to the first mark at which their values differ
 // and no further.
 #![tactic(auto)]
+
 ghost use Rattle.std.specs.Prelude.{◌≡◌, ◌+◌, ◌*◌};
 ghost use Rattle.meanings.specs.Limits.{full as full_limits};
 ghost use Rattle.meanings_pair.specs.Comparison.{comparison_answer, split_answer, of_tank, compare as compare_meaning, compare_bounds, compare_run, run_tank, run_start};

@@ -1,5 +1,6 @@
 // The sweep over readings known as ranges: one step a mark on a record of the lowest values and on one of the highest, side by side.
 #![tactic(auto)]
+
 mod step;
 
 ghost use Rattle.std.specs.Prelude.{◌≡◌, ◌+◌, ◌*◌, ◌≤◌, length};

@@ -1,5 +1,6 @@
 // The reader of sheets of both kinds: from any bytes to the kept readings as ranges, the marks and the kind, or the report.
 #![tactic(auto)]
+
 ghost use Rattle.std.specs.Prelude.{◌≡◌, length};
 ghost use Rattle.meanings.specs.Limits.{full};
 ghost use Rattle.meanings_ranges.specs.RangeCalls.{range_parsing_answer, range_counts, range_front, read_ranges, minutes_of, lows_of};

@@ -1,5 +1,6 @@
 // The whole sweep and its preview: one step a mark from a fresh record, and a row after each.
 #![tactic(auto)]
+
 ghost use Rattle.std.specs.Prelude.{◌≡◌, ◌+◌, ◌*◌, ◌≤◌, length};
 ghost use Rattle.std.proofs.lemmas.List.Edits.{sets};
 ghost use Rattle.meanings.specs.Limits.{full as full_limits, preview as small_limits, LimitsWithin, row_width};

@@ -1,5 +1,6 @@
 // The text of a curve, as bytes in a lent buffer.
 #![tactic(auto)]
+
 mod curve;
 
 ghost use Rattle.std.specs.Prelude.{◌≡◌};

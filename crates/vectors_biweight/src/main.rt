@@ -1,6 +1,7 @@
 // The biweight row on the vectors of stdin: each answer, with the lent row whole. What is written is held to the file stdout.
 // Both files are made by the second implementation: bin gate_vectors of reference/, which says their form.
 #![tactic(auto)]
+
 use abi_biweight::tankcurve_biweight;
 use vectors_io::{
     MOST_BYTES, MOST_CASES, MOST_ELEMENTS, lent_u64, list_u16, narrow_u16, next_case, number,

@@ -1,0 +1,12 @@
+-- The right edge goes its way first, and the left one up to it; each adds its way to the passes.
+use Rattle.ranges.proofs.Passing.{right_way_within, left_way_within, both_ways_move}
+use Rattle.ranges.proofs.step.both_move.Goals as goal
+
+pub returns : goal.returns
+returns c = search both_ways_move
+
+pub inserted_until-right-requires : goal.inserted_until-right-requires
+inserted_until-right-requires c = search right_way_within
+
+pub evicted_until-left-requires : goal.evicted_until-left-requires
+evicted_until-left-requires c = search left_way_within
