@@ -1,6 +1,7 @@
 // The whole sweep, the preview and the mark filler, for programs in C and Rust: numbers and slices of numbers only.
 // Each answer is one number, DETAIL_UNIT × detail + report: report 0 is accepted, and the detail of a report is its place.
 #![tactic(auto)]
+
 ghost use Rattle.std.specs.Prelude.{◌≡◌};
 ghost use Rattle.meanings.specs.Limits.{full, preview as small_limits};
 ghost use Rattle.meanings.specs.Calls.{smooth as smooth_meaning, smooth_rows, fill, fill_points, fill_bandwidths};

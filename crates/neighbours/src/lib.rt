@@ -1,5 +1,6 @@
 // Half widths by neighbours: each mark's half width is one more than the distance of its K-th nearest reading, and the sweep is made with these.
 #![tactic(auto)]
+
 mod nearest;
 
 ghost use Rattle.std.specs.Prelude.{◌≡◌};

@@ -1,5 +1,6 @@
 // The text of lists of either kind, with rows of its own, as bytes in a lent buffer. Every public function takes every input.
 #![tactic(auto)]
+
 ghost use Rattle.std.specs.Prelude.{◌≡◌, min};
 ghost use Rattle.meanings_ranges.specs.declared.Kind.TheVariants.{Plain, Ranges};
 ghost use Rattle.text_kind.specs.KindText.{KindWritten};

@@ -1,6 +1,7 @@
 // The questions with a limit on the vectors of stdin: each answer, with every lent list whole. What is written is held to the file stdout.
 // Both files are made by the second implementation: bin gate_vectors of reference/, which says their form.
 #![tactic(auto)]
+
 use abi_crossing::tankcurve_first_at_most;
 use abi_decisive::tankcurve_decisive;
 use vectors_io::{

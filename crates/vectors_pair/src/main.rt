@@ -2,6 +2,7 @@
 // that of the comparison and that of one mark's window, each by its length and its values. What is written is held to the file stdout. Both files
 // are made by the second implementation: bin gate_vectors of reference/, which says their form.
 #![tactic(auto)]
+
 use abi_pair::tankcurve_compare;
 use estimator::window;
 use pair::compare_run;

@@ -1,6 +1,7 @@
 // The sweep, the preview and the mark filler on the vectors of stdin: each answer, with every lent list whole. What is written is held to the file stdout.
 // Both files are made by the second implementation: bin gate_vectors of reference/, which says their form.
 #![tactic(auto)]
+
 use abi_sweep::{tankcurve_fill, tankcurve_preview, tankcurve_smooth};
 use vectors_io::{
     MOST_BYTES, MOST_CASES, MOST_ELEMENTS, lent_u16, lent_u32, lent_u64, list_u16, list_u32,

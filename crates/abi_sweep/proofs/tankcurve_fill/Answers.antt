@@ -2,7 +2,6 @@
 use Rattle.meanings.specs.Calls.{filling_answer}
 use Rattle.abi_sweep.proofs.Places.{fill_place}
 use Rattle.abi_answers.proofs.Answered.{refused_code, accepted_code}
-use borrow.Author.Rules.{rules}
 use Rattle.abi_sweep.proofs.tankcurve_fill.Goals as goal
 
 pub returns-in-Refused-clause-value : goal.returns-in-Refused-clause-value

@@ -5,7 +5,6 @@ use Rattle.meanings.specs.Calls.{smoothing_answer}
 use Rattle.meanings.proofs.Checks.{preview_within_full}
 use Rattle.abi_sweep.proofs.Places.{smooth_place, passes_few}
 use Rattle.abi_answers.proofs.Answered.{refused_code, accepted_number}
-use borrow.Author.Rules.{rules}
 use Rattle.abi_sweep.proofs.tankcurve_preview.Goals as goal
 
 pub overflow_mul-result : goal.overflow_mul-result

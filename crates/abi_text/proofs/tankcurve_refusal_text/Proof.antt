@@ -21,7 +21,7 @@ enum-known-bytes : tie.Need-enum-known-bytes
 enum-known-bytes c = search rules
 
 mul-result : tie.Need-overflow-mul-result
-mul-result c = let few : c.before.bytes.given.0.0 ≤ 56 = search refusal_size in omega arith
+mul-result c = let few : c.in-Written.bytes ≤ 56 = search refusal_size in omega arith
 
 same_length : tie.Need-same-length
 same_length c = search rules

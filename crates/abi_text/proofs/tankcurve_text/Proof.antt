@@ -22,7 +22,7 @@ enum-known-size : tie.Need-enum-known-size
 enum-known-size c = search rules
 
 mul-result : tie.Need-overflow-mul-result
-mul-result c = let few : c.before.size.given.0.0 ≤ max_output = search text_small in omega arith
+mul-result c = let few : c.in-Written.size ≤ max_output = search text_small in omega arith
 
 same_length : tie.Need-same-length
 same_length c = search rules

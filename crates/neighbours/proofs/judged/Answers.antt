@@ -1,5 +1,4 @@
 -- The check, at the full limits.
-use borrow.Author.Rules.{rules}
 use Rattle.neighbours.proofs.Calls.{judges}
 use Rattle.neighbours.proofs.judged.Goals as goal
 

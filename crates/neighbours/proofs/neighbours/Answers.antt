@@ -1,6 +1,5 @@
 -- Every check is made before the first store, so a refusal leaves both lists. Where there is none the half widths are filled in, and the sweep
 -- with them, which is never refused, leaves their rows.
-use borrow.Author.Rules.{rules}
 use Rattle.neighbours.proofs.Calls.{call_refused, bandwidths_kept, rows_kept, fillable, call_given, bandwidths_given, rows_given, never_refused}
 use Rattle.neighbours.proofs.neighbours.Goals as goal
 

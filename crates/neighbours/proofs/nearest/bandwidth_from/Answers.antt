@@ -1,5 +1,4 @@
 -- Of the two readings at the ends of the run the further one is the k-th nearest; which one that is, the sum of their minutes tells.
-use borrow.Author.Rules.{rules}
 use Rattle.neighbours.proofs.Starts.{first_is_bandwidth, last_is_bandwidth, first_not_above, last_not_below, minute_fits, minutes_add, distance_adds}
 use Rattle.neighbours.proofs.nearest.bandwidth_from.Goals as goal
 

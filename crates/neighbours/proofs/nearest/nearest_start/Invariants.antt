@@ -1,10 +1,8 @@
 -- At each turn every start before this one has been passed: the sum of its minute and of the one behind its run is below twice the mark. The
 -- first at which it is not, or the last one that there is, is the answer.
 use Prim.Native.Nat.{◌-◌}
-use borrow.Author.Rules.{rules}
 use lib.ListN.{length}
 use Rattle.neighbours.specs.Nearest.{StartsPassed}
-use Rattle.neighbours.proofs.Starts.{start_stays, start_goes_on, start_is_last, minute_fits, minutes_add}
 use Rattle.neighbours.proofs.nearest.nearest_start.Given as goal
 
 abbrev pub invariant-loop-start : goal.invariant-loop-start

@@ -1,9 +1,6 @@
 -- Each turn stores one half width more behind those before, and hands the start on: marks are in order, so the next one passes every start that
 -- this one has passed.
-use Prim.Native.Nat.{◌-◌}
-use borrow.Author.Rules.{rules}
-use lib.ListN.{length}
-use Rattle.neighbours.proofs.Starts.{StoredTo, stores_begin, stored_length, can_search, has_room, stores_go_on, stores_end}
+use Rattle.neighbours.proofs.Starts.{stores_begin, stored_length, can_search, has_room, stores_go_on, stores_end}
 use Rattle.neighbours.proofs.nearest.put_bandwidths.Goals as goal
 
 pub loop-i-init : goal.loop-i-init
