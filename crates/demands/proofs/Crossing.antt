@@ -14,7 +14,7 @@ use Rattle.meanings.specs.Limits.{full, max_u16}
 use Rattle.meanings.specs.Lists.{AtMost}
 use Rattle.meanings.specs.Moves.{moves}
 use Rattle.meanings.specs.PublishedRow.{PublishedRow}
-use Rattle.meanings.specs.Reports.{Answer, given, refused, curve_checks}
+use Rattle.meanings.specs.Reports.{Answer, given, curve_checks}
 use Rattle.meanings.specs.Estimate.{estimate}
 use Rattle.meanings.specs.Running.{fresh, passes}
 use Rattle.meanings.specs.EventLog.{empty_log, log_after, insertion_count, eviction_count}

@@ -17,7 +17,7 @@ use Rattle.meanings.specs.declared.Writing.{Writing}
 use Rattle.meanings.specs.declared.Limits.{Limits}
 use Rattle.meanings.specs.Limits.{full, row_width}
 use Rattle.meanings.specs.Moves.{moves}
-use Rattle.meanings.specs.Reports.{Fault, Answer, given, refused, accepted_or}
+use Rattle.meanings.specs.Reports.{Fault, Answer, given, accepted_or}
 use Rattle.meanings.specs.Reports.{first_of, evaluate_checks, advance_checks, read_checks, buffer_checks}
 use Rattle.meanings.specs.Estimate.{estimate, run_of, fields, rows}
 use Rattle.meanings.specs.Running.{fresh, moved, advance, passes, record_row}
