@@ -1,6 +1,7 @@
 // The sweep over ranges and the reader of both kinds of sheet on the vectors of stdin: each answer, with every lent list whole. What is written is
 // held to the file stdout. Both files are made by the second implementation: bin gate_vectors of reference/, which says their form.
 #![tactic(auto)]
+
 use abi_ranges::tankcurve_smooth_ranges;
 use abi_sheet_ranges::tankcurve_read_ranges;
 use vectors_io::{
