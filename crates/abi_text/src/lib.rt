@@ -1,6 +1,7 @@
 // The texts of a curve and of a refusal, for programs in C and Rust: numbers and slices of numbers only.
 // Each answer is one number, DETAIL_UNIT × detail + report: report 0 is accepted, and the detail of a report is its place.
 #![tactic(auto)]
+
 ghost use Rattle.std.specs.Prelude.{◌≡◌};
 ghost use Rattle.meanings.specs.Calls.{write_refusal_text, refusal_buffer};
 ghost use Rattle.meanings.specs.Codes.{answered};

@@ -1,5 +1,6 @@
 // The text of a sheet of either kind, as bytes in a lent buffer.
 #![tactic(auto)]
+
 ghost use Rattle.std.specs.Prelude.{◌≡◌, length};
 ghost use Rattle.meanings.specs.Limits.{max_output};
 ghost use Rattle.meanings.specs.Calls.{writing_answer};

@@ -1,6 +1,7 @@
 // Half widths by neighbours on the vectors of stdin: each answer, with every lent list whole. What is written is held to the file stdout.
 // Both files are made by the second implementation: bin gate_vectors of reference/, which says their form.
 #![tactic(auto)]
+
 use abi_neighbours::tankcurve_neighbours;
 use vectors_io::{
     MOST_BYTES, MOST_CASES, MOST_ELEMENTS, lent_u32, lent_u64, list_u16, next_case, number,

@@ -1,0 +1,16 @@
+-- The buffer is checked first. A size over its length means the whole of it, as the length itself does.
+use Rattle.text_sheet.proofs.UsedParts.{other_buffer, other_buffer_stays}
+use Rattle.text_over.proofs.Sheets.{all_of_it}
+use borrow.Author.Rules.{rules}
+use Rattle.text_over.proofs.curve_text_over.Goals as goal
+
+pub returns-then-buf-ne-MAX_OUTPUT-clause-result_value : goal.returns-then-buf-ne-MAX_OUTPUT-clause-result_value
+returns-then-buf-ne-MAX_OUTPUT-clause-result_value c = search other_buffer
+
+pub returns-then-buf-ne-MAX_OUTPUT-clause-buf_after : goal.returns-then-buf-ne-MAX_OUTPUT-clause-buf_after
+returns-then-buf-ne-MAX_OUTPUT-clause-buf_after c = search other_buffer_stays
+
+pub returns-then-size-gt-MAX_OUTPUT : goal.returns-then-size-gt-MAX_OUTPUT
+returns-then-size-gt-MAX_OUTPUT c =
+    let a = all_of_it _ _ _ _ c.if-buf-ne-MAX_OUTPUT.false c.if-size-gt-MAX_OUTPUT.true c.sheet_text_over.ensures in
+    record { result_value = a.0; buf_after = a.1 }
