@@ -1,5 +1,6 @@
 // The text of a sheet of either kind, written over the sheet.
 #![tactic(auto)]
+
 ghost use Rattle.std.specs.Prelude.{◌≡◌, ◌≤◌, length, take};
 ghost use Rattle.meanings.specs.Limits.{max_output};
 ghost use Rattle.meanings.specs.Calls.{writing_answer};

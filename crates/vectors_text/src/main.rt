@@ -1,6 +1,7 @@
 // The calls that write a text on the vectors of stdin: each answer, the bytes that were written and the rest of the lent buffer. What is
 // written is held to the file stdout. Both files are made by the second implementation: bin gate_vectors of reference/, which says their form.
 #![tactic(auto)]
+
 ghost use Rattle.io.specs.Counts.{IsPrefixLen};
 
 use abi_text::{tankcurve_refusal_text, tankcurve_text};

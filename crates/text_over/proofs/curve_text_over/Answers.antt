@@ -1,7 +1,6 @@
 -- The buffer is checked first. A size over its length means the whole of it, as the length itself does.
 use Rattle.text_sheet.proofs.UsedParts.{other_buffer, other_buffer_stays}
 use Rattle.text_over.proofs.Sheets.{all_of_it}
-use borrow.Author.Rules.{rules}
 use Rattle.text_over.proofs.curve_text_over.Goals as goal
 
 pub returns-then-buf-ne-MAX_OUTPUT-clause-result_value : goal.returns-then-buf-ne-MAX_OUTPUT-clause-result_value
