@@ -1,0 +1,30 @@
+-- Each turn reads at least one byte more and never past the buffer's end, so the loop ends.
+use Prim.Native.Nat.{◌-◌}
+use lib.ListN.{length}
+use Rattle.tankcurve.proofs.Within.{ReadTo, reading_begins, read_keeps_length, still_within, done_in_range, less_to_read, reading_goes_on}
+use borrow.Author.Rules.{rules}
+use Rattle.tankcurve.proofs.read_input.Goals as goal
+
+pub loop-done-init : goal.loop-done-init
+loop-done-init c = search reading_begins
+
+pub shape_of-buf-in_default : goal.shape_of-buf-in_default
+shape_of-buf-in_default c = search read_keeps_length
+
+pub returns-in_default : goal.returns-in_default
+returns-in_default c = tt
+
+pub overflow_add-done : goal.overflow_add-done
+overflow_add-done c = search done_in_range
+
+pub loop-done-smaller : goal.loop-done-smaller
+loop-done-smaller c = search less_to_read
+
+pub loop-done-preserved : goal.loop-done-preserved
+loop-done-preserved c = search reading_goes_on
+
+pub shape_of-buf-then-more-eq0 : goal.shape_of-buf-then-more-eq0
+shape_of-buf-then-more-eq0 c = search read_keeps_length
+
+pub returns-then-more-eq0 : goal.returns-then-more-eq0
+returns-then-more-eq0 c = search still_within
