@@ -128,27 +128,27 @@ parting_stays (given (some b)) xs e q = let z : ◌≡◌ {A = ℕ} 0 1 = cc in 
 parting_stays (refused f) xs e q = refl
 
 -- ---- the run, by what the comparison means
-module _ (ts vs us ws zs hs : List ℕ) (first-at second_at : Place) (part : Bor (List ℕ)) (c : CompareRunCall ts vs us ws zs hs first-at second_at part) where
+module _ (ts vs us ws zs hs : List ℕ) (first_at second_at : Place) (part : Bor (List ℕ)) (c : CompareRunCall ts vs us ws zs hs first_at second_at part) where
   part_by : {a : Answer (Option Parting)} → compare full ts vs us ws zs hs ≡ a
       → (part.now ≡ run_in ts vs us ws zs hs a)
-      × (part.ref_ptr.0 ≡ of_tank (tank_in a) first-at.ref_ptr.0 second_at.ref_ptr.0)
-      × (part.ref_ptr.1 ≡ of_tank (tank_in a) first-at.ref_ptr.1 second_at.ref_ptr.1 + start_in ts us zs hs a * 2)
+      × (part.ref_ptr.0 ≡ of_tank (tank_in a) first_at.ref_ptr.0 second_at.ref_ptr.0)
+      × (part.ref_ptr.1 ≡ of_tank (tank_in a) first_at.ref_ptr.1 second_at.ref_ptr.1 + start_in ts us zs hs a * 2)
   unfolding compare_run run_tank run_start
   part_by q = (
     c.ensured.0 ∙ ap (run_in ts vs us ws zs hs) q,
-    c.ensured.1.0 ∙ ap (λ (a : Answer (Option Parting)). of_tank (tank_in a) first-at.ref_ptr.0 second_at.ref_ptr.0) q,
+    c.ensured.1.0 ∙ ap (λ (a : Answer (Option Parting)). of_tank (tank_in a) first_at.ref_ptr.0 second_at.ref_ptr.0) q,
     c.ensured.1.1
-        ∙ ap (λ (a : Answer (Option Parting)). of_tank (tank_in a) first-at.ref_ptr.1 second_at.ref_ptr.1 + start_in ts us zs hs a * 2) q,
+        ∙ ap (λ (a : Answer (Option Parting)). of_tank (tank_in a) first_at.ref_ptr.1 second_at.ref_ptr.1 + start_in ts us zs hs a * 2) q,
   )
 
-  empty_by_refusal : {e : Fault} → compare full ts vs us ws zs hs ≡ refused e → EmptyAtFirst first-at part
+  empty_by_refusal : {e : Fault} → compare full ts vs us ws zs hs ≡ refused e → EmptyAtFirst first_at part
   empty_by_refusal q = let p = part_by q in record { empty = p.0; block = p.1; start = omega (arith, p.2) }
 
-  empty_by_likeness : compare full ts vs us ws zs hs ≡ given none → EmptyAtFirst first-at part
+  empty_by_likeness : compare full ts vs us ws zs hs ≡ given none → EmptyAtFirst first_at part
   empty_by_likeness q = let p = part_by q in record { empty = p.0; block = p.1; start = omega (arith, p.2) }
 
   run_by_parting : {k : ℕ} {t : Tank} → compare full ts vs us ws zs hs ≡ given (some (record { position = k; higher = t }))
-      → RunOfTank ts vs us ws t (get_or zs k 0) (get_or hs k 0) first-at second_at part
+      → RunOfTank ts vs us ws t (get_or zs k 0) (get_or hs k 0) first_at second_at part
   run_by_parting q = let p = part_by q in record { values = p.0; block = p.1; start = p.2 }
 
 refused_as : {A : Type 0} (a : Answer A) (e : Fault) → refusal a ≡ some e → a ≡ refused e
@@ -183,13 +183,13 @@ pairs_hold = record {
       let t = sized 3 out (compare_bounds full ts vs us ws zs hs) in
       exported_stays t c _ (exported_coded ts vs us ws zs hs out c k.ensured.0) (exported_exactly ts vs us ws zs hs out)
       (out' ≡ out) (λ e q. k.ensured.1 ∙ parting_stays t out e q);
-  run_refused = λ ts vs us ws zs hs first-at second_at part c n p f.
-      empty_by_refusal ts vs us ws zs hs first-at second_at part c
+  run_refused = λ ts vs us ws zs hs first_at second_at part c n p f.
+      empty_by_refusal ts vs us ws zs hs first_at second_at part c
       (refused_as (compare full ts vs us ws zs hs) (record { number = n; place = p }) (((meant_exactly ts vs us ws zs hs).refused n p).1 f));
-  run_alike = λ ts vs us ws zs hs first-at second_at part c d.
-      empty_by_likeness ts vs us ws zs hs first-at second_at part d (sym c.ensured);
-  run_apart = λ ts vs us ws zs hs k t first-at second_at part c d.
-      run_by_parting ts vs us ws zs hs first-at second_at part d (sym c.ensured);
+  run_alike = λ ts vs us ws zs hs first_at second_at part c d.
+      empty_by_likeness ts vs us ws zs hs first_at second_at part d (sym c.ensured);
+  run_apart = λ ts vs us ws zs hs k t first_at second_at part c d.
+      run_by_parting ts vs us ws zs hs first_at second_at part d (sym c.ensured);
   exported_alike = λ ts vs us ws zs hs out c out' right d k.
       let o = opened ts vs us ws zs hs out right d.ensured in
       (k.ensured.0 ∙ ap (answered tank_detail) o, k.ensured.1 ∙ ap (λ (a : Answer (Option Bounded)). stored_parting a out) o);

@@ -49,8 +49,8 @@ pub record CompareCall (ts vs us ws zs hs : List ℕ) (a : Comparison) : Type 0 
         (lent values_at vs, (lent others_at us, (lent other_values_at ws, (lent points_at zs, (lent bandwidths_at hs, tt))))),
       )
 
--- of its run: the answer is a part of the values lent from first-at or from second_at
-pub record CompareRunCall (ts vs us ws zs hs : List ℕ) (first-at second_at : Place) (part : Bor (List ℕ)) : Type 0 where
+-- of its run: the answer is a part of the values lent from first_at or from second_at
+pub record CompareRunCall (ts vs us ws zs hs : List ℕ) (first_at second_at : Place) (part : Bor (List ℕ)) : Type 0 where
   pub lifetimes : Lfts 5
   pub minutes_at : Place
   pub others_at : Place
@@ -59,10 +59,10 @@ pub record CompareRunCall (ts vs us ws zs hs : List ℕ) (first-at second_at : P
   pub ensured :
       compare_run.Post lifetimes (
         lent minutes_at ts,
-        (lent first-at vs, (lent others_at us, (lent second_at ws, (lent points_at zs, (lent bandwidths_at hs, tt))))),
+        (lent first_at vs, (lent others_at us, (lent second_at ws, (lent points_at zs, (lent bandwidths_at hs, tt))))),
       ) part (
         lent minutes_at ts,
-        (lent first-at vs, (lent others_at us, (lent second_at ws, (lent points_at zs, (lent bandwidths_at hs, tt))))),
+        (lent first_at vs, (lent others_at us, (lent second_at ws, (lent points_at zs, (lent bandwidths_at hs, tt))))),
       )
 
 -- a call for C and Rust, with the lent list out at entry and out' at exit
@@ -101,16 +101,16 @@ compare_conditions ts vs us ws zs hs =
     (order_conditions ts zs (windows_conditions zs hs (condition 16 (SecondEarns us ws) no_more)))
 
 -- the part is empty, at the start of the first tank's values
-pub record EmptyAtFirst (first-at : Place) (part : Bor (List ℕ)) : Type 0 where
+pub record EmptyAtFirst (first_at : Place) (part : Bor (List ℕ)) : Type 0 where
   pub empty : part.now ≡ []
-  pub block : part.ref_ptr.0 ≡ first-at.ref_ptr.0
-  pub start : part.ref_ptr.1 ≡ first-at.ref_ptr.1
+  pub block : part.ref_ptr.0 ≡ first_at.ref_ptr.0
+  pub start : part.ref_ptr.1 ≡ first_at.ref_ptr.1
 
 -- the part is the run of tank t at mark z with half width h, in that tank's own values, two bytes each
-pub record RunOfTank (ts vs us ws : List ℕ) (t : Tank) (z h : ℕ) (first-at second_at : Place) (part : Bor (List ℕ)) : Type 0 where
+pub record RunOfTank (ts vs us ws : List ℕ) (t : Tank) (z h : ℕ) (first_at second_at : Place) (part : Bor (List ℕ)) : Type 0 where
   pub values : part.now ≡ of_tank t (run_of ts vs z h) (run_of us ws z h)
-  pub block : part.ref_ptr.0 ≡ of_tank t first-at.ref_ptr.0 second_at.ref_ptr.0
-  pub start : part.ref_ptr.1 ≡ of_tank t first-at.ref_ptr.1 second_at.ref_ptr.1 + of_tank t (left_of ts z h) (left_of us z h) * 2
+  pub block : part.ref_ptr.0 ≡ of_tank t first_at.ref_ptr.0 second_at.ref_ptr.0
+  pub start : part.ref_ptr.1 ≡ of_tank t first_at.ref_ptr.1 second_at.ref_ptr.1 + of_tank t (left_of ts z h) (left_of us z h) * 2
 
 -- every input is taken, and the calls come to an end
 pub record EveryPairTaken : Type 2 where
@@ -129,14 +129,14 @@ pub record Pairs : Type 2 where
   pub exported_compare_refused : (ts vs us ws zs hs out : List ℕ) (c : ℕ) (out' : List ℕ) → ExportedCompare ts vs us ws zs hs out c out'
       → RefusedAndStays (code_refusal c) (FirstFault (length_first 3 out (compare_conditions ts vs us ws zs hs))) (out' ≡ out)
   -- the two calls agree: the run is empty, at the first list's start, where the comparison is refused or alike, and else the higher tank's
-  pub run_refused : (ts vs us ws zs hs : List ℕ) (first-at second_at : Place) (part : Bor (List ℕ))
-      → CompareRunCall ts vs us ws zs hs first-at second_at part → (n p : ℕ) → FirstFault (compare_conditions ts vs us ws zs hs) n p
-      → EmptyAtFirst first-at part
-  pub run_alike : (ts vs us ws zs hs : List ℕ) (first-at second_at : Place) (part : Bor (List ℕ)) → CompareCall ts vs us ws zs hs Alike
-      → CompareRunCall ts vs us ws zs hs first-at second_at part → EmptyAtFirst first-at part
-  pub run_apart : (ts vs us ws zs hs : List ℕ) (k : ℕ) (t : Tank) (first-at second_at : Place) (part : Bor (List ℕ))
-      → CompareCall ts vs us ws zs hs (Apart k t) → CompareRunCall ts vs us ws zs hs first-at second_at part
-      → RunOfTank ts vs us ws t (get_or zs k 0) (get_or hs k 0) first-at second_at part
+  pub run_refused : (ts vs us ws zs hs : List ℕ) (first_at second_at : Place) (part : Bor (List ℕ))
+      → CompareRunCall ts vs us ws zs hs first_at second_at part → (n p : ℕ) → FirstFault (compare_conditions ts vs us ws zs hs) n p
+      → EmptyAtFirst first_at part
+  pub run_alike : (ts vs us ws zs hs : List ℕ) (first_at second_at : Place) (part : Bor (List ℕ)) → CompareCall ts vs us ws zs hs Alike
+      → CompareRunCall ts vs us ws zs hs first_at second_at part → EmptyAtFirst first_at part
+  pub run_apart : (ts vs us ws zs hs : List ℕ) (k : ℕ) (t : Tank) (first_at second_at : Place) (part : Bor (List ℕ))
+      → CompareCall ts vs us ws zs hs (Apart k t) → CompareRunCall ts vs us ws zs hs first_at second_at part
+      → RunOfTank ts vs us ws t (get_or zs k 0) (get_or hs k 0) first_at second_at part
   -- the call for C and Rust tells the same
   pub exported_alike : (ts vs us ws zs hs out : List ℕ) (c : ℕ) (out' : List ℕ) → length out ≡ 3 → CompareCall ts vs us ws zs hs Alike
       → ExportedCompare ts vs us ws zs hs out c out' → (c ≡ 0) × (out' ≡ out)
