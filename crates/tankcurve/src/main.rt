@@ -1,5 +1,6 @@
 // The program: a tank sheet on standard input, its curve or its refusal on standard output.
 #![tactic(auto)]
+
 ghost use Rattle.std.specs.Prelude.{◌≡◌, ◌+◌, length, take};
 ghost use Rattle.meanings.specs.Limits.{max_sheet, max_output};
 ghost use Rattle.meanings.specs.Reports.{fault_of};

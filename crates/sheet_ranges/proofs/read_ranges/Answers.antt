@@ -22,7 +22,8 @@ read_into-requires c =
 
 pub returns : goal.returns
 returns c =
-    let a = even_answered c.args.sheet.now c.args.minutes.now c.args.lows.now c.args.highs.now c.args.points.now c.args.bandwidths.now (cc) c.read_into.ensures in
+    let a = even_answered c.args.sheet.now c.args.minutes.now c.args.lows.now c.args.highs.now c.args.points.now c.args.bandwidths.now (cc)
+    c.read_into.ensures in
     record {
       result_value = a.0;
       minutes_after = a.1.0;

@@ -1,6 +1,5 @@
 -- The buffer has the right length: the curve, or the text of the sheet's report, is the whole output, and it stands at the front.
 use Rattle.tankcurve.proofs.FullBuffer.{curve_front, curve_length, refusal_is_written, program_front, program_length}
-use borrow.Author.Rules.{rules}
 use Rattle.tankcurve.proofs.answer.Goals as goal
 
 pub returns-in-Written-clause-buf_after : goal.returns-in-Written-clause-buf_after

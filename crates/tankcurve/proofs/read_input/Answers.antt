@@ -1,8 +1,5 @@
 -- Each turn reads at least one byte more and never past the buffer's end, so the loop ends.
-use Prim.Native.Nat.{◌-◌}
-use lib.ListN.{length}
-use Rattle.tankcurve.proofs.Within.{ReadTo, reading_begins, read_keeps_length, still_within, done_in_range, less_to_read, reading_goes_on}
-use borrow.Author.Rules.{rules}
+use Rattle.tankcurve.proofs.Within.{reading_begins, read_keeps_length, still_within, done_in_range, less_to_read, reading_goes_on}
 use Rattle.tankcurve.proofs.read_input.Goals as goal
 
 pub loop-done-init : goal.loop-done-init

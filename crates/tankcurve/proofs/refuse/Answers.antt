@@ -1,6 +1,5 @@
 -- The buffer has the right length, so the text of the refusal is never refused, and it stands at the front.
 use Rattle.tankcurve.proofs.FullBuffer.{never_refused, refusal_front, refusal_length}
-use borrow.Author.Rules.{rules}
 use Rattle.tankcurve.proofs.refuse.Goals as goal
 
 pub returns-in-Written-clause-out_after : goal.returns-in-Written-clause-out_after

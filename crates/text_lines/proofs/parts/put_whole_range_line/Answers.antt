@@ -23,4 +23,5 @@ put_range_values-requires c =
 
 pub returns : goal.returns
 returns c =
-    search (line_stored, c.put_range_sums-sums_end.ensures, c.put_after_comma-right_end.ensures, c.put_after_comma-left_end.ensures, c.put_after_comma-bandwidth_end.ensures)
+    let sums = c.put_range_sums-sums_end.ensures in
+    search (line_stored, sums, c.put_after_comma-right_end.ensures, c.put_after_comma-left_end.ensures, c.put_after_comma-bandwidth_end.ensures)
