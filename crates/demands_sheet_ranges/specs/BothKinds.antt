@@ -64,10 +64,16 @@ pub record ExportedReadRanges (s ts ls us zs hs ns : List ℕ) (a : ℕ) (ts' ls
   pub ensured :
       exported_read.Post lifetimes (
         lent sheet_at s,
-        (lent_mut minutes_at ts, (lent_mut lows_at ls, (lent_mut highs_at us, (lent_mut points_at zs, (lent_mut bandwidths_at hs, (lent_mut counts_at ns, tt)))))),
+        (
+          lent_mut minutes_at ts,
+          (lent_mut lows_at ls, (lent_mut highs_at us, (lent_mut points_at zs, (lent_mut bandwidths_at hs, (lent_mut counts_at ns, tt))))),
+        ),
       ) a (
         lent sheet_at s,
-        (lent_mut minutes_at ts', (lent_mut lows_at ls', (lent_mut highs_at us', (lent_mut points_at zs', (lent_mut bandwidths_at hs', (lent_mut counts_at ns', tt)))))),
+        (
+          lent_mut minutes_at ts',
+          (lent_mut lows_at ls', (lent_mut highs_at us', (lent_mut points_at zs', (lent_mut bandwidths_at hs', (lent_mut counts_at ns', tt))))),
+        ),
       )
 
 -- the lists for a sheet have their lengths
