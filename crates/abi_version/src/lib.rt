@@ -1,5 +1,5 @@
-// Which build of the calls for C and Rust this is. The calls stand in the crates abi_point, abi_record, abi_turn, abi_sweep, abi_sheet and abi_text;
-// link/archive puts them and this into one archive. What tankcurve_version gives is no answer of a call.
+// Which build of the calls for C and Rust this is. The other calls stand in the other crates abi_..; the static library tankcurve_abi hands them and
+// this on. What tankcurve_version gives is no answer of a call.
 #![tactic(auto)]
 
 ghost use Rattle.std.specs.Prelude.{◌≡◌};
