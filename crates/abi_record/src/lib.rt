@@ -18,6 +18,7 @@ use row::record_row;
 // The single step. running: nine numbers of any origin, left, right, the six sums s00, s10, s20, s01, s11, s21, and the
 // passes.
 #[unsafe(no_mangle)]
+#[tactic(auto, using(abi_answers::proofs::Answered::other_code, abi_answers::proofs::Answered::other_stays))]
 pub extern "C" fn tankcurve_advance(
     running: &mut [u64],
     minutes: &[u16],

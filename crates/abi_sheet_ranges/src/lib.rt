@@ -41,6 +41,7 @@ pub(crate) fn put_triple(out: &mut [u64], first: u64, second: u64, third: u64)
 
 // The reader. counts: three numbers, the kept readings, the marks and the kind.
 #[unsafe(no_mangle)]
+#[tactic(auto, using(crate::proofs::Counts::other_counts_code, crate::proofs::Counts::other_counts_stay, crate::proofs::Counts::list_stays))]
 pub extern "C" fn tankcurve_read_ranges(
     sheet: &[u8],
     minutes: &mut [u16],

@@ -13,6 +13,7 @@ use turn::turn_own;
 
 // The turn. running: nine numbers of any origin, left, right, the six sums s00, s10, s20, s01, s11, s21, and the passes.
 #[unsafe(no_mangle)]
+#[tactic(auto, using(abi_answers::proofs::Answered::other_code, abi_answers::proofs::Answered::other_stays))]
 pub extern "C" fn tankcurve_turn(
     running: &mut [u64],
     minutes: &[u16],

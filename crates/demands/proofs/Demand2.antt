@@ -66,8 +66,8 @@ module _ (n : ℕ) (ts vs : List ℕ) (z h : ℕ) (xs : List ℕ) (c : ℕ) (cod
 pub demand_2 : Demand2
 demand_2 = record {
   a_row = λ ts vs z h v f.
-      let None-found = (refused_exactly (evaluate_finds ts vs h)).accepted.1 (λ n p. none_or_first (evaluate_conditions ts vs h) n p f) in
-      (estimate ts vs z h, published_row ts vs z h v (evaluate_accepts full (same_limits full) ts vs h None-found));
+      let none_found = (refused_exactly (evaluate_finds ts vs h)).accepted.1 (λ n p. none_or_first (evaluate_conditions ts vs h) n p f) in
+      (estimate ts vs z h, published_row ts vs z h v (evaluate_accepts full (same_limits full) ts vs h none_found));
   one_row = one_published_row;
   evaluate_row = λ ts vs z h e v c. accepted_row_is_published full (same_limits full) ts vs z h e v (sym c.ensured);
   window_run = λ ts vs z h e at part c w.

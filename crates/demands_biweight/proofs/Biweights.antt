@@ -105,8 +105,8 @@ module _ (ts vs : List ℕ) (z : ℕ) where
 
   there_is : AtMost max_u16 vs → NoFault (biweight_conditions ts vs) → (e : Estimate) × PublishedBiweight ts vs z biweight_bandwidth e
   there_is v f =
-      let None-found = (refused_exactly (finds ts vs)).accepted.1 (λ n p. none_or_first (biweight_conditions ts vs) n p f) in
-      let a = evaluate_accepts full (same_limits full) ts vs biweight_bandwidth (sym (refused_as_evaluate full ts vs) ∙ None-found) in
+      let none_found = (refused_exactly (finds ts vs)).accepted.1 (λ n p. none_or_first (biweight_conditions ts vs) n p f) in
+      let a = evaluate_accepts full (same_limits full) ts vs biweight_bandwidth (sym (refused_as_evaluate full ts vs) ∙ none_found) in
       (biweight_row ts vs z biweight_bandwidth, published_biweight ts vs z biweight_bandwidth a.even v a.ordered (omega arith))
 
   fit : (e : Estimate) → AtMost max_u16 vs → given e ≡ biweight full ts vs z → Fits e

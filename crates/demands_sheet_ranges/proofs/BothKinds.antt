@@ -153,7 +153,7 @@ first_or_else_numbered cs a s n p (inl f) = first_numbered cs a n p f
 first_or_else_numbered cs a s n p (inr f) = form_numbered s n p f.1
 
 -- what the reader makes of a sheet, after the checks ks
-module _ {ks : List Check} {cs : Conditions} (found_All : FindAll ks cs) (s : List ℕ) where
+module _ {ks : List Check} {cs : Conditions} (found_all : FindAll ks cs) (s : List ℕ) where
   sheet_exactly : RefusedExactly (refusal (or_next (first_of ks) (read_either full s))) (FirstOrElse cs (EitherRefused full s))
   sheet_exactly =
       exactly _ (FirstOrElse cs (EitherRefused full s)) (found (first_of ks) refl (read_either full s) refl)
@@ -164,12 +164,12 @@ module _ {ks : List Check} {cs : Conditions} (found_All : FindAll ks cs) (s : Li
       found none q (given c) r n p e = let z : ◌≡◌ {A = ℕ} 0 1 = cc in absurd (omega arith)
       found none q (refused g) r n p e =
           let same : g ≡ record { number = n; place = p } = cc in
-          inr (none_found ks cs found_All.each q, read_is_refused_form full s n p (r ∙ ap refused same))
-      found (some g) q o r n p e = inl (first_found ks cs found_All.each n p (q ∙ e))
+          inr (none_found ks cs found_all.each q, read_is_refused_form full s n p (r ∙ ap refused same))
+      found (some g) q o r n p e = inl (first_found ks cs found_all.each n p (q ∙ e))
 
       absent : (f : Option Fault) → first_of ks ≡ f → (o : Answer RangeContents) → read_either full s ≡ o → refusal (or_next f o) ≡ none → (n p : ℕ)
           → ¬ FirstOrElse cs (EitherRefused full s) n p
-      absent none q (given c) r e n p (inl a) = none_or_first cs n p (none_found ks cs found_All.each q) a
+      absent none q (given c) r e n p (inl a) = none_or_first cs n p (none_found ks cs found_all.each q) a
       absent none q (given c) r e n p (inr b) = never_both full s c n p (read_is_form full s c r) b.1
       absent none q (refused g) r e n p a = let z : ◌≡◌ {A = ℕ} 0 1 = cc in omega arith
       absent (some g) q o r e n p a = let z : ◌≡◌ {A = ℕ} 0 1 = cc in omega arith

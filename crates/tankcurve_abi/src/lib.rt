@@ -4,7 +4,7 @@
 #![tactic(auto)]
 
 ghost use Rattle.std.specs.Prelude.{◌≡◌};
-ghost use Rattle.meanings.specs.Calls.{evaluate as evaluate_meaning, counts as CountsOf, read, read_minutes, read_values, read_evaluation_points};
+ghost use Rattle.meanings.specs.Calls.{evaluate as evaluate_meaning, counts as counts_of, read, read_minutes, read_values, read_evaluation_points};
 ghost use Rattle.meanings.specs.Calls.{read_bandwidths, smooth as smooth_meaning, smooth_rows, fill, fill_points, fill_bandwidths};
 ghost use Rattle.meanings.specs.Calls.{write_refusal_text, refusal_buffer};
 ghost use Rattle.meanings.specs.Codes.{answered, no_detail};
@@ -194,12 +194,12 @@ pub extern "C" fn tankcurve_read(
     bandwidths: &mut [u32],
     counts: &mut [u64],
 ) -> u64
-    ensures value { result ≡ answered no_detail (CountsOf (sized 2 counts.old (read full sheet.now minutes.old values.old points.old bandwidths.old))) }
+    ensures value { result ≡ answered no_detail (counts_of (sized 2 counts.old (read full sheet.now minutes.old values.old points.old bandwidths.old))) }
     ensures minutes_after { minutes.new ≡ read_minutes (sized 2 counts.old (read full sheet.now minutes.old values.old points.old bandwidths.old)) minutes.old }
     ensures values_after { values.new ≡ read_values (sized 2 counts.old (read full sheet.now minutes.old values.old points.old bandwidths.old)) values.old }
     ensures points_after { points.new ≡ read_evaluation_points (sized 2 counts.old (read full sheet.now minutes.old values.old points.old bandwidths.old)) points.old }
     ensures bandwidths_after { bandwidths.new ≡ read_bandwidths (sized 2 counts.old (read full sheet.now minutes.old values.old points.old bandwidths.old)) bandwidths.old }
-    ensures counts_after { counts.new ≡ stored count_numbers (CountsOf (sized 2 counts.old (read full sheet.now minutes.old values.old points.old bandwidths.old))) counts.old }
+    ensures counts_after { counts.new ≡ stored count_numbers (counts_of (sized 2 counts.old (read full sheet.now minutes.old values.old points.old bandwidths.old))) counts.old }
 {
     abi_sheet::tankcurve_read(sheet, minutes, values, points, bandwidths, counts)
 }

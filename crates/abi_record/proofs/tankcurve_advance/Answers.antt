@@ -2,15 +2,8 @@
 use Rattle.meanings.specs.Calls.{advance_answer}
 use Rattle.abi_record.proofs.Places.{advance_place}
 use Rattle.abi_answers.proofs.Answered.{sized_place, refused_code, refused_stays, accepted_code, accepted_stored}
-use Rattle.abi_answers.proofs.Answered.{other_code, other_stays}
 use Rattle.abi_record.proofs.Records.{step_answer}
 use Rattle.abi_record.proofs.tankcurve_advance.Goals as goal
-
-pub returns-then-running-ne-RECORD_LENGTH-clause-value : goal.returns-then-running-ne-RECORD_LENGTH-clause-value
-returns-then-running-ne-RECORD_LENGTH-clause-value c = search other_code
-
-pub returns-then-running-ne-RECORD_LENGTH-clause-running_after : goal.returns-then-running-ne-RECORD_LENGTH-clause-running_after
-returns-then-running-ne-RECORD_LENGTH-clause-running_after c = search other_stays
 
 pub returns-in-Refused-clause-value : goal.returns-in-Refused-clause-value
 returns-in-Refused-clause-value c = search (refused_code advance_answer, step_answer, sized_place, advance_place)

@@ -2,29 +2,8 @@
 use Rattle.meanings_ranges.specs.RangeCalls.{range_parsing_answer, minutes_of, lows_of, highs_of, points_of, bandwidths_of}
 use Rattle.abi_sheet_ranges.proofs.Places.{ranges_place, counts_place}
 use Rattle.abi_answers.proofs.Answered.{sized_place, refused_code, refused_stays, accepted_code}
-use Rattle.abi_sheet_ranges.proofs.Counts.{other_counts_code, other_counts_stay, list_stays, list_read, counted_answer, counts_stored}
+use Rattle.abi_sheet_ranges.proofs.Counts.{list_read, counted_answer, counts_stored}
 use Rattle.abi_sheet_ranges.proofs.tankcurve_read_ranges.Goals as goal
-
-pub returns-then-counts-ne-RANGE_COUNTS-clause-value : goal.returns-then-counts-ne-RANGE_COUNTS-clause-value
-returns-then-counts-ne-RANGE_COUNTS-clause-value c = search other_counts_code
-
-pub returns-then-counts-ne-RANGE_COUNTS-clause-minutes_after : goal.returns-then-counts-ne-RANGE_COUNTS-clause-minutes_after
-returns-then-counts-ne-RANGE_COUNTS-clause-minutes_after c = search (list_stays minutes_of)
-
-pub returns-then-counts-ne-RANGE_COUNTS-clause-lows_after : goal.returns-then-counts-ne-RANGE_COUNTS-clause-lows_after
-returns-then-counts-ne-RANGE_COUNTS-clause-lows_after c = search (list_stays lows_of)
-
-pub returns-then-counts-ne-RANGE_COUNTS-clause-highs_after : goal.returns-then-counts-ne-RANGE_COUNTS-clause-highs_after
-returns-then-counts-ne-RANGE_COUNTS-clause-highs_after c = search (list_stays highs_of)
-
-pub returns-then-counts-ne-RANGE_COUNTS-clause-points_after : goal.returns-then-counts-ne-RANGE_COUNTS-clause-points_after
-returns-then-counts-ne-RANGE_COUNTS-clause-points_after c = search (list_stays points_of)
-
-pub returns-then-counts-ne-RANGE_COUNTS-clause-bandwidths_after : goal.returns-then-counts-ne-RANGE_COUNTS-clause-bandwidths_after
-returns-then-counts-ne-RANGE_COUNTS-clause-bandwidths_after c = search (list_stays bandwidths_of)
-
-pub returns-then-counts-ne-RANGE_COUNTS-clause-counts_after : goal.returns-then-counts-ne-RANGE_COUNTS-clause-counts_after
-returns-then-counts-ne-RANGE_COUNTS-clause-counts_after c = search other_counts_stay
 
 pub returns-in-Refused-clause-value : goal.returns-in-Refused-clause-value
 returns-in-Refused-clause-value c = search (refused_code range_parsing_answer, counted_answer, counts_place, sized_place, ranges_place)

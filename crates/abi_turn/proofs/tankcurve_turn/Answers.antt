@@ -1,13 +1,6 @@
 -- A record of another length is refused first; else the turn is that of the call below on the record that the nine numbers are.
-use Rattle.abi_answers.proofs.Answered.{other_code, other_stays}
 use Rattle.abi_turn.proofs.Turns.{turn_refused, turn_left, turn_accepted, turn_stored}
 use Rattle.abi_turn.proofs.tankcurve_turn.Goals as goal
-
-pub returns-then-running-ne-RECORD_LENGTH-clause-value : goal.returns-then-running-ne-RECORD_LENGTH-clause-value
-returns-then-running-ne-RECORD_LENGTH-clause-value c = search other_code
-
-pub returns-then-running-ne-RECORD_LENGTH-clause-running_after : goal.returns-then-running-ne-RECORD_LENGTH-clause-running_after
-returns-then-running-ne-RECORD_LENGTH-clause-running_after c = search other_stays
 
 pub returns-in-Faulty-clause-value : goal.returns-in-Faulty-clause-value
 returns-in-Faulty-clause-value c = search turn_refused

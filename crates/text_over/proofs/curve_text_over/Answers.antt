@@ -11,5 +11,5 @@ returns-then-buf-ne-MAX_OUTPUT-clause-buf_after c = search other_buffer_stays
 
 pub returns-then-size-gt-MAX_OUTPUT : goal.returns-then-size-gt-MAX_OUTPUT
 returns-then-size-gt-MAX_OUTPUT c =
-    let a = all_of_it _ _ _ _ c.if-buf-ne-MAX_OUTPUT.false c.if-size-gt-MAX_OUTPUT.true c.sheet_text_over.ensures in
+    let a = all_of_it c.args.buf.now c.args.size c.sheet_text_over.result c.sheet_text_over.new.buf (search) (search) c.sheet_text_over.ensures in
     record { result_value = a.0; buf_after = a.1 }
