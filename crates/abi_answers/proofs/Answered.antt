@@ -1,4 +1,7 @@
 -- An answer as one number, and a lent list as its elements: what both are, by what the call below was met as.
+use Rattle.std.specs.Prelude.{Result, Ok, Err}
+use Rattle.meanings.specs.Calls.{answer_of}
+use Rattle.meanings.specs.declared.Refusal.{Refusal}
 use Prim.Native.Nat.{ℕ, ◌*◌, ◌≤◌, zero-le}
 use mathlib.Core.Path.{◌≡◌, refl, sym, ap, ◌∙◌}
 use mathlib.Core.Bool.{Bool, true, false, true≢false}
@@ -8,7 +11,6 @@ use native.Mathlib.Omega.{arith}
 use borrow.Author.Tests.{eq-eqb, ne_eqb}
 use lib.Dec.{eqb}
 use lib.ListN.{length}
-use Rattle.meanings.specs.declared.Refusal.{Refusal}
 use Rattle.meanings.specs.Limits.{max_sheet}
 use Rattle.meanings.specs.Lists.{pick}
 use Rattle.meanings.specs.Reports.{Fault, Answer, given, refused, fault_of}
@@ -30,45 +32,37 @@ pub other_length_stays : {B : Type 0} (ys xs : List B) → (length xs ≡ length
 unfolding replaced
 other_length_stays ys xs e = rw (ne_eqb (length xs) (length ys) e)
 
-abbrev pub refuses : {A : Type 0} → Answer A → Bool
-refuses (given a) = false
-refuses (refused e) = true
+-- the call below answers `a`
+module _ {A : Type 0} {r : Result A Refusal} {a : Answer A} (answer : answer_of r ≡ a) where
+  -- it is met as a refusal
+  module _ {f : Refusal} (met : r ≡ Err f) where
+    told : refused (fault_of f) ≡ a
+    told = sym (ap answer_of met) ∙ answer
 
--- the call below tells `a`, and is met as `x`
-module _ {E A : Type 0} (tell : E → Answer A) (r x : E) (met : r ≡ x) (a : Answer A) (answer : tell r ≡ a) where
-  answer_is : tell x ≡ a
-  answer_is = sym (ap tell met) ∙ answer
-
-  module _ (f : Refusal) (no : tell x ≡ refused (fault_of f)) where
     -- the code of a refusal whose place is small is that of its answer
     pub refused_code : refusal_place a ≤ max_sheet → (detail : A → ℕ) (k : ℕ) → k ≡ code (short (fault_of f)) → k ≡ answered detail a
     refused_code small detail k e =
         e
-        ∙ ap code (short_same (fault_of f) (refusal_place_at_most a (fault_of f) (sym no ∙ answer_is) small))
-        ∙ ap (answered detail) (sym no ∙ answer_is)
+        ∙ ap code (short_same (fault_of f) (refusal_place_at_most a (fault_of f) told small))
+        ∙ ap (answered detail) told
 
-  pub refused_stays : {B : Type 0} → refuses (tell x) ≡ true → (elements : A → List B) (xs : List B) → xs ≡ stored elements a xs
-  refused_stays so elements xs = by (tell x) so ∙ ap (λ (o : Answer A). stored elements o xs) answer_is
-    where
-      by : (o : Answer A) → refuses o ≡ true → xs ≡ stored elements o xs
-      by (refused e) q = refl
-      by (given b) q = absurd (true≢false (sym q))
+    pub refused_stays : {B : Type 0} (elements : A → List B) (xs : List B) → xs ≡ stored elements a xs
+    refused_stays elements xs = ap (λ (o : Answer A). stored elements o xs) told
 
-  pub accepted_code : refuses (tell x) ≡ false → 0 ≡ answered no_detail a
-  accepted_code so = by (tell x) so ∙ ap (answered no_detail) answer_is
-    where
-      by : (o : Answer A) → refuses o ≡ false → 0 ≡ answered no_detail o
-      by (refused e) q = absurd (true≢false q)
-      by (given b) q = refl
+  -- or as a value
+  module _ {b : A} (met : r ≡ Ok b) where
+    gave : given b ≡ a
+    gave = sym (ap answer_of met) ∙ answer
 
-  pub accepted_stored : {B : Type 0} (b : A) → tell x ≡ given b → (elements : A → List B) (xs ys : List B) → ys ≡ replaced (elements b) xs
-      → length xs ≡ length (elements b) → ys ≡ stored elements a xs
-  accepted_stored b so elements xs ys e l =
-      e ∙ same_length_replaced (elements b) xs l ∙ ap (λ (o : Answer A). stored elements o xs) (sym so ∙ answer_is)
+    pub accepted_code : 0 ≡ answered no_detail a
+    accepted_code = ap (answered no_detail) gave
 
-pub accepted_number : {E : Type 0} (tell : E → Answer ℕ) (r x : E) → r ≡ x → (a : Answer ℕ) → tell r ≡ a → (n : ℕ) → tell x ≡ given n
-    → detail_unit * n ≡ answered (λ (k : ℕ). k) a
-accepted_number tell r x met a answer n so = ap (answered (λ (k : ℕ). k)) (sym so ∙ answer_is tell r x met a answer)
+    pub accepted_stored : {B : Type 0} (elements : A → List B) (xs ys : List B) → ys ≡ replaced (elements b) xs → length xs ≡ length (elements b)
+        → ys ≡ stored elements a xs
+    accepted_stored elements xs ys e l = e ∙ same_length_replaced (elements b) xs l ∙ ap (λ (o : Answer A). stored elements o xs) gave
+
+pub accepted_number : {r : Result ℕ Refusal} {a : Answer ℕ} → answer_of r ≡ a → {n : ℕ} → r ≡ Ok n → detail_unit * n ≡ answered (λ (k : ℕ). k) a
+accepted_number answer met = ap (answered (λ (k : ℕ). k)) (gave answer met)
 
 -- a list of another length is refused first, and stays
 abbrev pub uneven : Fault
@@ -93,9 +87,9 @@ pub right_size : {A B : Type 0} (n : ℕ) (xs : List B) → length xs ≡ n → 
 unfolding sized
 right_size n xs right a = rw (eq-eqb (length xs) n right)
 
-pub sized_answer : {E A : Type 0} (tell : E → Answer A) (r : E) (a : Answer A) → tell r ≡ a → {B : Type 0} (n : ℕ) (xs : List B) → length xs ≡ n
-    → tell r ≡ sized n xs a
-sized_answer tell r a answer n xs right = answer ∙ right_size n xs right a
+pub sized_answer : {A : Type 0} (r : Result A Refusal) (a : Answer A) → answer_of r ≡ a → {B : Type 0} (n : ℕ) (xs : List B) → length xs ≡ n
+    → answer_of r ≡ sized n xs a
+sized_answer r a answer n xs right = answer ∙ right_size n xs right a
 
 -- two lists of set length: the second is looked at where the first is right
 module _ {A B C : Type 0} (n : ℕ) (xs : List B) (right : length xs ≡ n) (m : ℕ) (ys : List C) (a : Answer A) where

@@ -1,11 +1,11 @@
 -- What an exported function answers, and what its lent lists hold at exit, made of the meanings of the calls below it.
 use Rattle.std.specs.Prelude.{ℕ, ◌%◌, ◌^◌, List, [], ◌∷◌, eqb, length, get_or}
+use Rattle.meanings.specs.declared.Counts.{Counts}
 use Rattle.meanings.specs.declared.Estimate.{Estimate}
 use Rattle.meanings.specs.declared.RunningSums.{RunningSums}
 use Rattle.meanings.specs.Lists.{pick}
 use Rattle.meanings.specs.Reports.{Fault, Answer, given, refused}
 use Rattle.meanings.specs.Running.{fresh}
-use Rattle.meanings.specs.Calls.{Counts}
 
 -- a list that must have n elements is looked at before all else: another length gets 8 at place 0
 unfoldable pub sized : {A B : Type 0} → ℕ → List B → Answer A → Answer A

@@ -1,6 +1,6 @@
 -- A position, or none, as one number of a lent list.
 use Rattle.std.specs.Prelude.{ℕ, ◌-◌, ◌^◌, List, [], ◌∷◌, eqb}
-use Rattle.std.proofs.Math.Option.{Option, none, some}
+use Rattle.std.specs.Prelude.{Option, None, Some}
 use Rattle.meanings.specs.Lists.{pick}
 
 -- the number that stands for no position
@@ -8,8 +8,8 @@ abbrev pub no_position : ℕ
 no_position = 2 ^ 64 - 1
 
 abbrev pub position_number : Option ℕ → ℕ
-position_number none = no_position
-position_number (some k) = k
+position_number None = no_position
+position_number (Some k) = k
 
 -- as a list of one number
 abbrev pub position_numbers : Option ℕ → List ℕ
@@ -17,4 +17,4 @@ position_numbers p = position_number p ∷ []
 
 -- and back
 abbrev pub position_of : ℕ → Option ℕ
-position_of n = pick (eqb n no_position) none (some n)
+position_of n = pick (eqb n no_position) None (Some n)

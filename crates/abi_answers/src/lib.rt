@@ -3,14 +3,14 @@
 #![tactic(auto)]
 
 ghost use Rattle.std.specs.Prelude.{◌≡◌, [], ◌∷◌};
-ghost use Rattle.meanings.specs.Reports.{fault_of, found_position};
+ghost use Rattle.meanings.specs.Reports.{fault_of};
 ghost use Rattle.meanings.specs.Estimate.{fields};
 ghost use Rattle.meanings.specs.Codes.{code};
 ghost use Rattle.abi_answers.specs.Answers.{short, replaced, record_numbers, record_in};
 ghost use Rattle.abi_answers.specs.Positions.{position_numbers};
 
 use checks::report_number;
-use meanings::{DETAIL_UNIT, Estimate, Found, PowerSums, ROW_WIDTH, Refusal, RunningSums};
+use meanings::{DETAIL_UNIT, Estimate, PowerSums, ROW_WIDTH, Refusal, RunningSums};
 
 // How many numbers a running record has: record_length of specs/Answers.antt.
 pub const RECORD_LENGTH: usize = 9;
@@ -109,14 +109,14 @@ pub fn record_of(numbers: &[u64]) -> RunningSums
 pub const NO_POSITION: u64 = 18446744073709551615;
 
 // Stores a position, or what stands for none.
-pub fn put_position(out: &mut [u64], found: Found)
-    ensures { out.new ≡ replaced (position_numbers (found_position found)) out.old }
+pub fn put_position(out: &mut [u64], found: Option<usize>)
+    ensures { out.new ≡ replaced (position_numbers found) out.old }
 {
     if out.len() != 1 {
         return;
     }
     match found {
-        Found::Nothing => out[0] = NO_POSITION,
-        Found::At(i) => out[0] = i as u64,
+        None => out[0] = NO_POSITION,
+        Some(i) => out[0] = i as u64,
     }
 }

@@ -11,7 +11,7 @@ ghost use Rattle.abi_answers.specs.Answers.{sized, stored};
 
 use abi_answers::{put_estimate, refusal_code};
 use biweight::biweight;
-use meanings::{Evaluation, ROW_WIDTH};
+use meanings::ROW_WIDTH;
 
 // row: five numbers, left, right, weight, sum, value.
 #[unsafe(no_mangle)]
@@ -28,8 +28,8 @@ pub extern "C" fn tankcurve_biweight(
         return 8;
     }
     match biweight(minutes, values, point) {
-        Evaluation::Refused(refusal) => refusal_code(refusal),
-        Evaluation::Row(estimate) => {
+        Err(refusal) => refusal_code(refusal),
+        Ok(estimate) => {
             put_estimate(row, estimate);
             0
         }

@@ -7,7 +7,6 @@ ghost use Rattle.meanings.specs.Codes.{answered, no_detail};
 ghost use Rattle.meanings_boxes.specs.Boxes.{minute_axis, temperature_axis, boxes as boxes_meaning, boxes_then, counts_then, sums_then};
 
 use abi_answers::refusal_code;
-use meanings::Filling;
 
 // boxes receives count and sum of each pair of marks, counts and sums a number for each of the 4,225 cells.
 #[unsafe(no_mangle)]
@@ -40,7 +39,7 @@ pub extern "C" fn tankcurve_boxes(
         counts,
         sums,
     ) {
-        Filling::Refused(refusal) => refusal_code(refusal),
-        Filling::Filled => 0,
+        Err(refusal) => refusal_code(refusal),
+        Ok(()) => 0,
     }
 }

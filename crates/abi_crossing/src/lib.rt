@@ -3,16 +3,16 @@
 #![tactic(auto)]
 
 ghost use Rattle.std.specs.Prelude.{◌≡◌};
+ghost use Rattle.meanings_limit.specs.declared.Located.{Located};
 ghost use Rattle.meanings.specs.Limits.{full};
 ghost use Rattle.meanings.specs.Codes.{answered};
-ghost use Rattle.meanings_limit.specs.Crossing.{first_at_most, Located};
+ghost use Rattle.meanings_limit.specs.Crossing.{first_at_most};
 ghost use Rattle.abi_answers.specs.Answers.{sized, stored};
 ghost use Rattle.abi_answers.specs.Positions.{position_numbers};
 
 use abi_answers::{put_position, refusal_code};
 use crossing::first_at_most;
-use meanings::{DETAIL_UNIT, Found};
-use meanings_limit::Crossing;
+use meanings::DETAIL_UNIT;
 
 // position, one number, gets the mark's position or what stands for none; the detail is the passes.
 #[unsafe(no_mangle)]
@@ -31,14 +31,10 @@ pub extern "C" fn tankcurve_first_at_most(
         return 8;
     }
     match first_at_most(minutes, values, points, bandwidths, limit) {
-        Crossing::Refused(refusal) => refusal_code(refusal),
-        Crossing::NotReached { passes } => {
-            put_position(position, Found::Nothing);
-            DETAIL_UNIT * passes
-        }
-        Crossing::Reached { point, passes } => {
-            put_position(position, Found::At(point));
-            DETAIL_UNIT * passes
+        Err(refusal) => refusal_code(refusal),
+        Ok(located) => {
+            put_position(position, located.position);
+            DETAIL_UNIT * located.passes
         }
     }
 }

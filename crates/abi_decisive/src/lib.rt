@@ -11,8 +11,6 @@ ghost use Rattle.abi_answers.specs.Positions.{position_numbers};
 
 use abi_answers::{put_position, refusal_code};
 use decisive::decisive_sample;
-use meanings::Found;
-use meanings_decisive::Decisive;
 
 // position, one number, gets the reading's position or what stands for none; the detail is 0.
 #[unsafe(no_mangle)]
@@ -31,13 +29,9 @@ pub extern "C" fn tankcurve_decisive(
         return 8;
     }
     match decisive_sample(minutes, values, point, bandwidth, limit) {
-        Decisive::Refused(refusal) => refusal_code(refusal),
-        Decisive::NoSample => {
-            put_position(position, Found::Nothing);
-            0
-        }
-        Decisive::Sample(i) => {
-            put_position(position, Found::At(i));
+        Err(refusal) => refusal_code(refusal),
+        Ok(found) => {
+            put_position(position, found);
             0
         }
     }

@@ -8,7 +8,6 @@ ghost use Rattle.meanings.specs.Codes.{answered, no_detail};
 ghost use Rattle.meanings_neighbours.specs.Neighbours.{neighbours as neighbours_meaning, bandwidths_then, rows_then};
 
 use abi_answers::refusal_code;
-use meanings::Filling;
 use neighbours::neighbours;
 
 // bandwidths receives a half width a mark, by its k nearest readings, and rows five numbers a mark.
@@ -26,7 +25,7 @@ pub extern "C" fn tankcurve_neighbours(
     ensures rows_after { rows.new ≡ rows_then full minutes.now values.now points.now k bandwidths.old rows.old }
 {
     match neighbours(minutes, values, points, k, bandwidths, rows) {
-        Filling::Refused(refusal) => refusal_code(refusal),
-        Filling::Filled => 0,
+        Err(refusal) => refusal_code(refusal),
+        Ok(()) => 0,
     }
 }

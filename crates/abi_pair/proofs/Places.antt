@@ -3,16 +3,17 @@ use Prim.Native.Nat.{ℕ, ◌≤◌, zero-le}
 use mathlib.Core.Path.{◌≡◌, refl}
 use mathlib.Core.Bool.{false, ◌||◌}
 use mathlib.Core.List.{List, [], ◌∷◌, ◌++◌}
-use mathlib.Core.Option.{Option, none, some}
 use native.Mathlib.Omega.{arith}
 use borrow.Author.Tests.{ltb-false}
 use lib.Dec.{ltb, eqb}
 use lib.ListN.{length, get_or}
+use Rattle.std.specs.Prelude.{Option, None, Some}
 use Rattle.meanings.specs.Limits.{full, max_sheet}
 use Rattle.meanings.specs.Reports.{Fault, Answer, given, refused, unless, Check, first_of, decreases, bad_bandwidth, edge_decreases}
 use Rattle.meanings.specs.Reports.{uneven_samples, uneven_points, series_checks, curve_checks}
 use Rattle.meanings.proofs.Checks.{at_none, or_false, differ_false}
-use Rattle.meanings_pair.specs.Comparison.{Parting, with_bounds, fault_place, second_checks, compare_checks, compare_refusal, parted, compare, compare_bounds}
+use Rattle.meanings_pair.specs.declared.Parting.{Parting}
+use Rattle.meanings_pair.specs.Comparison.{with_bounds, fault_place, second_checks, compare_checks, compare_refusal, parted, compare, compare_bounds}
 use Rattle.abi_answers.proofs.Places.{refusal_place, answer_small, place_or_0, SmallPlaces, fault_small, at_start, at_position, few_small}
 
 -- small places of checks in front, and of those behind them
@@ -59,12 +60,12 @@ second_small : (us ws : List ℕ) → SmallPlaces (second_checks full us ws)
 second_small us ws = (by (first_of (series_checks full us ws)) refl, λ e. tt)
   where
     by : (o : Option Fault) → first_of (series_checks full us ws) ≡ o → place_or_0 (fault_place o) ≤ max_sheet
-    by none q = zero-le
-    by (some e) q = fault_small (series_checks full us ws) (series_small us ws) e q
+    by None q = zero-le
+    by (Some e) q = fault_small (series_checks full us ws) (series_small us ws) e q
 
 same_place : (ts us zs hs : List ℕ) (a : Answer (Option Parting)) → refusal_place (with_bounds ts us zs hs a) ≡ refusal_place a
-same_place ts us zs hs (given (some p)) = refl
-same_place ts us zs hs (given none) = refl
+same_place ts us zs hs (given (Some p)) = refl
+same_place ts us zs hs (given None) = refl
 same_place ts us zs hs (refused e) = refl
 
 pub compare_place : (ts vs us ws zs hs : List ℕ) → refusal_place (compare_bounds full ts vs us ws zs hs) ≤ max_sheet

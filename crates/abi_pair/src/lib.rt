@@ -11,7 +11,7 @@ ghost use Rattle.abi_pair.specs.Partings.{tank_detail, parting_length, stored_pa
 
 use abi_answers::refusal_code;
 use meanings::DETAIL_UNIT;
-use meanings_pair::{Split, Tank};
+use meanings_pair::Tank;
 use pair::part;
 
 // How many numbers a parting has: parting_length of specs/Partings.antt.
@@ -48,16 +48,11 @@ pub extern "C" fn tankcurve_compare(
         return 8;
     }
     match part(minutes1, values1, minutes2, values2, points, bandwidths) {
-        Split::Refused(refusal) => refusal_code(refusal),
-        Split::Alike => 0,
-        Split::Apart {
-            point,
-            higher,
-            left,
-            right,
-        } => {
-            put_parting(out, point, left, right);
-            match higher {
+        Err(refusal) => refusal_code(refusal),
+        Ok(None) => 0,
+        Ok(Some(bounded)) => {
+            put_parting(out, bounded.parting.position, bounded.left, bounded.right);
+            match bounded.parting.higher {
                 Tank::First => DETAIL_UNIT,
                 Tank::Second => 2 * DETAIL_UNIT,
             }

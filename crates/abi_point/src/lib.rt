@@ -11,7 +11,7 @@ ghost use Rattle.abi_answers.specs.Answers.{sized, stored, bounds as bounds_of};
 
 use abi_answers::{put_estimate, put_pair, refusal_code};
 use estimator::evaluate;
-use meanings::{Evaluation, ROW_WIDTH};
+use meanings::ROW_WIDTH;
 
 // The question at one mark. row: five numbers, left, right, weight, sum, value.
 #[unsafe(no_mangle)]
@@ -29,8 +29,8 @@ pub extern "C" fn tankcurve_evaluate(
         return 8;
     }
     match evaluate(minutes, values, point, bandwidth) {
-        Evaluation::Refused(refusal) => refusal_code(refusal),
-        Evaluation::Row(estimate) => {
+        Err(refusal) => refusal_code(refusal),
+        Ok(estimate) => {
             put_estimate(row, estimate);
             0
         }
@@ -53,8 +53,8 @@ pub extern "C" fn tankcurve_window(
         return 8;
     }
     match evaluate(minutes, values, point, bandwidth) {
-        Evaluation::Refused(refusal) => refusal_code(refusal),
-        Evaluation::Row(estimate) => {
+        Err(refusal) => refusal_code(refusal),
+        Ok(estimate) => {
             put_pair(bounds, estimate.left, estimate.right);
             0
         }

@@ -1,5 +1,8 @@
 -- The sweep over ranges is refused at a position of its lists, and its passes are at most twice the readings. So no answer overflows.
 use Prim.Native.Nat.{ℕ, ◌≤◌}
+use Rattle.std.specs.Prelude.{Result, Ok}
+use Rattle.meanings.specs.declared.Refusal.{Refusal}
+use Rattle.meanings.specs.Calls.{answer_of}
 use mathlib.Core.Path.{◌≡◌, sym, ap, ◌∙◌}
 use mathlib.Core.Bool.{◌||◌}
 use mathlib.Core.List.{List}
@@ -7,13 +10,10 @@ use native.Mathlib.Omega.{arith}
 use borrow.Author.Tests.{ltb-false}
 use lib.Dec.{ltb, eqb}
 use lib.ListN.{length, get_or}
-use Rattle.meanings.specs.declared.Smoothing.{Smoothing}
-use Rattle.meanings.specs.declared.Smoothing.TheVariants.{Passes}
 use Rattle.meanings.specs.Limits.{full, max_sheet}
 use Rattle.meanings.specs.Moves.{moves}
 use Rattle.meanings.specs.Reports.{differ, decreases, bad_bandwidth, edge_decreases, uneven_samples, uneven_rows}
 use Rattle.meanings.specs.Running.{fresh, passes}
-use Rattle.meanings.specs.Calls.{smoothing_answer}
 use Rattle.meanings.proofs.Checks.{at_none, or_false, differ_false, given_accepted, same_limits}
 use Rattle.meanings.proofs.Passes.{passes_at_most_twice}
 use Rattle.meanings_ranges.specs.Ranges.{range_row_width, crossed, range_checks, range_refusal, smooth_ranges}
@@ -56,10 +56,10 @@ module _ (ts ls us zs hs rs : List ℕ) where
         ),
       )
 
-  pub passes_few : (r : Smoothing) (n : ℕ) → smoothing_answer r ≡ smooth_ranges full ts ls us zs hs rs → r ≡ Passes n → n ≤ 2048
+  pub passes_few : (r : Result ℕ Refusal) (n : ℕ) → answer_of r ≡ smooth_ranges full ts ls us zs hs rs → r ≡ Ok n → n ≤ 2048
   unfolding smooth_ranges
   passes_few r n answer met =
-      let a = given_accepted (range_refusal full ts ls us zs hs rs) (passes ts ls fresh (moves zs hs)) n (sym answer ∙ ap smoothing_answer met) in
+      let a = given_accepted (range_refusal full ts ls us zs hs rs) (passes ts ls fresh (moves zs hs)) n (sym answer ∙ ap answer_of met) in
       let s = lows_accepted full (same_limits full) ts ls us zs hs rs a.0 in
       let m = passes_at_most_twice ts ls (moves zs hs) in
       omega (arith, a.1, s.few)

@@ -8,7 +8,7 @@ ghost use Rattle.meanings.specs.Codes.{answered};
 ghost use Rattle.meanings_ranges.specs.Ranges.{smooth_ranges, smooth_ranges_rows};
 
 use abi_answers::refusal_code;
-use meanings::{DETAIL_UNIT, Smoothing};
+use meanings::DETAIL_UNIT;
 use ranges::smooth_ranges;
 
 // The whole sweep: rows receives seven numbers a mark, and the detail is the passes.
@@ -25,7 +25,7 @@ pub extern "C" fn tankcurve_smooth_ranges(
     ensures rows_after { rows.new ≡ smooth_ranges_rows full minutes.now lows.now highs.now points.now bandwidths.now rows.old }
 {
     match smooth_ranges(minutes, lows, highs, points, bandwidths, rows) {
-        Smoothing::Refused(refusal) => refusal_code(refusal),
-        Smoothing::Passes(passes) => DETAIL_UNIT * passes,
+        Err(refusal) => refusal_code(refusal),
+        Ok(passes) => DETAIL_UNIT * passes,
     }
 }

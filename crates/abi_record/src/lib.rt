@@ -12,7 +12,7 @@ ghost use Rattle.abi_answers.specs.Answers.{sized, stored, record_length, record
 
 use abi_answers::{RECORD_LENGTH, put_estimate, put_record, record_of, refusal_code};
 use estimator::advance;
-use meanings::{Advance, ROW_WIDTH};
+use meanings::ROW_WIDTH;
 use row::record_row;
 
 // The single step. running: nine numbers of any origin, left, right, the six sums s00, s10, s20, s01, s11, s21, and the
@@ -33,8 +33,8 @@ pub extern "C" fn tankcurve_advance(
         return 8;
     }
     match advance(record_of(running), minutes, values, point, bandwidth) {
-        Advance::Refused(refusal) => refusal_code(refusal),
-        Advance::Moved(moved) => {
+        Err(refusal) => refusal_code(refusal),
+        Ok(moved) => {
             put_record(running, moved);
             0
         }

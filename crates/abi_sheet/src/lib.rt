@@ -9,7 +9,6 @@ ghost use Rattle.meanings.specs.Codes.{answered, no_detail};
 ghost use Rattle.abi_answers.specs.Answers.{sized, stored, count_numbers};
 
 use abi_answers::{put_pair, refusal_code};
-use meanings::Parsing;
 use sheet::read_sheet;
 
 // The reader. counts: two numbers, the kept readings and the marks.
@@ -33,12 +32,9 @@ pub extern "C" fn tankcurve_read(
         return 8;
     }
     match read_sheet(sheet, minutes, values, points, bandwidths) {
-        Parsing::Refused(refusal) => refusal_code(refusal),
-        Parsing::Used {
-            samples: n,
-            points: m,
-        } => {
-            put_pair(counts, n as u64, m as u64);
+        Err(refusal) => refusal_code(refusal),
+        Ok(used) => {
+            put_pair(counts, used.samples as u64, used.points as u64);
             0
         }
     }

@@ -3,7 +3,7 @@ use Prim.Native.Nat.{ℕ, ◌≤◌}
 use mathlib.Core.Path.{◌≡◌, refl}
 use mathlib.Core.Bool.{Bool, ◌||◌}
 use mathlib.Core.List.{List}
-use mathlib.Core.Option.{Option, none, some}
+use Rattle.std.specs.Prelude.{Option, None, Some}
 use lib.ListN.{length}
 use Rattle.meanings.specs.Limits.{full, max_sheet}
 use Rattle.meanings.specs.Reports.{Fault, Answer, given, refused, first_of, differ}
@@ -25,8 +25,8 @@ ranges_place s ts ls us zs hs = by (first_of (read_range_checks full (length ts)
 
     by : (f : Option Fault) → first_of (read_range_checks full (length ts) (length ls) (length us) (length zs) (length hs)) ≡ f
         → refusal_place (or_next f (read_either full s)) ≤ max_sheet
-    by none q = either_place s
-    by (some e) q =
+    by None q = either_place s
+    by (Some e) q =
         fault_small (read_range_checks full (length ts) (length ls) (length us) (length zs) (length hs)) (at_start uneven, λ even. tt) e q
 
 pub counts_place : (o : Answer RangeContents) → refusal_place o ≤ max_sheet → refusal_place (range_counts o) ≤ max_sheet

@@ -1,8 +1,8 @@
 -- The counts of a sheet of either kind as numbers of a lent list.
 use Rattle.std.specs.Prelude.{ℕ, List, [], ◌∷◌}
+use Rattle.meanings_ranges.specs.declared.RangeCounts.{RangeCounts}
 use Rattle.meanings_ranges.specs.declared.Kind.{Kind}
 use Rattle.meanings_ranges.specs.declared.Kind.TheVariants.{Plain, Ranges}
-use Rattle.meanings_ranges.specs.RangeCalls.{RangeCounts}
 
 -- a kind: 0 plain, 1 with ranges
 abbrev pub kind_number : Kind → ℕ

@@ -11,7 +11,7 @@ ghost use Rattle.abi_answers.specs.Answers.{sized, stored, replaced};
 ghost use Rattle.abi_sheet_ranges.specs.KindNumbers.{kind_number, range_count_numbers};
 
 use abi_answers::refusal_code;
-use meanings_ranges::{Kind, RangeParsing};
+use meanings_ranges::Kind;
 use sheet_ranges::read_ranges;
 
 // How many numbers the counts of a sheet of either kind have: range_count_numbers of specs/KindNumbers.antt.
@@ -63,13 +63,14 @@ pub extern "C" fn tankcurve_read_ranges(
         return 8;
     }
     match read_ranges(sheet, minutes, lows, highs, points, bandwidths) {
-        RangeParsing::Refused(refusal) => refusal_code(refusal),
-        RangeParsing::Used {
-            samples: n,
-            points: m,
-            kind,
-        } => {
-            put_triple(counts, n as u64, m as u64, kind_number(kind));
+        Err(refusal) => refusal_code(refusal),
+        Ok(used) => {
+            put_triple(
+                counts,
+                used.samples as u64,
+                used.points as u64,
+                kind_number(used.kind),
+            );
             0
         }
     }

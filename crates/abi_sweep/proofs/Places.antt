@@ -1,5 +1,8 @@
 -- A sweep is refused at a position of its lists, the filler at 0; passes are at most twice the readings. So no answer overflows.
 use Prim.Native.Nat.{ℕ, ◌+◌, ◌-◌, ◌*◌, ◌≤◌}
+use Rattle.std.specs.Prelude.{Result, Ok}
+use Rattle.meanings.specs.declared.Refusal.{Refusal}
+use Rattle.meanings.specs.Calls.{answer_of}
 use mathlib.Core.Path.{◌≡◌, sym, ap, ◌∙◌}
 use mathlib.Core.List.{List}
 use native.Mathlib.Omega.{arith}
@@ -11,9 +14,7 @@ use Rattle.meanings.specs.Reports.{given, differ, uneven_rows, fill_checks}
 use Rattle.meanings.specs.Moves.{moves}
 use Rattle.meanings.specs.Running.{fresh, passes}
 use Rattle.meanings.specs.Grid.{presets}
-use Rattle.meanings.specs.declared.Smoothing.{Smoothing}
-use Rattle.meanings.specs.declared.Smoothing.TheVariants.{Passes}
-use Rattle.meanings.specs.Calls.{smoothing_answer, smooth, smooth_refusal, fill}
+use Rattle.meanings.specs.Calls.{smooth, smooth_refusal, fill}
 use Rattle.meanings.proofs.Checks.{given_accepted}
 use Rattle.meanings.proofs.Passes.{passes_at_most_twice}
 use Rattle.meanings.proofs.SmoothSteps.{smooth_accepts}
@@ -48,6 +49,6 @@ passes_small L w ts vs zs hs rs n q =
     let m = passes_at_most_twice ts vs (moves zs hs) in
     omega (arith, a.1, s.few)
 
-pub passes_few : (L : Limits) → LimitsWithin L full → (ts vs zs hs rs : List ℕ) (r : Smoothing) (n : ℕ)
-    → smoothing_answer r ≡ smooth L ts vs zs hs rs → r ≡ Passes n → n ≤ 2048
-passes_few L w ts vs zs hs rs r n answer met = passes_small L w ts vs zs hs rs n (sym answer ∙ ap smoothing_answer met)
+pub passes_few : (L : Limits) → LimitsWithin L full → (ts vs zs hs rs : List ℕ) (r : Result ℕ Refusal) (n : ℕ)
+    → answer_of r ≡ smooth L ts vs zs hs rs → r ≡ Ok n → n ≤ 2048
+passes_few L w ts vs zs hs rs r n answer met = passes_small L w ts vs zs hs rs n (sym answer ∙ ap answer_of met)

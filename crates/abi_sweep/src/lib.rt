@@ -9,7 +9,7 @@ ghost use Rattle.meanings.specs.Codes.{answered, no_detail};
 
 use abi_answers::refusal_code;
 use grid::fill_grid;
-use meanings::{DETAIL_UNIT, Filling, Smoothing};
+use meanings::DETAIL_UNIT;
 use sweep::{preview, smooth};
 
 // The whole sweep: rows receives five numbers a mark, and the detail is the passes.
@@ -25,8 +25,8 @@ pub extern "C" fn tankcurve_smooth(
     ensures rows_after { rows.new ≡ smooth_rows full minutes.now values.now points.now bandwidths.now rows.old }
 {
     match smooth(minutes, values, points, bandwidths, rows) {
-        Smoothing::Refused(refusal) => refusal_code(refusal),
-        Smoothing::Passes(passes) => DETAIL_UNIT * passes,
+        Err(refusal) => refusal_code(refusal),
+        Ok(passes) => DETAIL_UNIT * passes,
     }
 }
 
@@ -43,8 +43,8 @@ pub extern "C" fn tankcurve_preview(
     ensures rows_after { rows.new ≡ smooth_rows small_limits minutes.now values.now points.now bandwidths.now rows.old }
 {
     match preview(minutes, values, points, bandwidths, rows) {
-        Smoothing::Refused(refusal) => refusal_code(refusal),
-        Smoothing::Passes(n) => DETAIL_UNIT * n,
+        Err(refusal) => refusal_code(refusal),
+        Ok(n) => DETAIL_UNIT * n,
     }
 }
 
@@ -62,7 +62,7 @@ pub extern "C" fn tankcurve_fill(
     ensures bandwidths_after { bandwidths.new ≡ fill_bandwidths full first spacing preset points.old bandwidths.old }
 {
     match fill_grid(first, spacing, preset, points, bandwidths) {
-        Filling::Refused(refusal) => refusal_code(refusal),
-        Filling::Filled => 0,
+        Err(refusal) => refusal_code(refusal),
+        Ok(()) => 0,
     }
 }

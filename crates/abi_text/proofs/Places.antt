@@ -1,17 +1,18 @@
 -- A text is refused as its sheet is, or at 0, and has at most max_output bytes, that of a refusal at most 56. So no answer overflows.
 use Prim.Native.Nat.{ℕ, ◌^◌, ◌≤◌, ◌<◌}
+use Rattle.std.specs.Prelude.{Result, Ok}
+use Rattle.meanings.specs.declared.Refusal.{Refusal}
+use Rattle.meanings.specs.Calls.{answer_of}
 use mathlib.Core.Path.{◌≡◌, refl, sym, ap, ◌∙◌}
 use mathlib.Core.List.{List}
-use mathlib.Core.Option.{Option, none, some}
+use Rattle.std.specs.Prelude.{Option, None, Some}
 use native.Mathlib.Omega.{arith}
 use lib.ListN.{length}
 use Rattle.meanings.specs.Limits.{full, max_sheet, max_output}
 use Rattle.meanings.specs.Reports.{Fault, Answer, given, refused, differ, buffer_checks}
 use Rattle.meanings.specs.Sheet.{or_next}
 use Rattle.meanings.specs.Output.{refusal_text}
-use Rattle.meanings.specs.declared.Writing.{Writing}
-use Rattle.meanings.specs.declared.Writing.TheVariants.{Written}
-use Rattle.meanings.specs.Calls.{writing_answer, buffer_refusal, write_refusal_text}
+use Rattle.meanings.specs.Calls.{buffer_refusal, write_refusal_text}
 use Rattle.meanings.proofs.Checks.{given_accepted}
 use Rattle.laws_output.proofs.Refusals.{any_refusal_fits}
 use Rattle.meanings_ranges.specs.RangeSheet.{RangeContents, read_either}
@@ -32,8 +33,8 @@ unfolding write_either
 write_place s out = by (buffer_refusal out) refl
   where
     by : (f : Option Fault) → buffer_refusal out ≡ f → refusal_place (text_size (or_next f (read_either full s))) ≤ max_sheet
-    by none q = text_place (read_either full s) (sheet_place s)
-    by (some e) q = fault_small (buffer_checks (length out)) (at_start (differ (length out) max_output), λ even. tt) e q
+    by None q = text_place (read_either full s) (sheet_place s)
+    by (Some e) q = fault_small (buffer_checks (length out)) (at_start (differ (length out) max_output), λ even. tt) e q
 
 pub refusal_text_place : (n p : ℕ) (out : List ℕ) → refusal_place (write_refusal_text n p out) ≤ max_sheet
 unfolding write_refusal_text
@@ -53,9 +54,9 @@ unfolding write_either
 size_small s out n q = by (buffer_refusal out) (read_either full s) refl q
   where
     by : (f : Option Fault) (o : Answer RangeContents) → read_either full s ≡ o → text_size (or_next f o) ≡ given n → n ≤ max_output
-    by none (given c) r q = let e : length (contents_text c) ≡ n = cc in omega (arith, e, program_of s c r, either_program_fits s)
-    by none (refused e) r q = let z : ◌≡◌ {A = ℕ} 0 1 = cc in absurd (omega arith)
-    by (some e) o r q = let z : ◌≡◌ {A = ℕ} 0 1 = cc in absurd (omega arith)
+    by None (given c) r q = let e : length (contents_text c) ≡ n = cc in omega (arith, e, program_of s c r, either_program_fits s)
+    by None (refused e) r q = let z : ◌≡◌ {A = ℕ} 0 1 = cc in absurd (omega arith)
+    by (Some e) o r q = let z : ◌≡◌ {A = ℕ} 0 1 = cc in absurd (omega arith)
 
 pub refusal_size_small : (n p : ℕ) (out : List ℕ) (k : ℕ) → n < 2 ^ 64 → p < 2 ^ 64 → write_refusal_text n p out ≡ given k → k ≤ 56
 unfolding write_refusal_text
@@ -63,9 +64,9 @@ refusal_size_small n p out k l m q =
     let a = given_accepted (buffer_refusal out) (length (refusal_text (record { number = n; place = p }))) k q in
     omega (arith, a.1, any_refusal_fits n p l m)
 
-pub text_small : (s out : List ℕ) (r : Writing) (n : ℕ) → writing_answer r ≡ write_either s out → r ≡ Written n → n ≤ max_output
-text_small s out r n answer met = size_small s out n (sym answer ∙ ap writing_answer met)
+pub text_small : (s out : List ℕ) (r : Result ℕ Refusal) (n : ℕ) → answer_of r ≡ write_either s out → r ≡ Ok n → n ≤ max_output
+text_small s out r n answer met = size_small s out n (sym answer ∙ ap answer_of met)
 
-pub refusal_size : (n p : ℕ) (out : List ℕ) (r : Writing) (k : ℕ) → writing_answer r ≡ write_refusal_text n p out → r ≡ Written k
+pub refusal_size : (n p : ℕ) (out : List ℕ) (r : Result ℕ Refusal) (k : ℕ) → answer_of r ≡ write_refusal_text n p out → r ≡ Ok k
     → n < 2 ^ 64 → p < 2 ^ 64 → k ≤ 56
-refusal_size n p out r k answer met l m = refusal_size_small n p out k l m (sym answer ∙ ap writing_answer met)
+refusal_size n p out r k answer met l m = refusal_size_small n p out k l m (sym answer ∙ ap answer_of met)

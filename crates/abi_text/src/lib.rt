@@ -8,7 +8,7 @@ ghost use Rattle.meanings.specs.Codes.{answered};
 ghost use Rattle.meanings_ranges.specs.RangeOutput.{write_either, write_either_buffer};
 
 use abi_answers::refusal_code;
-use meanings::{DETAIL_UNIT, Writing};
+use meanings::DETAIL_UNIT;
 use text_refusal::refusal_text;
 use text_sheet::curve_text;
 
@@ -19,8 +19,8 @@ pub extern "C" fn tankcurve_text(sheet: &[u8], out: &mut [u8]) -> u64
     ensures out_after { out.new ≡ write_either_buffer sheet.now out.old }
 {
     match curve_text(sheet, out) {
-        Writing::Refused(refusal) => refusal_code(refusal),
-        Writing::Written(size) => DETAIL_UNIT * size as u64,
+        Err(refusal) => refusal_code(refusal),
+        Ok(size) => DETAIL_UNIT * size as u64,
     }
 }
 
@@ -31,7 +31,7 @@ pub extern "C" fn tankcurve_refusal_text(number: u64, place: u64, out: &mut [u8]
     ensures out_after { out.new ≡ refusal_buffer number place out.old }
 {
     match refusal_text(number, place, out) {
-        Writing::Refused(refusal) => refusal_code(refusal),
-        Writing::Written(bytes) => DETAIL_UNIT * bytes as u64,
+        Err(refusal) => refusal_code(refusal),
+        Ok(bytes) => DETAIL_UNIT * bytes as u64,
     }
 }

@@ -8,7 +8,6 @@ ghost use Rattle.meanings.specs.Codes.{answered, no_detail};
 ghost use Rattle.abi_answers.specs.Answers.{sized, stored, record_length, record_numbers, record_of as record_meaning};
 
 use abi_answers::{RECORD_LENGTH, put_record, record_of, refusal_code};
-use meanings::Verdict;
 use turn::turn_own;
 
 // The turn. running: nine numbers of any origin, left, right, the six sums s00, s10, s20, s01, s11, s21, and the passes.
@@ -30,8 +29,8 @@ pub extern "C" fn tankcurve_turn(
     let turning = turn_own(record_of(running), minutes, values, point, bandwidth);
     let verdict = turning.verdict;
     match verdict {
-        Verdict::Faulty(refusal) => refusal_code(refusal),
-        Verdict::Fit => {
+        Err(refusal) => refusal_code(refusal),
+        Ok(()) => {
             put_record(running, turning.running);
             0
         }

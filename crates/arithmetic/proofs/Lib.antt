@@ -1,3 +1,2 @@
 pub mod OneSample
-pub mod TwoSums
 pub mod Wrapping

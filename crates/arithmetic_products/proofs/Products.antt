@@ -1,11 +1,10 @@
 -- Products modulo 2^w. A number of two halves times k is, up to whole multiples of 2^(w + w), the lower half's product and the lower half of the
 -- upper half's product, moved up. A factor may be taken modulo 2^w first, so a product of three is had two by two.
-use Rattle.std.proofs.Common.{◌≡◌, ℕ, ◌+◌, ◌*◌, ◌/◌, ◌%◌, ◌^◌, ◌<◌, sym, ap, ◌∙◌, mod-lt, mul_assoc, mul_comm, div-lt_iff_lt-mul, add-mul}
+use Rattle.std.proofs.Common.{◌≡◌, ℕ, ◌+◌, ◌*◌, ◌/◌, ◌%◌, ◌^◌, ◌<◌, sym, ap, ◌∙◌, mul_assoc, mul_comm, add-mul}
 use Rattle.std.proofs.Common.{div-add-mod', mul-add, mul_left_comm, two-mul, arith, pow-add}
 use native.Mathlib.Nat.{div-add-mod, mod-mod}
 use native.Mathlib.Nat.{mod-add-mod, add-mod-mod, add-mul-mod_self_left}
 use Rattle.meanings.specs.Running.{combined, minus}
-use Rattle.arithmetic.proofs.OneSample.{product_fits}
 use Rattle.arithmetic.proofs.Wrapping.{wraps_back_is_minus}
 
 -- with halves q and m of s over the base b, and q k again of two halves
@@ -26,16 +25,6 @@ product_in_halves w k s =
     whole =
         ap (λ (n : ℕ). k * n) (sym (div-add-mod' s (2 ^ w)))
         ∙ regrouped (2 ^ w) k (s / 2 ^ w) (s % 2 ^ w) (s / 2 ^ w * k / 2 ^ w) (s / 2 ^ w * k % 2 ^ w) (div-add-mod' (s / 2 ^ w * k) (2 ^ w))
-
--- 64 bits as two halves of 32
-pub product_of_halves : (k s r : ℕ) → r ≡ (s / 4294967296 * k % 4294967296 * 4294967296 + s % 4294967296 * k) % 2 ^ 64 → r ≡ k * s % 2 ^ 64
-product_of_halves k s r e = e ∙ product_in_halves 32 k s
-
-pub upper_product_fits : (k s : ℕ) → k < 2 ^ 32 → s < 2 ^ 64 → s / 4294967296 * k < 2 ^ 64
-upper_product_fits k s l m = product_fits 32 32 ((div-lt_iff_lt-mul {k = 4294967296} (omega arith)).1 (omega arith)) l
-
-pub lower_product_fits : (k s : ℕ) → k < 2 ^ 32 → s % 4294967296 * k < 2 ^ 64
-lower_product_fits k s l = product_fits 32 32 (mod-lt s {m = 4294967296} (omega arith)) l
 
 -- a factor taken modulo p first
 factor_wraps : (p k n : ℕ) → k * (n % p) % p ≡ k * n % p

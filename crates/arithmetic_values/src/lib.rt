@@ -1,8 +1,9 @@
-// A row's value, and the least minute of a window. Every function takes every input.
+// A row's value, the least minute of a window, and where an edge stands among ordered minutes. Every function takes every input.
 #![tactic(auto)]
 
 ghost use Rattle.std.specs.Prelude.{◌≡◌, ◌-◌};
 ghost use Rattle.meanings.specs.Estimate.{value_of};
+ghost use Rattle.arithmetic_values.specs.Positions.{FirstAtLeast};
 
 // A sum divided by its weight to the nearest whole number, a half to the even neighbour; 65,536 for missing if the weight is 0. The rest is held
 // against what it lacks of the weight, so that nothing is doubled.
@@ -28,7 +29,12 @@ pub fn value(sum: u64, weight: u64) -> u64
 pub fn lowest_minute(point: u16, bandwidth: u32) -> u64
     ensures { result ≡ point - bandwidth }
 {
-    let z = point as u64;
-    let h = bandwidth as u64;
-    if h < z { z - h } else { 0 }
+    (point as u64).saturating_sub(bandwidth as u64)
+}
+
+// Among ordered minutes the first position whose minute is at least `bound`, else their number.
+pub fn first_at_least(minutes: &[u16], bound: u64) -> usize
+    ensures { FirstAtLeast minutes.now bound result }
+{
+    minutes.partition_point(|&time| (time as u64) < bound)
 }

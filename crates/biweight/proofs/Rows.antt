@@ -1,43 +1,33 @@
--- Both searches start at 0, so for ordered minutes they find the row's right and then its left; what is weighed between them makes the row. The call
+-- For ordered minutes both searches find the row's edges; what is weighed between them makes the row. The call
 -- is refused for what its check finds, and else gives that row.
-use Prim.Native.Nat.{ℕ, ◌+◌, ◌-◌, ◌≤◌}
+use Prim.Native.Nat.{ℕ, ◌+◌, ◌-◌}
+use Rattle.std.specs.Prelude.{Result, Ok, Err}
 use mathlib.Core.Path.{◌≡◌, sym, ap, ◌∙◌}
 use mathlib.Core.List.{List}
 use native.Mathlib.Omega.{arith}
-use lib.ListN.{length}
 use Rattle.meanings.specs.declared.Estimate.{Estimate}
 use Rattle.meanings.specs.declared.Limits.{Limits}
 use Rattle.meanings.specs.declared.Refusal.{Refusal}
-use Rattle.meanings.specs.declared.Verdict.{Verdict}
-use Rattle.meanings.specs.declared.Verdict.TheVariants.{Fit, Faulty}
 use Rattle.meanings.specs.Limits.{full}
 use Rattle.meanings.specs.Reports.{given, refused, fault_of, verdict_fault, first_of, size_checks, sample_order_checks, series_checks}
 use Rattle.meanings.specs.Estimate.{left_of, right_of, value_of}
-use Rattle.meanings.specs.Running.{new_left}
 use Rattle.meanings.proofs.Checks.{none_of_both, size_accepts, sample_order_accepts}
-use Rattle.meanings.proofs.Steps.{right_found, left_found}
 use Rattle.meanings.proofs.Window.{left_at_most_right, right_at_most_length}
-use Rattle.estimator.specs.Rows.{FoundFrom}
-use Rattle.estimator.proofs.Searches.{found_from_start, right_is_new, left_is_new}
+use Rattle.arithmetic_values.specs.Positions.{FirstAtLeast}
+use Rattle.arithmetic_values.proofs.Edges.{stands_at_right, stands_at_left}
 use Rattle.meanings_biweight.specs.Biweight.{biweight_bandwidth, biweight_weight, biweight_sum, biweight_row, biweight_refusal, biweight}
 use Rattle.biweight_table.specs.Table.{IsTable}
 use Rattle.biweight.specs.declared.Weighed.{Weighed}
 use Rattle.biweight.specs.Rows as rows
 use Rattle.biweight.specs.Rows.{SeriesAccepted, ShortRun, RowAt}
 
-pub right_within : {ts : List ℕ} {m right : ℕ} → FoundFrom ts 0 (length ts) m right → right ≤ length ts
-right_within f = (found_from_start f).inside
-
-module _ {ts vs : List ℕ} (z : ℕ) {right low left : ℕ} (a : SeriesAccepted ts vs) (f : FoundFrom ts 0 (length ts) (z + biweight_bandwidth + 1) right)
-    (e : low ≡ z - biweight_bandwidth) (g : FoundFrom ts 0 right low left) where
+module _ {ts vs : List ℕ} (z : ℕ) {right low left : ℕ} (a : SeriesAccepted ts vs) (f : FirstAtLeast ts (z + biweight_bandwidth + 1) right)
+    (e : low ≡ z - biweight_bandwidth) (g : FirstAtLeast ts low left) where
   right_is : right ≡ right_of ts z biweight_bandwidth
-  right_is = right_is_new z biweight_bandwidth f ∙ right_found ts z biweight_bandwidth a.ordered 0 (omega arith)
+  right_is = stands_at_right z biweight_bandwidth a.ordered f
 
   left_is : left ≡ left_of ts z biweight_bandwidth
-  left_is =
-      left_is_new z biweight_bandwidth e g
-      ∙ ap (λ (r : ℕ). new_left ts 0 r z biweight_bandwidth) right_is
-      ∙ left_found ts z biweight_bandwidth a.ordered 0 (omega arith)
+  left_is = stands_at_left z biweight_bandwidth a.ordered e g
 
   pub run_short : {ws : List ℕ} → IsTable ws → ShortRun ts vs ws left right
   run_short t =
@@ -67,20 +57,20 @@ module _ {ts vs : List ℕ} (z : ℕ) {right low left : ℕ} (a : SeriesAccepted
       sum_same = o.sum_is ∙ rw (left_is, right_is)
 
 -- the call, by what its check found
-module _ (ts vs : List ℕ) {L : Limits} {v : Verdict} (l : L ≡ full) (f : verdict_fault v ≡ first_of (series_checks L ts vs)) where
-  found : {w : Verdict} → v ≡ w → biweight_refusal full ts vs ≡ verdict_fault w
+module _ (ts vs : List ℕ) {L : Limits} {v : Result Unit Refusal} (l : L ≡ full) (f : verdict_fault v ≡ first_of (series_checks L ts vs)) where
+  found : {w : Result Unit Refusal} → v ≡ w → biweight_refusal full ts vs ≡ verdict_fault w
   found q = sym (ap verdict_fault (sym q) ∙ f ∙ ap (λ (M : Limits). first_of (series_checks M ts vs)) l)
 
-  pub readings_accepted : v ≡ Fit → SeriesAccepted ts vs
+  pub readings_accepted : {unit : Unit {0}} → v ≡ Ok unit → SeriesAccepted ts vs
   readings_accepted q =
       let b = none_of_both (size_checks full ts vs) (sample_order_checks ts) (found q) in
       let s = size_accepts full ts vs b.0 in
       record { even = s.even; few = s.few; ordered = sample_order_accepts ts b.1 }
 
-  pub call_refused : (z : ℕ) {e : Refusal} → v ≡ Faulty e → refused (fault_of e) ≡ biweight full ts vs z
+  pub call_refused : (z : ℕ) {e : Refusal} → v ≡ Err e → refused (fault_of e) ≡ biweight full ts vs z
   unfolding biweight
   call_refused z q = rw (found q)
 
-  pub call_answers : (z : ℕ) {r : Estimate} → v ≡ Fit → RowAt ts vs z r → given r ≡ biweight full ts vs z
+  pub call_answers : (z : ℕ) {r : Estimate} → {unit : Unit {0}} → v ≡ Ok unit → RowAt ts vs z r → given r ≡ biweight full ts vs z
   unfolding biweight
   call_answers z q o = rw (found q) (ap given o.row_is)

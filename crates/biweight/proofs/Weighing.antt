@@ -1,26 +1,23 @@
 -- The pass over the run: before each turn weight and sum are those of the readings from the start up to i. Each weight is at most 720⁴ and each value
 -- below 2^16, so of at most 1,024 readings no sum reaches 2^64.
 use Prim.Native.Nat.{ℕ, suc, ◌+◌, ◌-◌, ◌*◌, ◌^◌, ◌≤◌, ◌<◌}
-use mathlib.Core.Path.{◌≡◌, ap, ◌∙◌}
+use mathlib.Core.Path.{◌≡◌, refl, ap, ◌∙◌}
 use mathlib.Core.List.{List}
 use native.Mathlib.Nat.{le_refl, sub_self, add-sub_of_le, mul-le-mul_left}
 use native.Mathlib.Omega.{arith}
 use mir.Val.{Fits}
 use mir.Syntax.{w16}
 use lib.ListN.{get_or}
+use Rattle.std.specs.Int.{abs_diff}
 use Rattle.meanings.specs.Lists.{distance, total}
 use Rattle.meanings_biweight.specs.Biweight.{biweight_bandwidth, biweight_at}
 use Rattle.meanings_biweight.proofs.Bounds.{biweight_at_most}
 use Rattle.biweight.specs.Rows.{ShortRun, Weighed, weight_term, sum_term}
 
--- the distance of two minutes, by which of them is less
-pub apart_above : (a b : ℕ) → a < b → b - a ≡ distance a b
+-- the library's distance is the meaning's
+apart : (a b : ℕ) → abs_diff a b ≡ distance a b
 unfolding distance
-apart_above a b l = omega arith
-
-pub apart_below : (a b : ℕ) → b ≤ a → a - b ≡ distance a b
-unfolding distance
-apart_below a b l = omega arith
+apart a b = refl
 
 total_grows : (g : ℕ → ℕ) (a i : ℕ) → a ≤ i → total g a (i - a) + g i ≡ total g a (i + 1 - a)
 total_grows g a i l = let n : i + 1 - a ≡ suc (i - a) = omega arith in rw (n, add-sub_of_le l)
@@ -53,12 +50,9 @@ module _ {ts vs ws : List ℕ} {z a b i weight sum : ℕ} (w : WeighedTo ts vs w
   pub run_weighed : b ≤ i → Weighed ts vs z a b (record { weight = weight; sum = sum })
   run_weighed l = let q : b ≡ i = omega (arith, w.upto) in record { weight_is = rw q w.weight_is; sum_is = rw q w.sum_is }
 
-  pub value_wide : get_or vs i 0 < 2 ^ 64
-  value_wide = omega (arith, w.value_fits i)
-
-  module _ {d one : ℕ} (l : i < b) (e : d ≡ distance (get_or ts i 0) z) (f : one ≡ get_or ws d 0) where
+  module _ {d one : ℕ} (l : i < b) (e : d ≡ abs_diff (get_or ts i 0) z) (f : one ≡ get_or ws d 0) where
     one_is : one ≡ weight_term ts z i
-    one_is = f ∙ w.run.table.rule d ∙ ap (biweight_at biweight_bandwidth) e
+    one_is = f ∙ w.run.table.rule d ∙ ap (biweight_at biweight_bandwidth) (e ∙ apart (get_or ts i 0) z)
 
     one_small : one ≤ 268738560000
     one_small = let m = biweight_at_most biweight_bandwidth d in let r = f ∙ w.run.table.rule d in omega arith

@@ -1,6 +1,6 @@
 -- Boxes by two tables of cumulative sums, modulo 2^64. xs and ys are tables; a and b are the first strip of a minute window and the one behind it, c
 -- and d those of a temperature window; fs and es, ls and hs are lists of these; bs is the list of boxes.
-use Rattle.std.specs.Prelude.{◌≡◌, ℕ, ◌+◌, ◌*◌, ◌<◌, ◌≤◌, Bool, true, false, List, [], ◌∷◌, ◌++◌, length, take, slice_index}
+use Rattle.std.specs.Prelude.{◌≡◌, ℕ, ◌+◌, ◌*◌, ◌<◌, ◌≤◌, Bool, true, false, List, [], ◌∷◌, length, slice_index}
 use Rattle.meanings.specs.Running.{plus, minus}
 use Rattle.meanings_boxes.specs.Boxes.{joined}
 
@@ -31,6 +31,11 @@ table_row xs ys a b ls hs m = joined (pair_places xs ys a b ls hs) m
 unfoldable pub table_boxes : List ℕ → List ℕ → List ℕ → List ℕ → ℕ → List ℕ → List ℕ → ℕ → List ℕ
 table_boxes xs ys fs es n ls hs m = joined (λ j. table_row xs ys (slice_index fs j) (slice_index es j) ls hs m) n
 
+-- the first n numbers of a list are strips
+pub record StripList (xs : List ℕ) (n : ℕ) : Type 0 where
+  pub there : n ≤ length xs
+  pub each : (k : ℕ) → k < n → slice_index xs k ≤ 65
+
 -- the first n numbers of both lists are strips
 pub record Strips (fs es : List ℕ) (n : ℕ) : Type 0 where
   pub firsts : n ≤ length fs
@@ -41,21 +46,6 @@ pub record Strips (fs es : List ℕ) (n : ℕ) : Type 0 where
 pub record StripsTested (fs es : List ℕ) (n : ℕ) (r : Bool) : Type 0 where
   pub are : r ≡ true → Strips fs es n
   pub are_not : r ≡ false → ¬ Strips fs es n
-
--- a row can be stored at p
-pub record RowReady (xs ys : List ℕ) (a b : ℕ) (ls hs : List ℕ) (m : ℕ) (bs : List ℕ) (p : ℕ) : Type 0 where
-  pub counts : length xs ≡ 4356
-  pub sums : length ys ≡ 4356
-  pub first : a ≤ 65
-  pub end : b ≤ 65
-  pub others : Strips ls hs m
-  pub room : p + 2 * m ≤ length bs
-  pub few : length bs ≤ 2048
-
--- and has been, behind what stood before p
-pub record RowPut (xs ys : List ℕ) (a b : ℕ) (ls hs : List ℕ) (m : ℕ) (bs₀ : List ℕ) (p : ℕ) (bs : List ℕ) : Type 0 where
-  pub lent : length bs ≡ length bs₀
-  pub stored : take (p + 2 * m) bs ≡ take p bs₀ ++ table_row xs ys a b ls hs m
 
 -- two tables, strips of at most 32 windows of each direction, and two numbers for each pair
 pub record Fitting (xs ys fs es : List ℕ) (n : ℕ) (ls hs : List ℕ) (m : ℕ) (bs : List ℕ) : Type 0 where

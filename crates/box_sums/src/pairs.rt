@@ -1,68 +1,78 @@
 // Boxes by tables of cumulative sums, four numbers each.
 ghost use Rattle.std.specs.Prelude.{◌≡◌};
-ghost use Rattle.box_sums.specs.Pairs.{four_terms, Corners, RowReady, RowPut, Fitting, table_boxes};
+ghost use Rattle.box_sums.specs.Pairs.{four_terms, Corners};
+ghost use Rattle.box_sums.specs.Rows.{RowReady, BoxesFit, row_of, boxes_of};
 
-use std::num::{wrapping_add_u64, wrapping_sub_u64};
+// Tables of cumulative sums: of how many readings lie in each cell, and of their values.
+#[derive(Clone, Copy)]
+pub(crate) struct Tables<'a> {
+    pub(crate) counts: &'a [u64],
+    pub(crate) sums: &'a [u64],
+}
+
+// Windows of one direction: the strips that they begin with, and those that come behind them.
+#[derive(Clone, Copy)]
+pub(crate) struct Windows<'a> {
+    pub(crate) firsts: &'a [usize],
+    pub(crate) ends: &'a [usize],
+}
 
 // The cells from `first` up to but without `end` and from `low` up to but without `high`, added up: what lies below both ends, less what lies below
 // one beginning, and what lies below both beginnings added once again. Modulo 2^64, which is exact wherever the sum fits.
+#[tactic(auto, using(crate::proofs::Storing::four_terms_are))]
 pub(crate) fn box_sum(table: &[u64], first: usize, end: usize, low: usize, high: usize) -> u64
     requires { Corners table.now first end low high }
     ensures { result ≡ four_terms table.now first end low high }
 {
-    let both = wrapping_add_u64(table[66 * end + high], table[66 * first + low]);
-    let rest = wrapping_sub_u64(both, table[66 * first + high]);
-    wrapping_sub_u64(rest, table[66 * end + low])
+    table[66 * end + high]
+        .wrapping_add(table[66 * first + low])
+        .wrapping_sub(table[66 * first + high])
+        .wrapping_sub(table[66 * end + low])
 }
 
-// Count and value sum of one minute mark with each of m temperature marks, stored from `at` on.
+// Count and value sum of one window with each of the other direction.
+#[tactic(auto, using(crate::proofs::Storing::row_none, crate::proofs::Storing::row_goes_on, crate::proofs::Storing::row_ends))]
 pub(crate) fn put_box_row(
-    counts: &[u64],
-    sums: &[u64],
+    tables: Tables,
     first: usize,
     end: usize,
-    lows: &[usize],
-    highs: &[usize],
-    m: usize,
-    boxes: &mut [u64],
-    at: usize,
+    others: Windows,
+    row: &mut [u64],
 )
-    requires { RowReady counts.now sums.now first end lows.now highs.now m boxes.old at }
-    ensures { RowPut counts.now sums.now first end lows.now highs.now m boxes.old at boxes.new }
+    requires { RowReady tables first end others row.old }
+    ensures { row.new ≡ row_of tables.entry first end others.entry }
 {
-    let mut k = 0;
-    while k < m {
-        let low = lows[k];
-        let high = highs[k];
-        let count = box_sum(counts, first, end, low, high);
-        let sum = box_sum(sums, first, end, low, high);
-        boxes[at + 2 * k] = count;
-        boxes[at + 2 * k + 1] = sum;
-        k += 1;
+    for k in 0..others.firsts.len() {
+        let low = others.firsts[k];
+        let high = others.ends[k];
+        let count = box_sum(tables.counts, first, end, low, high);
+        let sum = box_sum(tables.sums, first, end, low, high);
+        row[2 * k] = count;
+        row[2 * k + 1] = sum;
     }
 }
 
-// The same of n minute marks, slowest.
+// The same of every minute window, slowest.
+#[tactic(auto, using(crate::proofs::Storing::rows_begin, crate::proofs::Storing::rows_go_on, crate::proofs::Storing::rows_end, crate::proofs::Storing::row_there))]
 pub(crate) fn put_box_rows(
-    counts: &[u64],
-    sums: &[u64],
-    firsts: &[usize],
-    ends: &[usize],
-    n: usize,
-    lows: &[usize],
-    highs: &[usize],
-    m: usize,
+    tables: Tables,
+    minutes: Windows,
+    temperatures: Windows,
     boxes: &mut [u64],
 )
-    requires { Fitting counts.now sums.now firsts.now ends.now n lows.now highs.now m boxes.old }
-    ensures { boxes.new ≡ table_boxes counts.now sums.now firsts.now ends.now n lows.now highs.now m }
+    requires { BoxesFit tables minutes temperatures boxes.old }
+    ensures { boxes.new ≡ boxes_of tables.entry minutes.entry temperatures.entry }
 {
+    let width = 2 * temperatures.firsts.len();
     let mut at = 0;
-    let mut j = 0;
-    while j < n {
-        let next = at + 2 * m;
-        put_box_row(counts, sums, firsts[j], ends[j], lows, highs, m, boxes, at);
-        at = next;
-        j += 1;
+    for j in 0..minutes.firsts.len() {
+        put_box_row(
+            tables,
+            minutes.firsts[j],
+            minutes.ends[j],
+            temperatures,
+            &mut boxes[at..at + width],
+        );
+        at += width;
     }
 }

@@ -1,8 +1,9 @@
 -- What the functions under the call ask and say. cs and ss are the lists of counts and of value sums, bs is the list of boxes. fs and es hold the
--- strips that minute windows begin with and those behind them, ls and hs those of temperature windows. The first p numbers of ds are minute cuts,
--- the first q of os temperature cuts. Where a function has no readings, what it says holds of all whose cells it has.
+-- strips that minute windows begin with and those behind them, ls and hs those of temperature windows. ds are minute cuts, os temperature cuts.
+-- Where a function has no readings, what it says holds of all whose cells it has.
 use Rattle.std.specs.Prelude.{ℕ, ◌*◌, ◌≤◌, ◌<◌, ◌≡◌, List, length, get_or}
-use Rattle.meanings.specs.declared.Verdict.{Verdict}
+use Rattle.std.specs.Prelude.{Result}
+use Rattle.meanings.specs.declared.Refusal.{Refusal}
 use Rattle.meanings.specs.Reports.{verdict_fault, first_of}
 use Rattle.meanings_boxes.specs.Boxes.{Axis, minute_axis, temperature_axis, one, value, cuts_to, cell_list, box_list, box_checks}
 use Rattle.laws_boxes.specs.Accepted.{BoxesAccepted}
@@ -32,19 +33,18 @@ pub record BoxesByStrips (fs es : List ℕ) (n : ℕ) (ls hs : List ℕ) (m : �
       → bs ≡ box_list A B vs r
 
 -- a direction's marks with half widths and its ranked cuts
-pub record CutsOf (zs hs : List ℕ) (s : ℕ) (ds : List ℕ) (p : ℕ) : Type 0 where
+pub record CutsOf (zs hs : List ℕ) (s : ℕ) (ds : List ℕ) : Type 0 where
   pub even : length zs ≡ length hs
   pub few : length zs ≤ 32
-  pub room : p ≤ length ds
-  pub ranked : Ranked (cuts_to s zs hs (length zs)) ds p
+  pub ranked : Ranked (cuts_to s zs hs (length zs)) ds (length ds)
 
 -- boxes by the cuts of both directions
-pub record BoxesByCuts (zs hs ds : List ℕ) (p : ℕ) (ys ks os : List ℕ) (q : ℕ) (cs ss bs₀ bs : List ℕ) : Type 0 where
-  pub boxes : CutsOf zs hs 65537 ds p → CutsOf ys ks 257 os q → length bs₀ ≡ 2 * length zs * length ys → (ts us vs : List ℕ) (r : ℕ)
+pub record BoxesByCuts (zs hs ds ys ks os cs ss bs₀ bs : List ℕ) : Type 0 where
+  pub boxes : CutsOf zs hs 65537 ds → CutsOf ys ks 257 os → length bs₀ ≡ 2 * length zs * length ys → (ts us vs : List ℕ) (r : ℕ)
       → CellsOf cs ss (minute_axis ts zs hs) (temperature_axis us ys ks) vs r → bs ≡ box_list (minute_axis ts zs hs) (temperature_axis us ys ks) vs r
 
 -- v is what the call is refused for, with lists of b boxes, c counts and s sums
-pub record Judged (ts us vs zs hs ys ks : List ℕ) (b c s : ℕ) (v : Verdict) : Type 0 where
+pub record Judged (ts us vs zs hs ys ks : List ℕ) (b c s : ℕ) (v : Result Unit Refusal) : Type 0 where
   pub refusal : verdict_fault v ≡ first_of (box_checks (minute_axis ts zs hs) (temperature_axis us ys ks) vs b c s)
 
 -- lists that no check refuses

@@ -5,8 +5,8 @@ ghost use Rattle.boxes.specs.Filling.{BoxesByStrips, BoxesByCuts, ListsAccepted,
 use box_sums::put_boxes;
 use cells::fill_cells;
 use cumulative::accumulate;
-use cuts::{minute_cuts, temperature_cuts};
-use windows::{minute_windows, temperature_windows};
+use cuts::put_cuts;
+use windows::put_windows;
 
 // Boxes by the strips of both directions' windows, from tables over both lists of cells.
 pub(crate) fn put_by_strips(
@@ -44,27 +44,24 @@ pub(crate) fn put_by_cuts(
     points: &[u16],
     bandwidths: &[u32],
     cuts: &[u64],
-    n: usize,
     temperature_points: &[u8],
     temperature_bandwidths: &[u32],
     temperature_cuts: &[u64],
-    m: usize,
     counts: &[u32],
     sums: &[u32],
     boxes: &mut [u64],
 )
-    ensures { BoxesByCuts points.now bandwidths.now cuts.now n temperature_points.now temperature_bandwidths.now temperature_cuts.now m counts.now sums.now boxes.old boxes.new }
+    ensures { BoxesByCuts points.now bandwidths.now cuts.now temperature_points.now temperature_bandwidths.now temperature_cuts.now counts.now sums.now boxes.old boxes.new }
 {
     let mut firsts = [0usize; 32];
     let mut ends = [0usize; 32];
     let mut lows = [0usize; 32];
     let mut highs = [0usize; 32];
-    minute_windows(points, bandwidths, cuts, n, &mut firsts, &mut ends);
-    temperature_windows(
+    put_windows(points, bandwidths, cuts, &mut firsts, &mut ends);
+    put_windows(
         temperature_points,
         temperature_bandwidths,
         temperature_cuts,
-        m,
         &mut lows,
         &mut highs,
     );
@@ -99,28 +96,26 @@ pub(crate) fn fill(
 {
     let mut first_cuts = [0u64; 64];
     let mut second_cuts = [0u64; 64];
-    let n = minute_cuts(points, bandwidths, &mut first_cuts);
-    let m = temperature_cuts(temperature_points, temperature_bandwidths, &mut second_cuts);
+    let n = put_cuts(points, bandwidths, &mut first_cuts);
+    let m = put_cuts(temperature_points, temperature_bandwidths, &mut second_cuts);
+    let cuts = &first_cuts[..n];
+    let temperature_cuts = &second_cuts[..m];
     fill_cells(
         minutes,
         temperatures,
         values,
-        &first_cuts,
-        n,
-        &second_cuts,
-        m,
+        cuts,
+        temperature_cuts,
         counts,
         sums,
     );
     put_by_cuts(
         points,
         bandwidths,
-        &first_cuts,
-        n,
+        cuts,
         temperature_points,
         temperature_bandwidths,
-        &second_cuts,
-        m,
+        temperature_cuts,
         counts,
         sums,
         boxes,

@@ -4,12 +4,12 @@
 mod filling;
 
 ghost use Rattle.std.specs.Prelude.{◌≡◌};
-ghost use Rattle.meanings.specs.Calls.{filling_answer};
+ghost use Rattle.meanings.specs.Calls.{answer_of};
 ghost use Rattle.meanings_boxes.specs.Boxes.{minute_axis, temperature_axis, boxes as boxes_meaning, boxes_then, counts_then, sums_then};
 ghost use Rattle.boxes.specs.Filling.{Judged};
 
 use checks_boxes::box_fault;
-use meanings::{Filling, Verdict};
+use meanings::Refusal;
 
 // What the call is refused for.
 fn judged(
@@ -23,7 +23,7 @@ fn judged(
     boxes: usize,
     counts: usize,
     sums: usize,
-) -> Verdict
+) -> Result<(), Refusal>
     ensures { Judged minutes.now temperatures.now values.now points.now bandwidths.now temperature_points.now temperature_bandwidths.now boxes counts sums result }
 {
     box_fault(
@@ -42,6 +42,7 @@ fn judged(
 
 // Fills in two numbers for each pair of marks, minute marks slowest: how many readings lie in the closed box, and the sum of their values. Fills in
 // the count and the value sum of each cell, 65 to a minute strip. Or answers with the report, all three lists as they were.
+#[tactic(auto, unfolding(meanings_boxes::specs::Boxes::boxes, meanings_boxes::specs::Boxes::boxes_then, meanings_boxes::specs::Boxes::counts_then, meanings_boxes::specs::Boxes::sums_then))]
 pub fn boxes(
     minutes: &[u16],
     temperatures: &[u8],
@@ -53,13 +54,13 @@ pub fn boxes(
     boxes: &mut [u64],
     counts: &mut [u32],
     sums: &mut [u32],
-) -> Filling
-    ensures result_value { filling_answer result ≡ boxes_meaning (minute_axis minutes.now points.now bandwidths.now) (temperature_axis temperatures.now temperature_points.now temperature_bandwidths.now) values.now boxes.old counts.old sums.old }
+) -> Result<(), Refusal>
+    ensures result_value { answer_of result ≡ boxes_meaning (minute_axis minutes.now points.now bandwidths.now) (temperature_axis temperatures.now temperature_points.now temperature_bandwidths.now) values.now boxes.old counts.old sums.old }
     ensures boxes_after { boxes.new ≡ boxes_then (minute_axis minutes.now points.now bandwidths.now) (temperature_axis temperatures.now temperature_points.now temperature_bandwidths.now) values.now boxes.old counts.old sums.old }
     ensures counts_after { counts.new ≡ counts_then (minute_axis minutes.now points.now bandwidths.now) (temperature_axis temperatures.now temperature_points.now temperature_bandwidths.now) values.now boxes.old counts.old sums.old }
     ensures sums_after { sums.new ≡ sums_then (minute_axis minutes.now points.now bandwidths.now) (temperature_axis temperatures.now temperature_points.now temperature_bandwidths.now) values.now boxes.old counts.old sums.old }
 {
-    match judged(
+    judged(
         minutes,
         temperatures,
         values,
@@ -70,22 +71,18 @@ pub fn boxes(
         boxes.len(),
         counts.len(),
         sums.len(),
-    ) {
-        Verdict::Faulty(refusal) => Filling::Refused(refusal),
-        Verdict::Fit => {
-            filling::fill(
-                minutes,
-                temperatures,
-                values,
-                points,
-                bandwidths,
-                temperature_points,
-                temperature_bandwidths,
-                boxes,
-                counts,
-                sums,
-            );
-            Filling::Filled
-        }
-    }
+    )?;
+    filling::fill(
+        minutes,
+        temperatures,
+        values,
+        points,
+        bandwidths,
+        temperature_points,
+        temperature_bandwidths,
+        boxes,
+        counts,
+        sums,
+    );
+    Ok(())
 }

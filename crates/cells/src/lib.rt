@@ -4,87 +4,59 @@
 
 mod readings;
 
+ghost use Rattle.std.specs.Prelude.{length};
 ghost use Rattle.cells.specs.Cells.{FitsTested, CellsTried};
 
-// Whether lists can be filled: readings alike in number and at most 1,024, at most 64 cuts a direction, and 4,225 cells in each list.
+// Whether lists of such lengths can be filled: readings alike in number and at most 1,024, at most 64 cuts a direction, and 4,225 cells in each list.
 pub fn fillable(
     minutes: usize,
     temperatures: usize,
     values: usize,
-    cuts: &[u64],
-    n: usize,
-    temperature_cuts: &[u64],
-    m: usize,
+    cuts: usize,
+    temperature_cuts: usize,
     counts: usize,
     sums: usize,
 ) -> bool
-    ensures { FitsTested minutes temperatures values cuts.now n temperature_cuts.now m counts sums result }
+    ensures { FitsTested minutes temperatures values cuts temperature_cuts counts sums result }
 {
-    if minutes != temperatures {
-        return false;
-    }
-    if minutes != values {
-        return false;
-    }
-    if 1024 < minutes {
-        return false;
-    }
-    if 64 < n {
-        return false;
-    }
-    if cuts.len() < n {
-        return false;
-    }
-    if 64 < m {
-        return false;
-    }
-    if temperature_cuts.len() < m {
-        return false;
-    }
-    if counts != 4225 {
-        return false;
-    }
-    if sums != 4225 {
-        return false;
-    }
-    true
+    minutes == temperatures
+        && minutes == values
+        && minutes <= 1024
+        && cuts <= 64
+        && temperature_cuts <= 64
+        && counts == 4225
+        && sums == 4225
 }
 
-// Fills both lists of cells, by the first n of the minute cuts and the first m of the temperature cuts; lists that don't fit stay as they are.
+// Fills both lists of cells, by the cuts of both directions; lists that don't fit stay as they are.
 pub fn fill_cells(
     minutes: &[u16],
     temperatures: &[u8],
     values: &[u16],
     cuts: &[u64],
-    n: usize,
     temperature_cuts: &[u64],
-    m: usize,
     counts: &mut [u32],
     sums: &mut [u32],
 )
-    ensures { CellsTried minutes.now temperatures.now values.now cuts.now n temperature_cuts.now m counts.old sums.old counts.new sums.new }
+    ensures { CellsTried minutes.now temperatures.now values.now cuts.now temperature_cuts.now counts.old sums.old counts.new sums.new }
 {
     if fillable(
         minutes.len(),
         temperatures.len(),
         values.len(),
-        cuts,
-        n,
-        temperature_cuts,
-        m,
+        cuts.len(),
+        temperature_cuts.len(),
         counts.len(),
         sums.len(),
     ) {
-        readings::clear(counts);
-        readings::clear(sums);
+        counts.fill(0);
+        sums.fill(0);
         readings::put_readings(
             minutes,
             temperatures,
             values,
             cuts,
-            n,
             temperature_cuts,
-            m,
             counts,
             sums,
         );

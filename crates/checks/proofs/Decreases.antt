@@ -2,7 +2,7 @@
 use Prim.Native.Nat.{ℕ, ◌+◌, ◌-◌, ◌≤◌, ◌<◌}
 use mathlib.Core.Path.{◌≡◌, sym, ◌∙◌}
 use mathlib.Core.List.{List}
-use mathlib.Core.Option.{none, some}
+use Rattle.std.specs.Prelude.{None, Some}
 use native.Mathlib.Omega.{arith}
 use borrow.Author.Tests.{lt-ltb, le-ltb}
 use lib.ListN.{length, get_or}
@@ -19,7 +19,7 @@ pub one_is_ordered : (xs : List ℕ) → OrderedTo xs 1
 one_is_ordered xs = record { positive = omega arith; none_below = λ j l. let e : j ≡ 0 = omega arith in rw e }
 
 module _ {xs : List ℕ} {i : ℕ} (o : OrderedTo xs i) where
-  pub decrease_found : i < length xs → get_or xs i 0 < get_or xs (i - 1) 0 → some i ≡ lowest (decreases xs) (length xs)
+  pub decrease_found : i < length xs → get_or xs i 0 < get_or xs (i - 1) 0 → Some i ≡ lowest (decreases xs) (length xs)
   decrease_found l t = sym (lowest_at (decreases xs) (length xs) i l (decreases_at xs i o.positive ∙ lt-ltb _ _ t) o.none_below)
 
   pub ordered_goes_on : get_or xs (i - 1) 0 ≤ get_or xs i 0 → OrderedTo xs (i + 1)
@@ -28,5 +28,5 @@ module _ {xs : List ℕ} {i : ℕ} (o : OrderedTo xs i) where
     none_below = one_more_below (decreases xs) i o.none_below (decreases_at xs i o.positive ∙ le-ltb _ _ t);
   }
 
-  pub no_decrease : length xs ≤ i → none ≡ lowest (decreases xs) (length xs)
+  pub no_decrease : length xs ≤ i → None ≡ lowest (decreases xs) (length xs)
   no_decrease l = sym (none_lowest (decreases xs) (length xs) (λ j m. o.none_below j (omega arith)))

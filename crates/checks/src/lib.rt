@@ -4,10 +4,10 @@
 ghost use Rattle.std.specs.Prelude.{◌≡◌, length};
 ghost use Rattle.meanings.specs.Limits.{full as full_limits, preview};
 ghost use Rattle.meanings.specs.Lists.{lowest};
-ghost use Rattle.meanings.specs.Reports.{number, found_position, decreases, outside as outside_meaning, bad_bandwidth, uneven_rows, edge_below};
+ghost use Rattle.meanings.specs.Reports.{number, decreases, outside as outside_meaning, bad_bandwidth, uneven_rows, edge_below};
 ghost use Rattle.checks.specs.ReaderLists.{uneven_lists};
 
-use meanings::{Found, Limits, MAX_BANDWIDTH, Report};
+use meanings::{Limits, MAX_BANDWIDTH, Report};
 
 // The full limits: 1,024 kept readings and 512 marks.
 pub fn full() -> Limits
@@ -55,17 +55,17 @@ pub fn report_number(report: Report) -> u64
 }
 
 // The lowest position whose element is below the one before.
-pub fn first_decrease(xs: &[u16]) -> Found
-    ensures { found_position result ≡ lowest (decreases xs.now) (length xs.now) }
+pub fn first_decrease(xs: &[u16]) -> Option<usize>
+    ensures { result ≡ lowest (decreases xs.now) (length xs.now) }
 {
     let mut i = 1;
     while i < xs.len() {
         if xs[i] < xs[i - 1] {
-            return Found::At(i);
+            return Some(i);
         }
         i += 1;
     }
-    Found::Nothing
+    None
 }
 
 // Whether a half width is 0 or over the greatest one.

@@ -4,13 +4,13 @@
 ghost use Rattle.std.specs.Prelude.{◌*◌, ◌≡◌, ◌++◌, length};
 ghost use Rattle.meanings.specs.Limits.{max_bandwidth};
 ghost use Rattle.meanings.specs.Lists.{lowest};
-ghost use Rattle.meanings.specs.Reports.{verdict_fault, found_position, first_of, differ, decreases, point_order_checks, bandwidth_list_checks};
+ghost use Rattle.meanings.specs.Reports.{verdict_fault, first_of, differ, decreases, point_order_checks, bandwidth_list_checks};
 ghost use Rattle.meanings_boxes.specs.Boxes.{max_temperature_bandwidth, minute_axis, temperature_axis, box_limits, uneven_boxes, box_size_checks};
 ghost use Rattle.meanings_boxes.specs.Boxes.{second_order_checks, box_checks};
 
 use checks::{first_decrease, uneven_rows};
 use checks_curve::first_out_of_range;
-use meanings::{Found, MAX_BANDWIDTH, Refusal, Report, Verdict};
+use meanings::{MAX_BANDWIDTH, Refusal, Report};
 use meanings_boxes::MAX_TEMPERATURE_BANDWIDTH;
 
 // Whether a list has other than two places for each pair of marks. No product is made, so none wraps.
@@ -74,7 +74,7 @@ pub fn box_size_fault(
     boxes: usize,
     counts: usize,
     sums: usize,
-) -> Verdict
+) -> Result<(), Refusal>
     ensures { verdict_fault result ≡ first_of (box_size_checks box_limits (minute_axis minutes.now points.now bandwidths.now) (temperature_axis temperatures.now temperature_points.now temperature_bandwidths.now) values.now boxes counts sums) }
 {
     if uneven_lengths(
@@ -89,97 +89,64 @@ pub fn box_size_fault(
         counts,
         sums,
     ) {
-        return Verdict::Faulty(Refusal {
-            report: Report::LengthMismatch,
-            place: 0,
-        });
+        return Err(Report::LengthMismatch.at(0));
     }
     if 1024 < minutes.len() {
-        return Verdict::Faulty(Refusal {
-            report: Report::TooMany,
-            place: 0,
-        });
+        return Err(Report::TooMany.at(0));
     }
     if 32 < points.len() {
-        return Verdict::Faulty(Refusal {
-            report: Report::TooMany,
-            place: 0,
-        });
+        return Err(Report::TooMany.at(0));
     }
     if 32 < temperature_points.len() {
-        return Verdict::Faulty(Refusal {
-            report: Report::TooMany,
-            place: 0,
-        });
+        return Err(Report::TooMany.at(0));
     }
     if points.len() == 0 {
-        return Verdict::Faulty(Refusal {
-            report: Report::NoPoints,
-            place: 0,
-        });
+        return Err(Report::NoPoints.at(0));
     }
     if temperature_points.len() == 0 {
-        return Verdict::Faulty(Refusal {
-            report: Report::NoPoints,
-            place: 0,
-        });
+        return Err(Report::NoPoints.at(0));
     }
-    Verdict::Fit
+    Ok(())
 }
 
 // The lowest position whose byte is below the one before.
-pub fn first_byte_decrease(xs: &[u8]) -> Found
-    ensures { found_position result ≡ lowest (decreases xs.now) (length xs.now) }
+pub fn first_byte_decrease(xs: &[u8]) -> Option<usize>
+    ensures { result ≡ lowest (decreases xs.now) (length xs.now) }
 {
     let mut i = 1;
     while i < xs.len() {
         if xs[i] < xs[i - 1] {
-            return Found::At(i);
+            return Some(i);
         }
         i += 1;
     }
-    Found::Nothing
+    None
 }
 
 // What the orders of both directions' marks earn: 5, 17.
-pub fn mark_order_fault(points: &[u16], temperature_points: &[u8]) -> Verdict
+pub fn mark_order_fault(points: &[u16], temperature_points: &[u8]) -> Result<(), Refusal>
     ensures { verdict_fault result ≡ first_of (point_order_checks points.now ++ second_order_checks temperature_points.now) }
 {
-    match first_decrease(points) {
-        Found::At(i) => Verdict::Faulty(Refusal {
-            report: Report::PointOutOfOrder,
-            place: i,
-        }),
-        Found::Nothing => match first_byte_decrease(temperature_points) {
-            Found::At(i) => Verdict::Faulty(Refusal {
-                report: Report::TemperatureOutOfOrder,
-                place: i,
-            }),
-            Found::Nothing => Verdict::Fit,
-        },
+    if let Some(i) = first_decrease(points) {
+        return Err(Report::PointOutOfOrder.at(i));
     }
+    if let Some(i) = first_byte_decrease(temperature_points) {
+        return Err(Report::TemperatureOutOfOrder.at(i));
+    }
+    Ok(())
 }
 
 // What the half widths of both directions earn, each by its own greatest one: 9.
-pub fn half_width_fault(bandwidths: &[u32], temperature_bandwidths: &[u32]) -> Verdict
+pub fn half_width_fault(bandwidths: &[u32], temperature_bandwidths: &[u32]) -> Result<(), Refusal>
     ensures { verdict_fault result ≡ first_of (bandwidth_list_checks max_bandwidth bandwidths.now ++ bandwidth_list_checks max_temperature_bandwidth temperature_bandwidths.now) }
 {
-    match first_out_of_range(bandwidths, MAX_BANDWIDTH) {
-        Found::At(i) => Verdict::Faulty(Refusal {
-            report: Report::BandwidthOutOfRange,
-            place: i,
-        }),
-        Found::Nothing => match first_out_of_range(
-            temperature_bandwidths,
-            MAX_TEMPERATURE_BANDWIDTH,
-        ) {
-            Found::At(i) => Verdict::Faulty(Refusal {
-                report: Report::BandwidthOutOfRange,
-                place: i,
-            }),
-            Found::Nothing => Verdict::Fit,
-        },
+    if let Some(i) = first_out_of_range(bandwidths, MAX_BANDWIDTH) {
+        return Err(Report::BandwidthOutOfRange.at(i));
     }
+    if let Some(i) = first_out_of_range(temperature_bandwidths, MAX_TEMPERATURE_BANDWIDTH) {
+        return Err(Report::BandwidthOutOfRange.at(i));
+    }
+    Ok(())
 }
 
 // What the call is refused for, with so many numbers in its three lists: 8, 6, 7, 5, 17, 9.
@@ -194,10 +161,10 @@ pub fn box_fault(
     boxes: usize,
     counts: usize,
     sums: usize,
-) -> Verdict
+) -> Result<(), Refusal>
     ensures { verdict_fault result ≡ first_of (box_checks (minute_axis minutes.now points.now bandwidths.now) (temperature_axis temperatures.now temperature_points.now temperature_bandwidths.now) values.now boxes counts sums) }
 {
-    match box_size_fault(
+    box_size_fault(
         minutes,
         temperatures,
         values,
@@ -208,11 +175,7 @@ pub fn box_fault(
         boxes,
         counts,
         sums,
-    ) {
-        Verdict::Faulty(refusal) => Verdict::Faulty(refusal),
-        Verdict::Fit => match mark_order_fault(points, temperature_points) {
-            Verdict::Faulty(refusal) => Verdict::Faulty(refusal),
-            Verdict::Fit => half_width_fault(bandwidths, temperature_bandwidths),
-        },
-    }
+    )?;
+    mark_order_fault(points, temperature_points)?;
+    half_width_fault(bandwidths, temperature_bandwidths)
 }

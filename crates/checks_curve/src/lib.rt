@@ -4,25 +4,25 @@
 
 ghost use Rattle.std.specs.Prelude.{◌≡◌, ◌||◌, length};
 ghost use Rattle.meanings.specs.Lists.{lowest};
-ghost use Rattle.meanings.specs.Reports.{verdict_fault, found_position, first_of, outside_at, uneven_samples, uneven_points};
+ghost use Rattle.meanings.specs.Reports.{verdict_fault, first_of, outside_at, uneven_samples, uneven_points};
 ghost use Rattle.meanings.specs.Reports.{curve_size_checks, order_checks};
 ghost use Rattle.checks_curve.specs.Verdicts.{SizesJudged};
 
 use checks::{first_decrease, outside};
-use meanings::{Found, Limits, Refusal, Report, Verdict};
+use meanings::{Limits, Refusal, Report};
 
 // The lowest position whose half width is 0 or over the greatest one.
-pub fn first_out_of_range(bandwidths: &[u32], most: u32) -> Found
-    ensures { found_position result ≡ lowest (outside_at most bandwidths.now) (length bandwidths.now) }
+pub fn first_out_of_range(bandwidths: &[u32], most: u32) -> Option<usize>
+    ensures { result ≡ lowest (outside_at most bandwidths.now) (length bandwidths.now) }
 {
     let mut i = 0;
     while i < bandwidths.len() {
         if outside(bandwidths[i], most) {
-            return Found::At(i);
+            return Some(i);
         }
         i += 1;
     }
-    Found::Nothing
+    None
 }
 
 // Whether the lengths of readings and marks don't agree, or those of one more list, as `more` says.
@@ -52,7 +52,7 @@ pub fn curve_size_fault(
     bandwidths: &[u32],
     more: bool,
     limits: Limits,
-) -> Verdict
+) -> Result<(), Refusal>
     ensures { verdict_fault result ≡ first_of (curve_size_checks limits minutes.now values.now points.now bandwidths.now more) }
 {
     sizes_judged(minutes, values, points, bandwidths, more, limits)
@@ -66,51 +66,33 @@ pub(crate) fn sizes_judged(
     bandwidths: &[u32],
     more: bool,
     limits: Limits,
-) -> Verdict
+) -> Result<(), Refusal>
     ensures { SizesJudged limits minutes.now values.now points.now bandwidths.now more result }
 {
     if uneven(minutes, values, points, bandwidths, more) {
-        return Verdict::Faulty(Refusal {
-            report: Report::LengthMismatch,
-            place: 0,
-        });
+        return Err(Report::LengthMismatch.at(0));
     }
     if limits.samples < minutes.len() {
-        return Verdict::Faulty(Refusal {
-            report: Report::TooMany,
-            place: 0,
-        });
+        return Err(Report::TooMany.at(0));
     }
     if limits.points < points.len() {
-        return Verdict::Faulty(Refusal {
-            report: Report::TooMany,
-            place: 0,
-        });
+        return Err(Report::TooMany.at(0));
     }
     if points.len() == 0 {
-        return Verdict::Faulty(Refusal {
-            report: Report::NoPoints,
-            place: 0,
-        });
+        return Err(Report::NoPoints.at(0));
     }
-    Verdict::Fit
+    Ok(())
 }
 
 // What the order of minutes and of marks earns: 4, 5.
-pub fn order_fault(minutes: &[u16], points: &[u16]) -> Verdict
+pub fn order_fault(minutes: &[u16], points: &[u16]) -> Result<(), Refusal>
     ensures { verdict_fault result ≡ first_of (order_checks minutes.now points.now) }
 {
-    match first_decrease(minutes) {
-        Found::At(i) => Verdict::Faulty(Refusal {
-            report: Report::SampleOutOfOrder,
-            place: i,
-        }),
-        Found::Nothing => match first_decrease(points) {
-            Found::At(i) => Verdict::Faulty(Refusal {
-                report: Report::PointOutOfOrder,
-                place: i,
-            }),
-            Found::Nothing => Verdict::Fit,
-        },
+    if let Some(i) = first_decrease(minutes) {
+        return Err(Report::SampleOutOfOrder.at(i));
     }
+    if let Some(i) = first_decrease(points) {
+        return Err(Report::PointOutOfOrder.at(i));
+    }
+    Ok(())
 }

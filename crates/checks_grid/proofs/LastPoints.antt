@@ -2,7 +2,7 @@
 use Prim.Native.Nat.{ℕ, suc, ◌+◌, ◌-◌, ◌*◌, ◌/◌, ◌%◌, ◌^◌, ◌≤◌, ◌<◌}
 use mathlib.Core.Path.{◌≡◌, refl, sym, ◌∙◌}
 use mathlib.Core.Bool.{Bool, true, false}
-use mathlib.Core.Option.{some, none}
+use Rattle.std.specs.Prelude.{Some, None}
 use native.Mathlib.Nat.{mul-zero, zero-mul, mul-le-mul_right, suc-mul, div-add-mod', mod-lt}
 use native.Mathlib.Omega.{arith}
 use borrow.Author.Tests.{ltb-true, ltb-false, lt-ltb, le-ltb, lt-leb, ne_eqb}
@@ -49,8 +49,8 @@ module _ (z d n : ℕ) (l : z < 2 ^ 16) where
 -- the last of the filler's tests, where those before it have failed
 module _ (L : Limits) (z d preset n m : ℕ) (e : n ≡ m) (p : n ≡ 0 → ⊥) (f : n ≤ L.points) (k : preset < 12) {b : Bool}
     (t : b ≡ ltb max_u16 (z + (n - 1) * d)) where
-  pub fill_past : b ≡ true → some (record { number = 13; place = 0 }) ≡ first_of (fill_checks L (length presets) z d preset n m)
+  pub fill_past : b ≡ true → Some (record { number = 13; place = 0 }) ≡ first_of (fill_checks L (length presets) z d preset n m)
   fill_past q = rw (differ_same n m e, ne_eqb n 0 p, le-ltb L.points n f, lt-leb 12 preset k, sym t ∙ q)
 
-  pub fill_fits : b ≡ false → none ≡ first_of (fill_checks L (length presets) z d preset n m)
+  pub fill_fits : b ≡ false → None ≡ first_of (fill_checks L (length presets) z d preset n m)
   fill_fits q = rw (differ_same n m e, ne_eqb n 0 p, le-ltb L.points n f, lt-leb 12 preset k, sym t ∙ q)

@@ -6,7 +6,7 @@ ghost use Rattle.meanings.specs.Limits.{max_u16};
 ghost use Rattle.meanings.specs.Reports.{verdict_fault, first_of, fill_checks};
 ghost use Rattle.meanings.specs.Grid.{presets};
 
-use meanings::{Limits, Refusal, Report, Verdict};
+use meanings::{Limits, Refusal, Report};
 
 // Whether the last of n marks is past the greatest one. No product is made, so none wraps.
 pub fn past_last(first: u16, spacing: u16, n: usize) -> bool
@@ -30,38 +30,23 @@ pub fn fill_fault(
     n: usize,
     m: usize,
     limits: Limits,
-) -> Verdict
+) -> Result<(), Refusal>
     ensures { verdict_fault result ≡ first_of (fill_checks limits (length presets) first spacing preset n m) }
 {
     if n != m {
-        return Verdict::Faulty(Refusal {
-            report: Report::LengthMismatch,
-            place: 0,
-        });
+        return Err(Report::LengthMismatch.at(0));
     }
     if n == 0 {
-        return Verdict::Faulty(Refusal {
-            report: Report::NoPoints,
-            place: 0,
-        });
+        return Err(Report::NoPoints.at(0));
     }
     if limits.points < n {
-        return Verdict::Faulty(Refusal {
-            report: Report::TooMany,
-            place: 0,
-        });
+        return Err(Report::TooMany.at(0));
     }
     if 12 <= preset {
-        return Verdict::Faulty(Refusal {
-            report: Report::UnknownPreset,
-            place: 0,
-        });
+        return Err(Report::UnknownPreset.at(0));
     }
     if past_last(first, spacing, n) {
-        return Verdict::Faulty(Refusal {
-            report: Report::GridOverflow,
-            place: 0,
-        });
+        return Err(Report::GridOverflow.at(0));
     }
-    Verdict::Fit
+    Ok(())
 }

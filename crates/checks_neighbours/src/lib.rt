@@ -7,25 +7,19 @@ ghost use Rattle.meanings_neighbours.specs.Neighbours.{too_few_checks, neighbour
 
 use checks::uneven_rows;
 use checks_curve::{curve_size_fault, order_fault};
-use meanings::{Limits, ROW_WIDTH, Refusal, Report, Verdict};
+use meanings::{Limits, ROW_WIDTH, Refusal, Report};
 
 // What K earns over so many readings: 14.
-pub fn too_few_fault(samples: usize, k: usize) -> Verdict
+pub fn too_few_fault(samples: usize, k: usize) -> Result<(), Refusal>
     ensures { verdict_fault result ≡ first_of (too_few_checks samples k) }
 {
     if k == 0 {
-        return Verdict::Faulty(Refusal {
-            report: Report::TooFewSamples,
-            place: 0,
-        });
+        return Err(Report::TooFewSamples.at(0));
     }
     if samples < k {
-        return Verdict::Faulty(Refusal {
-            report: Report::TooFewSamples,
-            place: 0,
-        });
+        return Err(Report::TooFewSamples.at(0));
     }
-    Verdict::Fit
+    Ok(())
 }
 
 // What the call is refused for, with so many numbers for its rows: 8, 6, 7, 4, 5, 14.
@@ -37,15 +31,11 @@ pub fn neighbours_fault(
     bandwidths: &[u32],
     rows: usize,
     limits: Limits,
-) -> Verdict
+) -> Result<(), Refusal>
     ensures { verdict_fault result ≡ first_of (neighbours_checks limits minutes.now values.now points.now k bandwidths.now rows) }
 {
     let more = uneven_rows(rows, ROW_WIDTH, points.len());
-    match curve_size_fault(minutes, values, points, bandwidths, more, limits) {
-        Verdict::Faulty(refusal) => Verdict::Faulty(refusal),
-        Verdict::Fit => match order_fault(minutes, points) {
-            Verdict::Faulty(refusal) => Verdict::Faulty(refusal),
-            Verdict::Fit => too_few_fault(minutes.len(), k),
-        },
-    }
+    curve_size_fault(minutes, values, points, bandwidths, more, limits)?;
+    order_fault(minutes, points)?;
+    too_few_fault(minutes.len(), k)
 }

@@ -1,31 +1,21 @@
 -- What a check of the code found is what the comparison's list of checks says, in its order.
 use Prim.Native.Nat.{ℕ}
+use Rattle.std.specs.Prelude.{Result, Ok, Err}
 use mathlib.Core.Path.{◌≡◌, sym, ap, ◌∙◌}
 use mathlib.Core.Bool.{false}
 use mathlib.Core.List.{List}
-use mathlib.Core.Option.{Option, none, some}
+use Rattle.std.specs.Prelude.{Option, None, Some}
 use Rattle.meanings.specs.declared.Limits.{Limits}
 use Rattle.meanings.specs.declared.Refusal.{Refusal}
-use Rattle.meanings.specs.declared.Verdict.{Verdict}
-use Rattle.meanings.specs.declared.Verdict.TheVariants.{Fit, Faulty}
 use Rattle.meanings.specs.Reports.{Fault, fault_of, verdict_fault, fault_or, first_of, series_checks, curve_checks}
 use Rattle.meanings.proofs.Checks.{found_in_front, found_behind}
 use Rattle.meanings_pair.specs.Comparison.{fault_place, second_checks, compare_checks}
 
-module _ (L : Limits) (us ws : List ℕ) {v : Verdict} (f : verdict_fault v ≡ first_of (series_checks L us ws)) where
+module _ (L : Limits) (us ws : List ℕ) {v : Result Unit Refusal} (f : verdict_fault v ≡ first_of (series_checks L us ws)) where
   -- whatever the lists earn is told as 16, at its own place
-  as_second : {w : Verdict} → v ≡ w → fault_or 16 (fault_place (verdict_fault w)) none ≡ first_of (second_checks L us ws)
-  as_second q = ap (λ (o : Option Fault). fault_or 16 (fault_place o) none) (sym (ap verdict_fault q) ∙ f)
+  as_second : {w : Result Unit Refusal} → v ≡ w → fault_or 16 (fault_place (verdict_fault w)) None ≡ first_of (second_checks L us ws)
+  as_second q = ap (λ (o : Option Fault). fault_or 16 (fault_place o) None) (sym (ap verdict_fault q) ∙ f)
 
-  pub second_unfit : {e : Refusal} → v ≡ Faulty e → some (record { number = 16; place = e.place }) ≡ first_of (second_checks L us ws)
-  second_unfit q = as_second q
-
-  pub second_fit : v ≡ Fit → none ≡ first_of (second_checks L us ws)
-  second_fit q = as_second q
-
-module _ (L : Limits) (ts vs us ws zs hs : List ℕ) {v : Verdict} (f : verdict_fault v ≡ first_of (curve_checks L ts vs zs hs false)) where
-  pub first_decides : {e : Refusal} → v ≡ Faulty e → some (fault_of e) ≡ first_of (compare_checks L ts vs us ws zs hs)
+module _ (L : Limits) (ts vs us ws zs hs : List ℕ) {v : Result Unit Refusal} (f : verdict_fault v ≡ first_of (curve_checks L ts vs zs hs false)) where
+  pub first_decides : {e : Refusal} → v ≡ Err e → Some (fault_of e) ≡ first_of (compare_checks L ts vs us ws zs hs)
   first_decides {e} q = found_in_front (curve_checks L ts vs zs hs false) (second_checks L us ws) v e f q
-
-  pub second_decides : {o : Option Fault} → v ≡ Fit → o ≡ first_of (second_checks L us ws) → o ≡ first_of (compare_checks L ts vs us ws zs hs)
-  second_decides {o} q s = found_behind (curve_checks L ts vs zs hs false) (second_checks L us ws) v o f q s

@@ -7,19 +7,13 @@ ghost use Rattle.meanings_pair.specs.Comparison.{second_checks, compare_checks};
 
 use checks_series::series_fault;
 use checks_smooth::curve_fault;
-use meanings::{Limits, Refusal, Report, Verdict};
+use meanings::{Limits, Refusal, Report};
 
 // What the second tank's lists earn: 16, at the place of the first of 8, 6 and 4.
-pub fn second_fault(minutes: &[u16], values: &[u16], limits: Limits) -> Verdict
+pub fn second_fault(minutes: &[u16], values: &[u16], limits: Limits) -> Result<(), Refusal>
     ensures { verdict_fault result ≡ first_of (second_checks limits minutes.now values.now) }
 {
-    match series_fault(minutes, values, limits) {
-        Verdict::Faulty(refusal) => Verdict::Faulty(Refusal {
-            report: Report::SecondSeries,
-            place: refusal.place,
-        }),
-        Verdict::Fit => Verdict::Fit,
-    }
+    series_fault(minutes, values, limits).map_err(|refusal| Report::SecondSeries.at(refusal.place))
 }
 
 // What the comparison is refused for: 8, 6, 7, 4, 5, 9, 10 with the first tank, then 16.
@@ -31,11 +25,9 @@ pub fn compare_fault(
     points: &[u16],
     bandwidths: &[u32],
     limits: Limits,
-) -> Verdict
+) -> Result<(), Refusal>
     ensures { verdict_fault result ≡ first_of (compare_checks limits minutes1.now values1.now minutes2.now values2.now points.now bandwidths.now) }
 {
-    match curve_fault(minutes1, values1, points, bandwidths, false, limits) {
-        Verdict::Faulty(refusal) => Verdict::Faulty(refusal),
-        Verdict::Fit => second_fault(minutes2, values2, limits),
-    }
+    curve_fault(minutes1, values1, points, bandwidths, false, limits)?;
+    second_fault(minutes2, values2, limits)
 }

@@ -5,16 +5,18 @@ ghost use Rattle.std.specs.Prelude.{◌≡◌};
 ghost use Rattle.meanings.specs.Reports.{verdict_fault, first_of, evaluate_checks, advance_checks, turn_checks};
 
 use checks_series::{bandwidth_fault, record_fault, series_fault, size_fault};
-use meanings::{Limits, Verdict};
+use meanings::{Limits, Refusal};
 
 // What the question at one mark is refused for: 8, 6, 4, 9.
-pub fn evaluate_fault(minutes: &[u16], values: &[u16], bandwidth: u32, limits: Limits) -> Verdict
+pub fn evaluate_fault(
+    minutes: &[u16],
+    values: &[u16],
+    bandwidth: u32,
+    limits: Limits,
+) -> Result<(), Refusal>
     ensures { verdict_fault result ≡ first_of (evaluate_checks limits minutes.now values.now bandwidth) }
 {
-    match series_fault(minutes, values, limits) {
-        Verdict::Faulty(refusal) => Verdict::Faulty(refusal),
-        Verdict::Fit => bandwidth_fault(bandwidth),
-    }
+    series_fault(minutes, values, limits).and_then(|()| bandwidth_fault(bandwidth))
 }
 
 // What a step is refused for, on a record with these edges: 8, 6, 11, 9.
@@ -25,16 +27,12 @@ pub fn advance_fault(
     right: usize,
     bandwidth: u32,
     limits: Limits,
-) -> Verdict
+) -> Result<(), Refusal>
     ensures { verdict_fault result ≡ first_of (advance_checks limits minutes.now values.now left right bandwidth) }
 {
-    match size_fault(minutes, values, limits) {
-        Verdict::Faulty(refusal) => Verdict::Faulty(refusal),
-        Verdict::Fit => match record_fault(minutes.len(), left, right) {
-            Verdict::Faulty(refusal) => Verdict::Faulty(refusal),
-            Verdict::Fit => bandwidth_fault(bandwidth),
-        },
-    }
+    size_fault(minutes, values, limits)?;
+    record_fault(minutes.len(), left, right)?;
+    bandwidth_fault(bandwidth)
 }
 
 // What a turn is refused for, of a record with these edges: 8, 6, 4, 11, 9.
@@ -45,16 +43,10 @@ pub fn turn_fault(
     right: usize,
     bandwidth: u32,
     limits: Limits,
-) -> Verdict
+) -> Result<(), Refusal>
     ensures { verdict_fault result ≡ first_of (turn_checks limits minutes.now values.now left right bandwidth) }
 {
-    let series = series_fault(minutes, values, limits);
-    let samples = minutes.len();
-    match series {
-        Verdict::Faulty(refusal) => Verdict::Faulty(refusal),
-        Verdict::Fit => match record_fault(samples, left, right) {
-            Verdict::Faulty(refusal) => Verdict::Faulty(refusal),
-            Verdict::Fit => bandwidth_fault(bandwidth),
-        },
-    }
+    series_fault(minutes, values, limits)?;
+    record_fault(minutes.len(), left, right)?;
+    bandwidth_fault(bandwidth)
 }

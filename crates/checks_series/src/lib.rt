@@ -5,71 +5,51 @@ ghost use Rattle.std.specs.Prelude.{◌≡◌};
 ghost use Rattle.meanings.specs.Reports.{verdict_fault, first_of, size_checks, series_checks, record_checks, bandwidth_checks};
 
 use checks::{first_decrease, out_of_range};
-use meanings::{Found, Limits, Refusal, Report, Verdict};
+use meanings::{Limits, Refusal, Report};
 
 // What the lengths of readings earn: 8, 6.
-pub fn size_fault(minutes: &[u16], values: &[u16], limits: Limits) -> Verdict
+pub fn size_fault(minutes: &[u16], values: &[u16], limits: Limits) -> Result<(), Refusal>
     ensures { verdict_fault result ≡ first_of (size_checks limits minutes.now values.now) }
 {
     if minutes.len() != values.len() {
-        return Verdict::Faulty(Refusal {
-            report: Report::LengthMismatch,
-            place: 0,
-        });
+        return Err(Report::LengthMismatch.at(0));
     }
     if limits.samples < minutes.len() {
-        return Verdict::Faulty(Refusal {
-            report: Report::TooMany,
-            place: 0,
-        });
+        return Err(Report::TooMany.at(0));
     }
-    Verdict::Fit
+    Ok(())
 }
 
 // What the lengths and the order of readings earn: 8, 6, 4.
-pub fn series_fault(minutes: &[u16], values: &[u16], limits: Limits) -> Verdict
+pub fn series_fault(minutes: &[u16], values: &[u16], limits: Limits) -> Result<(), Refusal>
     ensures { verdict_fault result ≡ first_of (series_checks limits minutes.now values.now) }
 {
-    match size_fault(minutes, values, limits) {
-        Verdict::Faulty(refusal) => Verdict::Faulty(refusal),
-        Verdict::Fit => match first_decrease(minutes) {
-            Found::At(i) => Verdict::Faulty(Refusal {
-                report: Report::SampleOutOfOrder,
-                place: i,
-            }),
-            Found::Nothing => Verdict::Fit,
-        },
+    size_fault(minutes, values, limits)?;
+    if let Some(i) = first_decrease(minutes) {
+        return Err(Report::SampleOutOfOrder.at(i));
     }
+    Ok(())
 }
 
 // What a record's edges earn over so many readings: 11.
-pub fn record_fault(samples: usize, left: usize, right: usize) -> Verdict
+pub fn record_fault(samples: usize, left: usize, right: usize) -> Result<(), Refusal>
     ensures { verdict_fault result ≡ first_of (record_checks samples left right) }
 {
     if right < left {
-        return Verdict::Faulty(Refusal {
-            report: Report::InvalidRecord,
-            place: 0,
-        });
+        return Err(Report::InvalidRecord.at(0));
     }
     if samples < right {
-        return Verdict::Faulty(Refusal {
-            report: Report::InvalidRecord,
-            place: 0,
-        });
+        return Err(Report::InvalidRecord.at(0));
     }
-    Verdict::Fit
+    Ok(())
 }
 
 // What one half width earns: 9.
-pub fn bandwidth_fault(bandwidth: u32) -> Verdict
+pub fn bandwidth_fault(bandwidth: u32) -> Result<(), Refusal>
     ensures { verdict_fault result ≡ first_of (bandwidth_checks bandwidth) }
 {
     if out_of_range(bandwidth) {
-        return Verdict::Faulty(Refusal {
-            report: Report::BandwidthOutOfRange,
-            place: 0,
-        });
+        return Err(Report::BandwidthOutOfRange.at(0));
     }
-    Verdict::Fit
+    Ok(())
 }

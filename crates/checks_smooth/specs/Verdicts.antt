@@ -1,14 +1,14 @@
 -- What the functions under the public checks say of their lists.
 use Rattle.std.specs.Prelude.{ℕ, ◌≡◌, List, length}
-use Rattle.meanings.specs.declared.Found.{Found}
-use Rattle.meanings.specs.declared.Verdict.{Verdict}
+use Rattle.std.specs.Prelude.{Option, Result}
+use Rattle.meanings.specs.declared.Refusal.{Refusal}
 use Rattle.meanings.specs.Lists.{lowest}
-use Rattle.meanings.specs.Reports.{verdict_fault, found_position, first_of, edge_decreases, windows_checks}
+use Rattle.meanings.specs.Reports.{verdict_fault, first_of, edge_decreases, windows_checks}
 
 -- v is what the windows of the marks earn
-pub record WindowsJudged (zs hs : List ℕ) (v : Verdict) : Type 0 where
+pub record WindowsJudged (zs hs : List ℕ) (v : Result Unit Refusal) : Type 0 where
   pub refusal : verdict_fault v ≡ first_of (windows_checks zs hs)
 
 -- f is the lowest position at which an edge lies below the one before
-pub record FirstEdgeBack (zs hs : List ℕ) (f : Found) : Type 0 where
-  pub lowest_is : found_position f ≡ lowest (edge_decreases zs hs) (length zs)
+pub record FirstEdgeBack (zs hs : List ℕ) (f : Option ℕ) : Type 0 where
+  pub lowest_is : f ≡ lowest (edge_decreases zs hs) (length zs)

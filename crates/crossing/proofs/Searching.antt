@@ -1,10 +1,13 @@
 -- The invariant of the search: none of the marks before k is low enough, and the record is that after k steps. So the row that the next step gives
 -- is the mark's, and the record's edges are the passes.
 use Prim.Native.Nat.{ℕ, ◌+◌, ◌^◌, ◌≤◌, ◌<◌, zero-le}
+use Rattle.std.specs.Prelude.{Result, Ok, Err}
+use Rattle.meanings_limit.specs.declared.Located.{Located}
+use Rattle.meanings.specs.Calls.{answer_of}
 use mathlib.Core.Path.{◌≡◌, sym, ap, ◌∙◌}
 use mathlib.Core.Bool.{Bool, true, false}
 use mathlib.Core.List.{List}
-use mathlib.Core.Option.{none, some}
+use Rattle.std.specs.Prelude.{None, Some}
 use native.Mathlib.Omega.{arith}
 use mir.Val.{Fits}
 use mir.Syntax.{w16}
@@ -12,8 +15,6 @@ use lib.ListN.{length, get_or}
 use Rattle.meanings.specs.declared.Limits.{Limits}
 use Rattle.meanings.specs.declared.Refusal.{Refusal}
 use Rattle.meanings.specs.declared.RunningSums.{RunningSums}
-use Rattle.meanings.specs.declared.Verdict.{Verdict}
-use Rattle.meanings.specs.declared.Verdict.TheVariants.{Fit, Faulty}
 use Rattle.meanings.specs.Limits.{full}
 use Rattle.meanings.specs.Moves.{moves}
 use Rattle.meanings.specs.Reports.{given, refused, fault_of, verdict_fault, first_of, curve_checks}
@@ -21,10 +22,8 @@ use Rattle.meanings.specs.Running.{fresh, passes}
 use Rattle.meanings.proofs.Checks.{same_limits}
 use Rattle.meanings.proofs.Search.{NoneBelow, one_more_below, none_lowest, lowest_at}
 use Rattle.meanings.proofs.SmoothSteps.{CurveAccepted, curve_accepts, running_at, passes_are_edges}
-use Rattle.meanings_limit.specs.declared.Crossing.{Crossing}
-use Rattle.meanings_limit.specs.declared.Crossing.TheVariants.{Reached, NotReached}
 use Rattle.meanings_limit.specs.Threshold.{at_or_below, low_enough}
-use Rattle.meanings_limit.specs.Crossing.{crossing_answer, low_at, crossing_refusal, first_at_most}
+use Rattle.meanings_limit.specs.Crossing.{low_at, crossing_refusal, first_at_most}
 use Rattle.meanings_limit.proofs.Passes.{passes_to_point}
 use Rattle.stepping.specs.declared.Reached.{Reached as Step}
 use Rattle.stepping.specs.Steps.{IsFresh, SteppedRow}
@@ -44,11 +43,11 @@ module _ {ts vs zs hs : List ℕ} {limit k : ℕ} {r : RunningSums} (w : NoneLow
   pub passes_fit : r.right + r.left < 2 ^ 64
   passes_fit = edges_fit w.steps
 
-  pub nowhere : length zs ≤ k → Searched ts vs zs hs limit (NotReached (r.right + r.left))
+  pub nowhere : length zs ≤ k → Searched ts vs zs hs limit (record { position = None; passes = r.right + r.left })
   nowhere l = record {
     answer =
         rw (none_lowest (low_at ts vs zs hs limit) (length zs) (λ j m. w.none_low j (omega arith)))
-        (ap (λ (n : ℕ). given (record { position = none; passes = n })) edges);
+        (ap {B = Located} (λ (n : ℕ). (record { position = None; passes = n })) edges);
   }
     where
       last : k ≡ length zs
@@ -69,11 +68,11 @@ module _ {ts vs zs hs : List ℕ} {limit k : ℕ} {r : RunningSums} (w : NoneLow
     tested t = t ∙ ap (low_enough limit) (row_there w.steps l m)
 
     pub here : {b : Bool} → b ≡ at_or_below limit x.row.weight x.row.value → b ≡ true
-        → Searched ts vs zs hs limit (Reached k (x.running.right + x.running.left))
+        → Searched ts vs zs hs limit (record { position = Some k; passes = x.running.right + x.running.left })
     here t e = record {
       answer =
           rw (lowest_at (low_at ts vs zs hs limit) (length zs) k l (sym (tested t) ∙ e) w.none_low)
-          (ap (λ (n : ℕ). given (record { position = some k; passes = n }))
+          (ap {B = Located} (λ (n : ℕ). (record { position = Some k; passes = n }))
           (ap (λ (q : RunningSums). q.right + q.left) (next_running w.steps l m)
           ∙ sym (passes_to_point ts vs zs hs w.steps.small w.steps.accepted k l)));
     }
@@ -87,17 +86,18 @@ module _ {ts vs zs hs : List ℕ} {limit k : ℕ} {r : RunningSums} (w : NoneLow
     }
 
 -- the call, by what its checks found
-module _ (ts vs zs hs : List ℕ) (limit : ℕ) {L : Limits} {v : Verdict} (l : L ≡ full) (f : verdict_fault v ≡ first_of (curve_checks L ts vs zs hs false)) where
-  found : {w : Verdict} → v ≡ w → crossing_refusal full ts vs zs hs ≡ verdict_fault w
+module _ (ts vs zs hs : List ℕ) (limit : ℕ) {L : Limits} {v : Result Unit Refusal} (l : L ≡ full)
+    (f : verdict_fault v ≡ first_of (curve_checks L ts vs zs hs false)) where
+  found : {w : Result Unit Refusal} → v ≡ w → crossing_refusal full ts vs zs hs ≡ verdict_fault w
   found q = sym (ap verdict_fault (sym q) ∙ f ∙ ap (λ (M : Limits). crossing_refusal M ts vs zs hs) l)
 
-  pub lists_accepted : v ≡ Fit → CurveAccepted ts vs zs hs
+  pub lists_accepted : {unit : Unit {0}} → v ≡ Ok unit → CurveAccepted ts vs zs hs
   lists_accepted q = curve_accepts full (same_limits full) ts vs zs hs false (found q)
 
-  pub call_refused : {e : Refusal} → v ≡ Faulty e → refused (fault_of e) ≡ first_at_most full ts vs zs hs limit
+  pub call_refused : {e : Refusal} → v ≡ Err e → refused (fault_of e) ≡ first_at_most full ts vs zs hs limit
   unfolding first_at_most
   call_refused q = rw (found q)
 
-  pub call_answers : {c : Crossing} → v ≡ Fit → Searched ts vs zs hs limit c → crossing_answer c ≡ first_at_most full ts vs zs hs limit
+  pub call_answers : {c : Located} → {unit : Unit {0}} → v ≡ Ok unit → Searched ts vs zs hs limit c → given c ≡ first_at_most full ts vs zs hs limit
   unfolding first_at_most
-  call_answers q s = rw (found q) s.answer
+  call_answers q s = rw (found q) (ap given s.answer)

@@ -1,9 +1,12 @@
 -- What the search under the call says.
 use Rattle.std.specs.Prelude.{ℕ, ◌≡◌, List}
+use Rattle.std.specs.Prelude.{Result}
+use Rattle.meanings_limit.specs.declared.Located.{Located}
+use Rattle.meanings.specs.declared.Refusal.{Refusal}
+use Rattle.meanings.specs.Calls.{answer_of}
 use Rattle.meanings.specs.Reports.{given}
-use Rattle.meanings_limit.specs.declared.Crossing.{Crossing}
-use Rattle.meanings_limit.specs.Crossing.{crossing_answer, located}
+use Rattle.meanings_limit.specs.Crossing.{located}
 
 -- c is what accepted lists answer
-pub record Searched (ts vs zs hs : List ℕ) (limit : ℕ) (c : Crossing) : Type 0 where
-  pub answer : crossing_answer c ≡ given (located ts vs zs hs limit)
+pub record Searched (ts vs zs hs : List ℕ) (limit : ℕ) (c : Located) : Type 0 where
+  pub answer : c ≡ located ts vs zs hs limit

@@ -2,15 +2,16 @@
 #![tactic(auto)]
 
 ghost use Rattle.std.specs.Prelude.{◌≡◌};
+ghost use Rattle.meanings.specs.Calls.{answer_of};
 ghost use Rattle.meanings.specs.Limits.{full as full_limits};
 ghost use Rattle.meanings.proofs.SmoothSteps.{CurveAccepted};
-ghost use Rattle.meanings_limit.specs.Crossing.{crossing_answer, first_at_most};
+ghost use Rattle.meanings_limit.specs.Crossing.{first_at_most};
 ghost use Rattle.crossing.specs.Search.{Searched};
 
 use checks::full;
 use checks_smooth::curve_fault;
-use meanings::Verdict;
-use meanings_limit::Crossing;
+use meanings::Refusal;
+use meanings_limit::Located;
 use stepping::{fresh_record, step_to};
 use threshold::at_or_below;
 
@@ -21,7 +22,7 @@ fn search(
     points: &[u16],
     bandwidths: &[u32],
     limit: u16,
-) -> Crossing
+) -> Located
     requires { CurveAccepted minutes.now values.now points.now bandwidths.now }
     ensures { Searched minutes.now values.now points.now bandwidths.now limit result }
 {
@@ -33,31 +34,31 @@ fn search(
         let reached = step_to(running, minutes, values, point, bandwidth);
         running = reached.running;
         if at_or_below(limit, reached.row.weight, reached.row.value) {
-            return Crossing::Reached {
-                point: k,
+            return Located {
+                position: Some(k),
                 passes: running.right as u64 + running.left as u64,
             };
         }
         k += 1;
     }
-    Crossing::NotReached {
+    Located {
+        position: None,
         passes: running.right as u64 + running.left as u64,
     }
 }
 
 // The first mark that has a value of at most the limit, with the passes up to and with it; none with the passes of all marks; or
 // the report that a sweep with room for its rows would give.
+#[tactic(auto, unfolding(meanings_limit::specs::Crossing::first_at_most))]
 pub fn first_at_most(
     minutes: &[u16],
     values: &[u16],
     points: &[u16],
     bandwidths: &[u32],
     limit: u16,
-) -> Crossing
-    ensures { crossing_answer result ≡ first_at_most full_limits minutes.now values.now points.now bandwidths.now limit }
+) -> Result<Located, Refusal>
+    ensures { answer_of result ≡ first_at_most full_limits minutes.now values.now points.now bandwidths.now limit }
 {
-    match curve_fault(minutes, values, points, bandwidths, false, full()) {
-        Verdict::Faulty(refusal) => Crossing::Refused(refusal),
-        Verdict::Fit => search(minutes, values, points, bandwidths, limit),
-    }
+    curve_fault(minutes, values, points, bandwidths, false, full())?;
+    Ok(search(minutes, values, points, bandwidths, limit))
 }

@@ -1,18 +1,19 @@
 -- A row of the table is the row above and the running sum of its own cells. Cells of 32 bits keep every sum far below 2^64.
 use Prim.Native.Nat.{ℕ, zero, suc, ◌+◌, ◌*◌, ◌≤◌, ◌<◌, zero-le}
 use mathlib.Core.Path.{◌≡◌, refl, sym, ap, ◌∙◌}
-use mathlib.Core.List.{List}
-use native.Mathlib.Decide.{dec_le, ℕ_discrete}
+use mathlib.Core.List.{List, ◌++◌}
+use native.Mathlib.Decide.{ℕ_discrete}
 use native.Mathlib.Numerals.{add-one}
 use native.Mathlib.Nat.{zero-add}
 use native.Mathlib.Omega.{arith}
 use mir.Val.{Fits}
 use mir.Syntax.{w32, w64}
-use lib.ListN.{length, get_or, set, length-set}
+use lib.ListN.{length, get_or, set, take, drop, replicate, length-set, length-append, length-drop, length-replicate, get_or-append}
+use Rattle.std.proofs.lemmas.List.{length-take-le, get_or-replicate}
 use lib.Seq.{get_or-set_same, get_or-set_other}
 use Rattle.meanings.specs.Lists.{total}
 use Rattle.meanings.proofs.Totals.{total_zero}
-use Rattle.cumulative.specs.Tables.{row_sum, cumulative, Sized, RowsTo, RowBefore, Accumulated, Tried}
+use Rattle.cumulative.specs.Tables.{row_sum, cumulative, Sized, RowsTo, RowBefore}
 
 -- one cell more, and one row more
 row_more : (cs : List ℕ) (a b : ℕ) → row_sum cs a (b + 1) ≡ row_sum cs a b + get_or cs (65 * a + b) 0
@@ -51,44 +52,25 @@ unfolding cumulative
 rows_most cs a b f l = total_most (λ x. row_sum cs x b) 279172874240 0 a (λ x. row_most cs x b f l)
 
 -- a cell of 32 bits has 64
-pub cell_fits : (cs : List ℕ) → ((i : ℕ) → Fits w32 (get_or cs i 0)) → (i : ℕ) → Fits w64 (get_or cs i 0)
-cell_fits cs f i = omega (arith, f i)
 
 -- The first row.
-pub record ZerosTo (cs ts : List ℕ) (b : ℕ) : Type 0 where
-  pub sized : Sized cs ts
-  pub few : b ≤ 66
-  pub zeros : (y : ℕ) → y < b → get_or ts y 0 ≡ 0
+pub first_numbers : (cs ts : List ℕ) → Sized cs ts → 66 ≡ length (take 66 ts)
+first_numbers cs ts s = sym (length-take-le 66 ts (omega (arith, s.room)))
 
-pub zeros_begin : (cs ts : List ℕ) → Sized cs ts → ZerosTo cs ts 0
-zeros_begin cs ts s = record { sized = s; few = omega arith; zeros = λ y l. absurd (omega arith) }
+pub first_row : {cs ts us : List ℕ} → Sized cs ts → us ≡ replicate (length (take 66 ts)) 0 → RowsTo cs (us ++ drop 66 ts) 0
+first_row {cs} {ts} {us} s e = record {
+  sized = record { cells = s.cells; room = length-append us (drop 66 ts) ∙ omega (arith, long, length-drop 66 ts, s.room) };
+  few = omega arith;
+  holds = λ x y m n. let p : 66 * x + y ≡ y = omega arith in
+      let q : x ≡ 0 = omega arith in
+      rw (p, q) (get_or-append us (drop 66 ts) 0 y (omega (arith, long)) ∙ zero_at y n ∙ sym (rows_none cs y));
+}
+  where
+    long : length us ≡ 66
+    long = ap length e ∙ length-replicate (length (take 66 ts)) 0 ∙ sym (first_numbers cs ts s)
 
-module _ {cs ts : List ℕ} {b : ℕ} (z : ZerosTo cs ts b) where
-  pub zeros_go_on : b < 66 → ZerosTo cs (set ts b 0) (b + 1)
-  zeros_go_on l = record {
-    sized = record { cells = z.sized.cells; room = length-set ts b 0 ∙ z.sized.room };
-    few = omega arith;
-    zeros = λ y m. by y m (ℕ_discrete y b);
-  }
-    where
-      by : (y : ℕ) → y < b + 1 → Dec (y ≡ b) → get_or (set ts b 0) y 0 ≡ 0
-      by y m (yes e) = rw e (get_or-set_same ts b 0 0 (omega (arith, z.sized.room)))
-      by y m (no e) = get_or-set_other ts b y 0 0 e ∙ z.zeros y (omega (arith, e))
-
-  pub zero_place : b < 66 → b < length ts
-  zero_place l = omega (arith, z.sized.room)
-
-  pub zeros_length : (us : List ℕ) → Sized cs us → length ts ≡ length us
-  zeros_length us s = z.sized.room ∙ sym s.room
-
-  pub first_row : 66 ≤ b → RowsTo cs ts 0
-  first_row l = record {
-    sized = z.sized;
-    few = omega arith;
-    holds = λ x y m n. let e : x ≡ 0 = omega arith in
-        let p : 66 * x + y ≡ y = omega arith in
-        rw (p, e) (z.zeros y (omega arith) ∙ sym (rows_none cs y));
-  }
+    zero_at : (y : ℕ) → y ≤ 65 → get_or us y 0 ≡ 0
+    zero_at y l = rw e (get_or-replicate (length (take 66 ts)) y 0 0 (omega (arith, first_numbers cs ts s)))
 
 -- A row: b of its numbers are stored behind the first one, and row is the sum of its first b cells.
 pub record RowPart (cs ts : List ℕ) (a b row : ℕ) : Type 0 where
@@ -110,9 +92,6 @@ row_begins cs ts a r = record {
       rw (q, e) (get_or-set_same ts (66 * (a + 1)) 0 0 (omega (arith, r.more, r.rows.sized.room)) ∙ sym (rows_empty cs (a + 1)));
   sum = sym (row_none cs a);
 }
-
-pub first_place : (cs ts : List ℕ) (a : ℕ) → RowBefore cs ts a → 66 * (a + 1) < length ts
-first_place cs ts a r = omega (arith, r.more, r.rows.sized.room)
 
 module _ {cs ts : List ℕ} {a b row : ℕ} (r : RowPart cs ts a b row) where
   pub row_goes_on : b < 65
@@ -148,15 +127,6 @@ module _ {cs ts : List ℕ} {a b row : ℕ} (r : RowPart cs ts a b row) where
       by y m (no e) =
           get_or-set_other ts (66 * (a + 1) + b + 1) (66 * (a + 1) + y) _ 0 (λ f. omega (arith, e)) ∙ r.here y (omega (arith, e))
 
-  pub cell_there : b < 65 → 65 * a + b < length cs
-  cell_there l = omega (arith, r.more, r.sized.cells)
-
-  pub above_there : b < 65 → 66 * a + b + 1 < length ts
-  above_there l = omega (arith, r.more, r.sized.room)
-
-  pub place_there : b < 65 → 66 * (a + 1) + b + 1 < length ts
-  place_there l = omega (arith, r.more, r.sized.room)
-
   pub running_fits : ((i : ℕ) → Fits w32 (get_or cs i 0)) → b < 65 → Fits w64 (row + get_or cs (65 * a + b) 0)
   running_fits f l =
       let m = row_most cs a (b + 1) f (omega arith) in
@@ -171,37 +141,3 @@ module _ {cs ts : List ℕ} {a b row : ℕ} (r : RowPart cs ts a b row) where
       let n = rows_most cs a (b + 1) f (omega arith) in
       let t = row_more cs a b in
       omega (arith, r.sum, r.more)
-
-  pub row_length : (us : List ℕ) → RowBefore cs us a → length ts ≡ length us
-  row_length us s = r.sized.room ∙ sym s.rows.sized.room
-
-  pub row_ends : 65 ≤ b → RowsTo cs ts (a + 1)
-  row_ends l = record { sized = r.sized; few = (let m = r.more in omega arith); holds = λ x y m n. by x y m n (dec_le x a) }
-    where
-      by : (x y : ℕ) → x ≤ a + 1 → y ≤ 65 → Dec (x ≤ a) → get_or ts (66 * x + y) 0 ≡ cumulative cs x y
-      by x y m n (yes k) = r.before x y k n
-      by x y m n (no k) = let e : x ≡ a + 1 = omega arith in rw e (r.here y (omega arith))
-
--- All rows.
-pub row_before : (cs ts : List ℕ) (a : ℕ) → RowsTo cs ts a → a < 65 → RowBefore cs ts a
-row_before cs ts a r l = record { rows = r; more = l }
-
-pub rows_length : (cs ts us : List ℕ) (a : ℕ) → RowsTo cs ts a → Sized cs us → length ts ≡ length us
-rows_length cs ts us a r s = r.sized.room ∙ sym s.room
-
-pub all_rows : (cs ts : List ℕ) (a : ℕ) → RowsTo cs ts a → 65 ≤ a → Accumulated cs ts
-all_rows cs ts a r l =
-    record { room = r.sized.room; holds = λ x y m n. r.holds x y (omega arith) n }
-
-module _ (cs ts : List ℕ) where
-  pub other_cells : ¬ (length cs ≡ 4225) → Tried cs ts ts
-  other_cells d = record { filled = λ s. absurd (d s.cells); left = λ s. refl }
-
-  pub other_room : ¬ (length ts ≡ 4356) → Tried cs ts ts
-  other_room d = record { filled = λ s. absurd (d s.room); left = λ s. refl }
-
-  pub sizes_fit : length cs ≡ 4225 → length ts ≡ 4356 → Sized cs ts
-  sizes_fit c r = record { cells = c; room = r }
-
-  pub all_filled : length cs ≡ 4225 → length ts ≡ 4356 → (us : List ℕ) → Accumulated cs us → Tried cs ts us
-  all_filled c r us a = record { filled = λ s. a; left = λ n. absurd (n (sizes_fit c r)) }

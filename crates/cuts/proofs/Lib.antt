@@ -1,3 +1,4 @@
 pub mod Ranks
 pub mod Searching
 pub mod Windows
+pub mod Moving

@@ -1,6 +1,9 @@
 -- The second pass: no reading before i decides, and weight, sum and verdict are those of the whole lists. Less a reading's terms they are weight
 -- and sum of the lists without it, and so their verdict.
 use Prim.Native.Nat.{ℕ, ◌+◌, ◌-◌, ◌*◌, ◌^◌, ◌≤◌, ◌<◌}
+use Rattle.std.specs.Prelude.{Some}
+use Rattle.std.specs.Prelude.{Option, None, Result, Ok, Err}
+use Rattle.meanings.specs.Calls.{answer_of}
 use mathlib.Core.Path.{◌≡◌, refl, sym, ap, ◌∙◌}
 use mathlib.Core.Bool.{Bool, true, false, not, beq}
 use mathlib.Core.List.{List}
@@ -11,8 +14,6 @@ use mir.Syntax.{w16}
 use lib.ListN.{length, get_or}
 use Rattle.meanings.specs.declared.Limits.{Limits}
 use Rattle.meanings.specs.declared.Refusal.{Refusal}
-use Rattle.meanings.specs.declared.Verdict.{Verdict}
-use Rattle.meanings.specs.declared.Verdict.TheVariants.{Fit, Faulty}
 use Rattle.meanings.specs.Limits.{full, max_u16}
 use Rattle.meanings.specs.Lists.{AtMost}
 use Rattle.meanings.specs.Reports.{given, refused, fault_of, verdict_fault, first_of, evaluate_checks}
@@ -21,9 +22,7 @@ use Rattle.meanings.specs.Calls.{evaluate_refusal}
 use Rattle.meanings.proofs.Checks.{same_limits, EvaluateAccepted, evaluate_accepts}
 use Rattle.meanings.proofs.Search.{none_lowest, lowest_at}
 use Rattle.meanings_limit.specs.Threshold.{at_or_below}
-use Rattle.meanings_decisive.specs.declared.Decisive.{Decisive}
-use Rattle.meanings_decisive.specs.declared.Decisive.TheVariants.{Sample, NoSample}
-use Rattle.meanings_decisive.specs.Decisive.{decisive_answer, without, verdict, differs, decides, decisive}
+use Rattle.meanings_decisive.specs.Decisive.{without, verdict, differs, decides, decisive}
 use Rattle.meanings_decisive.proofs.Decides.{weightless_keeps}
 use Rattle.meanings_decisive.proofs.Removal.{weight_without, sum_without}
 use Rattle.decisive.specs.declared.Run.{Run}
@@ -63,18 +62,18 @@ search_begins {ts} {vs} {z} {h} {limit} a f r q = record {
 }
 
 module _ {ts vs : List ℕ} {z h limit : ℕ} {run : Run} {low : Bool} {i : ℕ} (c : NoneDecides ts vs z h limit run low i) where
-  pub nobody : run.right ≤ i → Searched ts vs z h limit NoSample
-  nobody l = record { answer = ap given (sym (none_lowest (decides ts vs z h limit) (length ts) (λ j m. by j m (dec_lt j i)))) }
+  pub nobody : run.right ≤ i → Searched ts vs z h limit None
+  nobody l = record { answer = sym (none_lowest (decides ts vs z h limit) (length ts) (λ j m. by j m (dec_lt j i))) }
     where
       by : (j : ℕ) → j < length ts → Dec (j < i) → decides ts vs z h limit j ≡ false
       by j m (yes p) = c.none_before j p m
       by j m (no p) = weightless_keeps ts vs z h limit c.accepted.ordered j m (c.run_is.behind j (omega arith) m)
 
   module _ (l : i < run.right) where
-    pub inside : i < length ts
+    inside : i < length ts
     inside = omega (arith, c.run_is.within)
 
-    pub inside_values : i < length vs
+    inside_values : i < length vs
     inside_values = omega (arith, c.run_is.within, c.accepted.even)
 
     module _ {k : ℕ} (e : k ≡ kernel z h (get_or ts i 0)) where
@@ -103,13 +102,12 @@ module _ {ts vs : List ℕ} {z h limit : ℕ} {run : Run} {low : Bool} {i : ℕ}
         unfolding decides
         decided = ap (λ (x : Bool). differs x low) rest_is ∙ ap (differs (verdict (without i ts) (without i vs) z h limit)) c.low_is
 
-        pub here : not (beq rest low) ≡ true → Searched ts vs z h limit (Sample i)
+        pub here : not (beq rest low) ≡ true → Searched ts vs z h limit (Some i)
         here n = record {
           answer =
-              ap given
-              (sym
+              sym
               (lowest_at (decides ts vs z h limit) (length ts) i inside (sym decided ∙ differ_alike rest low ∙ n)
-              (λ j m. c.none_before j m (omega (arith, inside)))));
+              (λ j m. c.none_before j m (omega (arith, inside))));
         }
 
         pub goes_on : not (beq rest low) ≡ false → NoneDecides ts vs z h limit run low (i + 1)
@@ -126,17 +124,18 @@ module _ {ts vs : List ℕ} {z h limit : ℕ} {run : Run} {low : Bool} {i : ℕ}
             by j n (no a) m = let q : j ≡ i = omega arith in rw q (sym decided ∙ differ_alike rest low ∙ p)
 
 -- the call, by what its checks found
-module _ (ts vs : List ℕ) (z h limit : ℕ) {L : Limits} {v : Verdict} (l : L ≡ full) (f : verdict_fault v ≡ first_of (evaluate_checks L ts vs h)) where
-  found : {w : Verdict} → v ≡ w → evaluate_refusal full ts vs h ≡ verdict_fault w
+module _ (ts vs : List ℕ) (z h limit : ℕ) {L : Limits} {v : Result Unit Refusal} (l : L ≡ full)
+    (f : verdict_fault v ≡ first_of (evaluate_checks L ts vs h)) where
+  found : {w : Result Unit Refusal} → v ≡ w → evaluate_refusal full ts vs h ≡ verdict_fault w
   found q = sym (ap verdict_fault (sym q) ∙ f ∙ ap (λ (M : Limits). evaluate_refusal M ts vs h) l)
 
-  pub lists_accepted : v ≡ Fit → EvaluateAccepted ts vs h
+  pub lists_accepted : {unit : Unit {0}} → v ≡ Ok unit → EvaluateAccepted ts vs h
   lists_accepted q = evaluate_accepts full (same_limits full) ts vs h (found q)
 
-  pub call_refused : {e : Refusal} → v ≡ Faulty e → refused (fault_of e) ≡ decisive full ts vs z h limit
+  pub call_refused : {e : Refusal} → v ≡ Err e → refused (fault_of e) ≡ decisive full ts vs z h limit
   unfolding decisive
   call_refused q = rw (found q)
 
-  pub call_answers : {d : Decisive} → v ≡ Fit → Searched ts vs z h limit d → decisive_answer d ≡ decisive full ts vs z h limit
+  pub call_answers : {d : Option ℕ} → {unit : Unit {0}} → v ≡ Ok unit → Searched ts vs z h limit d → given d ≡ decisive full ts vs z h limit
   unfolding decisive
-  call_answers q s = rw (found q) s.answer
+  call_answers q s = rw (found q) (ap given s.answer)

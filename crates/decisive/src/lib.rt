@@ -3,16 +3,16 @@
 #![tactic(auto)]
 
 ghost use Rattle.std.specs.Prelude.{◌≡◌};
+ghost use Rattle.meanings.specs.Calls.{answer_of};
 ghost use Rattle.meanings.specs.Limits.{full as full_limits};
 ghost use Rattle.meanings.proofs.Checks.{EvaluateAccepted};
-ghost use Rattle.meanings_decisive.specs.Decisive.{decisive_answer, decisive as decisive_meaning};
-ghost use Rattle.decisive.specs.Search.{BeginsAt, IsLow, IsRun, Searched};
+ghost use Rattle.meanings_decisive.specs.Decisive.{decisive as decisive_meaning};
+ghost use Rattle.decisive.specs.Search.{IsLow, IsRun, Searched};
 
-use arithmetic_values::{lowest_minute, value};
+use arithmetic_values::{first_at_least, lowest_minute, value};
 use checks::full;
 use checks_point::evaluate_fault;
-use meanings::Verdict;
-use meanings_decisive::Decisive;
+use meanings::Refusal;
 use sample_weight::sample_weight;
 use threshold::at_or_below;
 
@@ -25,47 +25,24 @@ pub(crate) struct Run {
     pub(crate) sum: u64,
 }
 
-// A position before which every minute is below `low`: the first whose minute is not, else the number of readings.
-fn first_inside(minutes: &[u16], low: u64) -> usize
-    ensures { BeginsAt minutes.now low result }
-{
-    let mut i = 0;
-    while i < minutes.len() {
-        if low <= minutes[i] as u64 {
-            return i;
-        }
-        i += 1;
-    }
-    i
-}
-
 // The run of accepted lists, each of its readings added once.
 fn add_run(minutes: &[u16], values: &[u16], point: u16, bandwidth: u32) -> Run
     requires { EvaluateAccepted minutes.now values.now bandwidth }
     ensures { IsRun minutes.now values.now point bandwidth result }
 {
-    let left = first_inside(minutes, lowest_minute(point, bandwidth));
-    let high = point as u64 + bandwidth as u64;
+    let over = point as u64 + bandwidth as u64 + 1;
+    let left = first_at_least(minutes, lowest_minute(point, bandwidth));
+    let right = first_at_least(minutes, over);
     let mut weight = 0u64;
     let mut sum = 0u64;
-    let mut i = left;
-    while i < minutes.len() {
-        if high < minutes[i] as u64 {
-            return Run {
-                left,
-                right: i,
-                weight,
-                sum,
-            };
-        }
+    for i in left..right {
         let k = sample_weight(minutes[i], point, bandwidth);
         weight += k;
         sum += k * values[i] as u64;
-        i += 1;
     }
     Run {
         left,
-        right: i,
+        right,
         weight,
         sum,
     }
@@ -79,38 +56,35 @@ fn is_low(weight: u64, sum: u64, limit: u16) -> bool
 }
 
 // The search in accepted lists: without reading i weight and sum are less by its terms.
-fn search(minutes: &[u16], values: &[u16], point: u16, bandwidth: u32, limit: u16) -> Decisive
+fn search(minutes: &[u16], values: &[u16], point: u16, bandwidth: u32, limit: u16) -> Option<usize>
     requires { EvaluateAccepted minutes.now values.now bandwidth }
     ensures { Searched minutes.now values.now point bandwidth limit result }
 {
     let run = add_run(minutes, values, point, bandwidth);
     let low = is_low(run.weight, run.sum, limit);
     let left = run.left;
-    let mut i = left;
-    while i < run.right {
+    for i in left..run.right {
         let k = sample_weight(minutes[i], point, bandwidth);
         let rest = is_low(run.weight - k, run.sum - k * values[i] as u64, limit);
         if rest != low {
-            return Decisive::Sample(i);
+            return Some(i);
         }
-        i += 1;
     }
-    Decisive::NoSample
+    None
 }
 
 // The lowest position of a reading without which alone the row at the mark is low enough where it was not, or is not where it was; none; or
 // the report of the question at one mark.
+#[tactic(auto, unfolding(meanings_decisive::specs::Decisive::decisive))]
 pub fn decisive_sample(
     minutes: &[u16],
     values: &[u16],
     point: u16,
     bandwidth: u32,
     limit: u16,
-) -> Decisive
-    ensures { decisive_answer result ≡ decisive_meaning full_limits minutes.now values.now point bandwidth limit }
+) -> Result<Option<usize>, Refusal>
+    ensures { answer_of result ≡ decisive_meaning full_limits minutes.now values.now point bandwidth limit }
 {
-    match evaluate_fault(minutes, values, bandwidth, full()) {
-        Verdict::Faulty(refusal) => Decisive::Refused(refusal),
-        Verdict::Fit => search(minutes, values, point, bandwidth, limit),
-    }
+    evaluate_fault(minutes, values, bandwidth, full())?;
+    Ok(search(minutes, values, point, bandwidth, limit))
 }

@@ -1,9 +1,11 @@
 -- The call's contract with the laws of its meaning: what it finds is by the rows of the meaning, which are the published ones.
 use Prim.Native.Nat.{ℕ, ◌+◌, ◌*◌, ◌≤◌, ◌<◌}
+use Rattle.meanings_limit.specs.declared.Located.{Located}
+use Rattle.meanings.specs.Calls.{answer_of}
 use mathlib.Core.Path.{◌≡◌, refl, sym, ap, subst, ◌∙◌}
 use mathlib.Core.Bool.{Bool, true, false, true≢false, ◌&&◌}
 use mathlib.Core.List.{List}
-use mathlib.Core.Option.{Option, none, some}
+use Rattle.std.specs.Prelude.{Option, None, Some}
 use native.Mathlib.Nat.{add_comm}
 use native.Mathlib.Omega.{arith}
 use borrow.Author.Tests.{ltb-true, leb-true, lt-ltb, le-leb, ne_eqb}
@@ -27,7 +29,7 @@ use Rattle.meanings.proofs.Steps.{Small}
 use Rattle.meanings.proofs.SmoothLog.{curve_passes}
 use Rattle.meanings.proofs.SmoothSteps.{CurveAccepted, curve_accepts}
 use Rattle.meanings_limit.specs.Threshold.{low_enough}
-use Rattle.meanings_limit.specs.Crossing.{Located, crossing_answer, low_at, first_low, steps_to, located}
+use Rattle.meanings_limit.specs.Crossing.{low_at, first_low, steps_to, located}
 use Rattle.meanings_limit.specs.Crossing.{crossing_refusal, first_at_most, reach}
 use Rattle.meanings_limit.proofs.ByRows.{by_the_full_curve}
 use Rattle.meanings_limit.proofs.Passes.{passes_to_point}
@@ -77,7 +79,7 @@ module _ (ts vs zs hs : List ℕ) (limit : ℕ) (minutes : AtMost max_u16 ts) (v
   high_at j l q e p =
       subst (λ (r : Estimate). ¬ LowEnough limit r) (sym (row_is j l e p)) (test_denies limit (estimate ts vs (get_or zs j 0) (get_or hs j 0)) q)
 
-  first_is : (k n : ℕ) → first_low ts vs zs hs limit ≡ some k → located ts vs zs hs limit ≡ record { position = some k; passes = n }
+  first_is : (k n : ℕ) → first_low ts vs zs hs limit ≡ Some k → located ts vs zs hs limit ≡ record { position = Some k; passes = n }
       → FirstLow ts vs zs hs limit k n
   unfolding low_at estimate
   first_is k n e q =
@@ -106,12 +108,12 @@ module _ (ts vs zs hs : List ℕ) (limit : ℕ) where
 
   -- with none the passes are those of all marks, and an event log counts them
   none_counted : AtMost max_u16 ts → AtMost max_u16 vs → (n : ℕ)
-      → first_at_most full ts vs zs hs limit ≡ given (record { position = none; passes = n })
+      → first_at_most full ts vs zs hs limit ≡ given (record { position = None; passes = n })
       → (n ≡ insertion_count (log_after ts vs empty_log (moves zs hs)) + eviction_count (log_after ts vs empty_log (moves zs hs)))
       × (n ≤ 2 * length ts)
   unfolding first_at_most
   none_counted minutes values n q =
-      let g = given_accepted (crossing_refusal full ts vs zs hs) (located ts vs zs hs limit) (record { position = none; passes = n }) q in
+      let g = given_accepted (crossing_refusal full ts vs zs hs) (located ts vs zs hs limit) (record { position = None; passes = n }) q in
       let all : passes ts vs fresh (moves zs hs) ≡ n =
       sym (ap (λ (o : Option ℕ). passes ts vs fresh (steps_to zs hs o)) (ap (λ (x : Located). x.position) g.1))
       ∙ ap (λ (x : Located). x.passes) g.1 in
@@ -138,8 +140,8 @@ module _ (ts vs zs hs : List ℕ) (limit : ℕ) where
   -- a position of the answer lies among the marks, which are few
   read_back : (l : Located) → first_at_most full ts vs zs hs limit ≡ given l → (o : Option ℕ) → first_low ts vs zs hs limit ≡ o
       → position_of (get_or (position_numbers o) 0 0) ≡ o
-  read_back l q none e = refl
-  read_back l q (some k) e =
+  read_back l q None e = refl
+  read_back l q (Some k) e =
       let f = lowest_some (low_at ts vs zs hs limit) (length zs) k e in
       let a = (opened l q).0 in
       let w : k < length zs = f.0 in
@@ -152,12 +154,12 @@ crossings first_at_most_ends exported_ends = record {
   first_at_most_asks_nothing = λ κs a. tt;
   exported_ends = exported_ends _;
   exported_asks_nothing = λ κs a. tt;
-  refused = λ ts vs zs hs limit a c. exactly ts vs zs hs limit (crossing_answer a) c.ensured;
+  refused = λ ts vs zs hs limit a c. exactly ts vs zs hs limit (answer_of a) c.ensured;
   reached = λ ts vs zs hs limit k n minutes values c.
-      let o = opened ts vs zs hs limit (record { position = some k; passes = n }) (sym c.ensured) in
+      let o = opened ts vs zs hs limit (record { position = Some k; passes = n }) (sym c.ensured) in
       first_is ts vs zs hs limit minutes values o.0 k n (ap (λ (x : Located). x.position) o.1) o.1;
   not_reached = λ ts vs zs hs limit n minutes values c.
-      let o = opened ts vs zs hs limit (record { position = none; passes = n }) (sym c.ensured) in
+      let o = opened ts vs zs hs limit (record { position = None; passes = n }) (sym c.ensured) in
       let e = ap (λ (x : Located). x.position) o.1 in
       let p = none_counted ts vs zs hs limit minutes values n (sym c.ensured) in (
         λ j l. high_at ts vs zs hs limit minutes values o.0 j l (lowest_none (low_at ts vs zs hs limit) (length zs) e j l),

@@ -1,19 +1,18 @@
 -- Demand 1. A call's contract equates its answer with the call's meaning, whose list of checks finds just the listed conditions; each lent list
 -- at exit is what it was wherever that list finds one. That the code ends on every input stands in crates/demands_hold.
 use Prim.Native.Nat.{ℕ, ◌+◌}
+use Rattle.std.specs.Prelude.{Result}
+use Rattle.meanings.specs.declared.Counts.{Counts}
+use Rattle.meanings.specs.declared.Refusal.{Refusal}
+use Rattle.meanings.specs.Calls.{answer_of}
 use mathlib.Core.Path.{◌≡◌, refl, sym, ap, ◌∙◌}
 use mathlib.Core.List.{List, [], ◌++◌}
-use mathlib.Core.Option.{Option}
+use Rattle.std.specs.Prelude.{Option}
 use native.Mathlib.Omega.{arith}
 use denote.Ref.{Bor}
 use lib.ListN.{length, get_or, take, drop, replicate}
 use Rattle.meanings.specs.declared.Estimate.{Estimate}
 use Rattle.meanings.specs.declared.RunningSums.{RunningSums}
-use Rattle.meanings.specs.declared.Evaluation.{Evaluation}
-use Rattle.meanings.specs.declared.Advance.{Advance}
-use Rattle.meanings.specs.declared.Filling.{Filling}
-use Rattle.meanings.specs.declared.Parsing.{Parsing}
-use Rattle.meanings.specs.declared.Writing.{Writing}
 use Rattle.meanings.specs.declared.Limits.{Limits}
 use Rattle.meanings.specs.Limits.{full, row_width}
 use Rattle.meanings.specs.Moves.{moves}
@@ -26,7 +25,7 @@ use Rattle.meanings.specs.Claim.{refusal}
 use Rattle.meanings.specs.Sheet.{or_next, read_sheet}
 use Rattle.meanings.specs.SheetForm.{Refused}
 use Rattle.meanings.specs.Output.{refusal_text}
-use Rattle.meanings.specs.Calls.{evaluation_answer, advance_answer, filling_answer, parsing_answer, writing_answer, evaluate, window}
+use Rattle.meanings.specs.Calls.{evaluate, window}
 use Rattle.meanings.specs.Calls.{window_start, smooth, smooth_rows, fill, fill_points, fill_bandwidths, read, counts}
 use Rattle.meanings.specs.Calls.{write_refusal_text, refusal_buffer}
 use Rattle.meanings.specs.Codes.{answered, no_detail}
@@ -49,8 +48,8 @@ use Rattle.demands.proofs.Refusals.{sized_is_checked, sized_sheet_is_checked, st
 use Rattle.demands.proofs.Refusals.{record_row_exactly, exported_refusal, exported_stays, counts_refused, front_stays}
 use Rattle.demands.proofs.EitherSheets.{either_exactly, first_or_either_numbered, text_refusal, text_stays}
 
-pub evaluate_refused : (ts vs : List ℕ) (z h : ℕ) (a : Evaluation) → EvaluateCall ts vs z h a
-    → RefusedExactly (refusal (evaluation_answer a)) (FirstFault (evaluate_conditions ts vs h))
+pub evaluate_refused : (ts vs : List ℕ) (z h : ℕ) (a : Result Estimate Refusal) → EvaluateCall ts vs z h a
+    → RefusedExactly (refusal (answer_of a)) (FirstFault (evaluate_conditions ts vs h))
 unfolding evaluate
 evaluate_refused ts vs z h a c = decided_exactly (estimate ts vs z h) (evaluate_finds ts vs h) c.ensured
 
@@ -63,8 +62,8 @@ window_refused ts vs z h values_at part c n p f =
     let start : part.ref_ptr.1 ≡ values_at.ref_ptr.1 + 0 = rw e at c.ensured.1.1 in
     (c.ensured.0 ∙ ap (λ (o : Option Fault). accepted_or o (run_of ts vs z h) []) e, c.ensured.1.0, omega arith)
 
-pub advance_refused : (r : RunningSums) (ts vs : List ℕ) (z h : ℕ) (a : Advance) → AdvanceCall r ts vs z h a
-    → RefusedExactly (refusal (advance_answer a)) (FirstFault (advance_conditions ts vs r.left r.right h))
+pub advance_refused : (r : RunningSums) (ts vs : List ℕ) (z h : ℕ) (a : Result RunningSums Refusal) → AdvanceCall r ts vs z h a
+    → RefusedExactly (refusal (answer_of a)) (FirstFault (advance_conditions ts vs r.left r.right h))
 unfolding advance
 advance_refused r ts vs z h a c =
     decided_exactly (moved ts vs r z h) (advance_finds ts vs r.left r.right h) c.ensured
@@ -78,8 +77,8 @@ smooth_refused L ts vs zs hs rs t rs' q r = record {
   stays = decided_stays (passes ts vs fresh (moves zs hs)) (smooth_finds L ts vs zs hs (length rs)) q (rows ts vs zs hs (length zs)) rs rs' r;
 }
 
-pub fill_refused : (z₀ spacing preset : ℕ) (zs hs : List ℕ) (a : Filling) (zs' hs' : List ℕ) → FillCall z₀ spacing preset zs hs a zs' hs'
-    → RefusedAndStays (refusal (filling_answer a)) (FirstFault (fill_conditions z₀ spacing preset zs hs)) ((zs' ≡ zs) × (hs' ≡ hs))
+pub fill_refused : (z₀ spacing preset : ℕ) (zs hs : List ℕ) (a : Result Unit Refusal) (zs' hs' : List ℕ) → FillCall z₀ spacing preset zs hs a zs' hs'
+    → RefusedAndStays (refusal (answer_of a)) (FirstFault (fill_conditions z₀ spacing preset zs hs)) ((zs' ≡ zs) × (hs' ≡ hs))
 unfolding fill fill_points fill_bandwidths
 fill_refused z₀ spacing preset zs hs a zs' hs' c =
     let finds = fill_finds z₀ spacing preset zs hs in
@@ -91,13 +90,13 @@ fill_refused z₀ spacing preset zs hs a zs' hs' c =
       );
     }
 
-pub read_refused : (s ts vs zs hs : List ℕ) (a : Parsing) (ts' vs' zs' hs' : List ℕ) → ReadCall s ts vs zs hs a ts' vs' zs' hs'
-    → RefusedAndStays (refusal (parsing_answer a)) (FirstOrElse (read_conditions ts vs zs hs) (Refused full s))
+pub read_refused : (s ts vs zs hs : List ℕ) (a : Result Counts Refusal) (ts' vs' zs' hs' : List ℕ) → ReadCall s ts vs zs hs a ts' vs' zs' hs'
+    → RefusedAndStays (refusal (answer_of a)) (FirstOrElse (read_conditions ts vs zs hs) (Refused full s))
     ((ts' ≡ ts) × (vs' ≡ vs) × (zs' ≡ zs) × (hs' ≡ hs))
 unfolding read
 read_refused s ts vs zs hs a ts' vs' zs' hs' c =
     let o = read full s ts vs zs hs in
-    let same : refusal (parsing_answer a) ≡ refusal o = ap refusal c.ensured.0 ∙ counts_refused o in
+    let same : refusal (answer_of a) ≡ refusal o = ap refusal c.ensured.0 ∙ counts_refused o in
     record {
       exactly = rw same (sheet_exactly (read_finds ts vs zs hs) s);
       stays = λ e q.
@@ -110,27 +109,27 @@ read_refused s ts vs zs hs a ts' vs' zs' hs' c =
     }
 
 -- a text of a sheet, whatever the buffer
-text_decided : (s out : List ℕ) (a : Writing) (out' : List ℕ) → writing_answer a ≡ write_either s out → out' ≡ write_either_buffer s out
-    → RefusedAndStays (refusal (writing_answer a)) (FirstOrElse (buffer_conditions out) (EitherRefused full s)) (out' ≡ out)
+text_decided : (s out : List ℕ) (a : Result ℕ Refusal) (out' : List ℕ) → answer_of a ≡ write_either s out → out' ≡ write_either_buffer s out
+    → RefusedAndStays (refusal (answer_of a)) (FirstOrElse (buffer_conditions out) (EitherRefused full s)) (out' ≡ out)
 unfolding write_either write_either_buffer
 text_decided s out a out' answer text =
     let o = or_next (first_of (buffer_checks (length out))) (read_either full s) in
-    let same : refusal (writing_answer a) ≡ refusal o = ap refusal answer ∙ text_refusal o in
+    let same : refusal (answer_of a) ≡ refusal o = ap refusal answer ∙ text_refusal o in
     record {
       exactly = rw same (either_exactly (buffer_finds out) s);
       stays = λ e q. text ∙ text_stays o out e (sym same ∙ q);
     }
 
-pub text_refused : (s out : List ℕ) (a : Writing) (out' : List ℕ) → TextCall s out a out'
-    → RefusedAndStays (refusal (writing_answer a)) (FirstOrElse (buffer_conditions out) (EitherRefused full s)) (out' ≡ out)
+pub text_refused : (s out : List ℕ) (a : Result ℕ Refusal) (out' : List ℕ) → TextCall s out a out'
+    → RefusedAndStays (refusal (answer_of a)) (FirstOrElse (buffer_conditions out) (EitherRefused full s)) (out' ≡ out)
 text_refused s out a out' c = text_decided s out a out' c.ensured.0 c.ensured.1
 
-pub text_over_refused : (buf : List ℕ) (n : ℕ) (a : Writing) (buf' : List ℕ) → OverCall buf n a buf'
-    → RefusedAndStays (refusal (writing_answer a)) (FirstOrElse (buffer_conditions buf) (EitherRefused full (take n buf))) (buf' ≡ buf)
+pub text_over_refused : (buf : List ℕ) (n : ℕ) (a : Result ℕ Refusal) (buf' : List ℕ) → OverCall buf n a buf'
+    → RefusedAndStays (refusal (answer_of a)) (FirstOrElse (buffer_conditions buf) (EitherRefused full (take n buf))) (buf' ≡ buf)
 text_over_refused buf n a buf' c = text_decided (take n buf) buf a buf' c.ensured.0 c.ensured.1
 
-pub refusal_text_refused : (n p : ℕ) (out : List ℕ) (a : Writing) (out' : List ℕ) → RefusalTextCall n p out a out'
-    → RefusedAndStays (refusal (writing_answer a)) (FirstFault (buffer_conditions out)) (out' ≡ out)
+pub refusal_text_refused : (n p : ℕ) (out : List ℕ) (a : Result ℕ Refusal) (out' : List ℕ) → RefusalTextCall n p out a out'
+    → RefusedAndStays (refusal (answer_of a)) (FirstFault (buffer_conditions out)) (out' ≡ out)
 unfolding write_refusal_text refusal_buffer
 refusal_text_refused n p out a out' c =
     let t = refusal_text (record { number = n; place = p }) in

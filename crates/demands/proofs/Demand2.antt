@@ -2,7 +2,7 @@
 use Prim.Native.Nat.{ℕ, ◌+◌, ◌*◌, ◌<◌}
 use mathlib.Core.Path.{◌≡◌, sym, ap, ◌∙◌}
 use mathlib.Core.List.{List}
-use mathlib.Core.Option.{Option, none}
+use Rattle.std.specs.Prelude.{Option, None}
 use lib.ListN.{length, get_or}
 use Rattle.meanings.specs.declared.Estimate.{Estimate}
 use Rattle.meanings.specs.Lists.{AtMost}
@@ -46,7 +46,7 @@ swept_rows L w ts vs zs hs rs rs' n v q e =
 
 -- what a call for C and Rust has stored of the row, where it is accepted
 module _ (n : ℕ) (ts vs : List ℕ) (z h : ℕ) (xs : List ℕ) (c : ℕ) (coded : c ≡ answered no_detail (sized n xs (evaluate full ts vs z h)))
-    (accepted : code_refusal c ≡ none) where
+    (accepted : code_refusal c ≡ None) where
   pub given_row : (e : Estimate) × (sized n xs (evaluate full ts vs z h) ≡ given e)
   given_row = accepted_given (sized n xs (evaluate full ts vs z h)) (sym (evaluate_coded n xs ts vs z h c coded) ∙ accepted)
 

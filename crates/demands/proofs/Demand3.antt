@@ -2,15 +2,16 @@
 -- steps leaves, and the claim about the list holds of the records and answers that the caller saw. The exported call is the same step on a
 -- record that is kept as nine numbers.
 use Prim.Native.Nat.{ℕ, suc, ◌*◌, ◌<◌}
+use Rattle.std.specs.Prelude.{Result, Ok, Err}
+use Rattle.meanings.specs.declared.Refusal.{Refusal}
+use Rattle.meanings.specs.Calls.{answer_of}
 use mathlib.Core.Path.{◌≡◌, refl, sym, ap, ◌∙◌}
 use mathlib.Core.List.{List, [], ◌∷◌, ◌++◌}
-use mathlib.Core.Option.{Option}
+use Rattle.std.specs.Prelude.{Option}
 use native.Mathlib.Omega.{arith}
 use borrow.Author.Tests.{ne_eqb, eq-eqb}
 use lib.ListN.{length, get_or, take}
 use Rattle.meanings.specs.declared.RunningSums.{RunningSums}
-use Rattle.meanings.specs.declared.Advance.{Advance}
-use Rattle.meanings.specs.declared.Advance.TheVariants.{Moved}
 use Rattle.meanings.specs.Lists.{AtMost}
 use Rattle.meanings.specs.Limits.{full, max_u16}
 use Rattle.meanings.specs.Moves.{Move, moves}
@@ -19,7 +20,7 @@ use Rattle.meanings.specs.Estimate.{fields}
 use Rattle.meanings.specs.Running.{fresh, advance, next_record, after_step, after, record_row}
 use Rattle.meanings.specs.EventLog.{EventLog}
 use Rattle.meanings.specs.Claim.{StepHolds, refusal, record_after}
-use Rattle.meanings.specs.Calls.{advance_answer, smooth, smooth_rows}
+use Rattle.meanings.specs.Calls.{smooth, smooth_rows}
 use Rattle.meanings.proofs.Claim.{demand_3, log_follows, refused_with_8_6_or_9}
 use Rattle.meanings.proofs.Passes.{fresh_within, after_onward, after_append}
 use Rattle.meanings.proofs.Checks.{same_limits}
@@ -39,9 +40,9 @@ use Rattle.demands.proofs.Refusals.{accepted_given}
 use Rattle.demands.proofs.Demand1.{advance_coded, smooth_coded}
 use Rattle.demands.proofs.Rows.{five_are_row}
 
-pub held_is_next_record : (r : RunningSums) (a : Advance) → held r a ≡ next_record r (advance_answer a)
-held_is_next_record r (Moved r') = refl
-held_is_next_record r (Advance.Refused e) = refl
+pub held_is_next_record : (r : RunningSums) (a : Result RunningSums Refusal) → held r a ≡ next_record r (answer_of a)
+held_is_next_record r (Ok r') = refl
+held_is_next_record r (Err e) = refl
 
 -- calls leave what the steps' meaning leaves
 left_by_steps : {ts vs : List ℕ} {r r' : RunningSums} {ms : List Move} → Steps ts vs r ms r' → r' ≡ after ts vs r ms
@@ -124,7 +125,7 @@ module _ (ts vs zs hs rs rs' : List ℕ) (n : ℕ) (minutes : AtMost max_u16 ts)
 pub demand_3_of_calls : Demand3
 demand_3_of_calls = record {
   each_step = λ ts vs ms before rest m r a o q s c.
-      seen_step_holds ts vs ms before rest m (refusal (advance_answer a)) r (held r a) o q (left_by_steps s) (ap refusal c.ensured)
+      seen_step_holds ts vs ms before rest m (refusal (answer_of a)) r (held r a) o q (left_by_steps s) (ap refusal c.ensured)
       (held_is_next_record r a ∙ ap (next_record r) c.ensured);
   each_once = λ ts vs ms r o s. matches ts vs ms r o (left_by_steps s);
   refused_with = refused_with_8_6_or_9;

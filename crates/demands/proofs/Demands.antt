@@ -1,7 +1,7 @@
 -- The three demands, from the contracts of the calls and the laws of the meanings: each field is proved in the file of its demand. That every
 -- call ends is handed in, by crates/demands_hold.
 use Rattle.meanings.specs.Limits.{full}
-use Rattle.meanings.specs.Calls.{smoothing_answer}
+use Rattle.meanings.specs.Calls.{answer_of}
 use Rattle.meanings.proofs.Cases.{document_cases_hold}
 use Rattle.meanings_ranges.proofs.Cases.{program_cases_hold}
 use Rattle.crossing.proofs.first_at_most.Statement as first_at_most_code
@@ -30,7 +30,7 @@ demands_by every_input first_at_most_ends exported_ends = record {
     evaluate_refused = evaluate_refused;
     window_refused = window_refused;
     advance_refused = advance_refused;
-    smooth_refused = λ ts vs zs hs rs a rs' c. smooth_refused full ts vs zs hs rs (smoothing_answer a) rs' c.ensured.0 c.ensured.1;
+    smooth_refused = λ ts vs zs hs rs a rs' c. smooth_refused full ts vs zs hs rs (answer_of a) rs' c.ensured.0 c.ensured.1;
     fill_refused = fill_refused;
     read_refused = read_refused;
     text_refused = text_refused;

@@ -5,7 +5,7 @@ use mathlib.Core.Path.{◌≡◌, refl, sym, ap, ◌∙◌}
 use mathlib.Core.Logic.{◌⊎◌, inl, inr}
 use mathlib.Core.Bool.{Bool, true, false}
 use mathlib.Core.List.{List}
-use mathlib.Core.Option.{Option, none, some}
+use Rattle.std.specs.Prelude.{Option, None, Some}
 use native.Mathlib.Omega.{arith}
 use borrow.Author.Tests.{ltb-true, ltb-false, lt-ltb}
 use lib.Dec.{ltb}
@@ -36,19 +36,19 @@ module _ {ks : List Check} {cs : Conditions} (finds : FindAll ks cs) (s : List �
       (absent (first_of ks) refl (read_either full s) refl) one
     where
       found : (f : Option Fault) → first_of ks ≡ f → (o : Answer RangeContents) → read_either full s ≡ o → (n p : ℕ)
-          → refusal (or_next f o) ≡ some (record { number = n; place = p }) → FirstOrElse cs (EitherRefused full s) n p
-      found none q (given c) r n p e = let z : ◌≡◌ {A = ℕ} 0 1 = cc in absurd (omega arith)
-      found none q (refused g) r n p e =
+          → refusal (or_next f o) ≡ Some (record { number = n; place = p }) → FirstOrElse cs (EitherRefused full s) n p
+      found None q (given c) r n p e = let z : ◌≡◌ {A = ℕ} 0 1 = cc in absurd (omega arith)
+      found None q (refused g) r n p e =
           let same : g ≡ record { number = n; place = p } = cc in
           inr (none_found ks cs finds.each q, read_is_refused_form full s n p (r ∙ ap refused same))
-      found (some g) q o r n p e = inl (first_found ks cs finds.each n p (q ∙ e))
+      found (Some g) q o r n p e = inl (first_found ks cs finds.each n p (q ∙ e))
 
-      absent : (f : Option Fault) → first_of ks ≡ f → (o : Answer RangeContents) → read_either full s ≡ o → refusal (or_next f o) ≡ none → (n p : ℕ)
+      absent : (f : Option Fault) → first_of ks ≡ f → (o : Answer RangeContents) → read_either full s ≡ o → refusal (or_next f o) ≡ None → (n p : ℕ)
           → ¬ FirstOrElse cs (EitherRefused full s) n p
-      absent none q (given c) r e n p (inl a) = none_or_first cs n p (none_found ks cs finds.each q) a
-      absent none q (given c) r e n p (inr b) = never_both full s c n p (read_is_form full s c r) b.1
-      absent none q (refused g) r e n p a = let z : ◌≡◌ {A = ℕ} 0 1 = cc in omega arith
-      absent (some g) q o r e n p a = let z : ◌≡◌ {A = ℕ} 0 1 = cc in omega arith
+      absent None q (given c) r e n p (inl a) = none_or_first cs n p (none_found ks cs finds.each q) a
+      absent None q (given c) r e n p (inr b) = never_both full s c n p (read_is_form full s c r) b.1
+      absent None q (refused g) r e n p a = let z : ◌≡◌ {A = ℕ} 0 1 = cc in omega arith
+      absent (Some g) q o r e n p a = let z : ◌≡◌ {A = ℕ} 0 1 = cc in omega arith
 
       one : (n p m q : ℕ) → FirstOrElse cs (EitherRefused full s) n p → FirstOrElse cs (EitherRefused full s) m q → (n ≡ m) × (p ≡ q)
       one n p m q (inl a) (inl b) = one_first cs n p m q a b
@@ -79,7 +79,7 @@ pub text_refusal : (o : Answer RangeContents) → refusal (text_size o) ≡ refu
 text_refusal (given c) = refl
 text_refusal (refused e) = refl
 
-pub text_stays : (o : Answer RangeContents) (out : List ℕ) (e : Fault) → refusal o ≡ some e → text_front o out ≡ out
+pub text_stays : (o : Answer RangeContents) (out : List ℕ) (e : Fault) → refusal o ≡ Some e → text_front o out ≡ out
 text_stays (given c) out e q = let z : ◌≡◌ {A = ℕ} 0 1 = cc in absurd (omega arith)
 text_stays (refused f) out e q = refl
 
@@ -119,15 +119,15 @@ module _ (s : List ℕ) (none_named : ¬ NamesRanges full s) where
   plain_write out = rw plain_read (by (buffer_refusal out) (read_sheet full s))
     where
       by : (f : Option Fault) (o : Outcome) → text_size (or_next f (doubled o)) ≡ curve_size (or_next f o)
-      by none (given c) = refl
-      by none (refused e) = refl
-      by (some e) o = refl
+      by None (given c) = refl
+      by None (refused e) = refl
+      by (Some e) o = refl
 
   pub plain_buffer : (out : List ℕ) → write_either_buffer s out ≡ write_buffer s out
   unfolding write_either_buffer write_buffer
   plain_buffer out = rw plain_read (by (buffer_refusal out) (read_sheet full s))
     where
       by : (f : Option Fault) (o : Outcome) → text_front (or_next f (doubled o)) out ≡ filled_front (or_next f o) curve_text out
-      by none (given c) = refl
-      by none (refused e) = refl
-      by (some e) o = refl
+      by None (given c) = refl
+      by None (refused e) = refl
+      by (Some e) o = refl

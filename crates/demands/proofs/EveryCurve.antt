@@ -3,7 +3,7 @@
 use Prim.Native.Nat.{ℕ, ◌<◌}
 use mathlib.Core.Path.{◌≡◌, refl, sym, ap, ◌∙◌}
 use mathlib.Core.List.{List}
-use mathlib.Core.Option.{none}
+use Rattle.std.specs.Prelude.{None}
 use lib.ListN.{length, get_or}
 use Rattle.meanings.specs.declared.Estimate.{Estimate}
 use Rattle.meanings.specs.declared.Limits.{Limits}
@@ -38,7 +38,7 @@ module _ (L : Limits) (within : LimitsWithin L full) (ts vs zs hs rs rs' : List 
       let e = five_are_row rs' k (estimate ts vs (get_or zs k 0) (get_or hs k 0)) (rw stored r.1) in
       evaluation_among ts vs (get_or zs k 0) (get_or hs k 0) (stored_row rs' k) (r.0 ∙ ap given (sym e)) present
 
-  coded_among : (c : ℕ) → c ≡ answered (λ n. n) (smooth L ts vs zs hs rs) → code_refusal c ≡ none
+  coded_among : (c : ℕ) → c ≡ answered (λ n. n) (smooth L ts vs zs hs rs) → code_refusal c ≡ None
       → Among ts vs (get_or zs k 0) (get_or hs k 0) (stored_row rs' k)
   coded_among c q e =
       let g = accepted_given (smooth L ts vs zs hs rs) (sym (smooth_coded L ts vs zs hs rs c q) ∙ e) in

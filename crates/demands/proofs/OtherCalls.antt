@@ -1,8 +1,9 @@
 -- What the row of a record, the filler, the reader and the writers give where they accept: by their contracts what their meanings give.
 use Prim.Native.Nat.{ℕ, ◌*◌}
+use Rattle.meanings.specs.declared.Counts.{Counts}
 use mathlib.Core.Path.{◌≡◌, refl, sym, ap, ◌∙◌}
 use mathlib.Core.List.{List, ◌++◌}
-use mathlib.Core.Option.{Option, none, some}
+use Rattle.std.specs.Prelude.{Option, None, Some}
 use native.Mathlib.Omega.{arith}
 use lib.ListN.{length, get_or, drop, replicate, length-replicate, get_or-replicate}
 use Rattle.meanings.specs.declared.Estimate.{Estimate}
@@ -15,7 +16,7 @@ use Rattle.meanings.specs.Grid.{presets, grid}
 use Rattle.meanings.specs.Sheet.{Contents, Outcome, or_next, read_sheet}
 use Rattle.meanings.specs.SheetForm.{IsSheet}
 use Rattle.meanings.specs.Output.{refusal_text}
-use Rattle.meanings.specs.Calls.{Counts, fill_refusal, fill, fill_points, fill_bandwidths, read, counts}
+use Rattle.meanings.specs.Calls.{fill_refusal, fill, fill_points, fill_bandwidths, read, counts}
 use Rattle.meanings.specs.Calls.{filled_front, buffer_refusal, write_refusal_text, refusal_buffer}
 use Rattle.meanings_ranges.specs.RangeOutput.{write_either}
 use Rattle.meanings.proofs.Checks.{given_accepted}
@@ -49,8 +50,8 @@ filled_grid z₀ spacing preset zs hs zs' hs' q a b =
 
 -- an accepted outcome is that of a sheet
 read_accepted : (s : List ℕ) (f : Option Fault) (c : Contents) → or_next f (read_sheet full s) ≡ given c → IsSheet full s c
-read_accepted s none c q = read_is_printed full s c q
-read_accepted s (some e) c q = let z : ◌≡◌ {A = ℕ} 0 1 = cc in absurd (omega arith)
+read_accepted s None c q = read_is_printed full s c q
+read_accepted s (Some e) c q = let z : ◌≡◌ {A = ℕ} 0 1 = cc in absurd (omega arith)
 
 module _ (s ts vs zs hs ts' vs' zs' hs' : List ℕ) (c : Contents) (o : Outcome) (accepted : read full s ts vs zs hs ≡ given c) (same : o ≡ given c)
     (a : ts' ≡ filled_front o (λ d. d.minutes) ts) (b : vs' ≡ filled_front o (λ d. d.values) vs) (d : zs' ≡ filled_front o (λ d. d.points) zs)

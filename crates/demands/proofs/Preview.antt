@@ -1,16 +1,17 @@
 -- The preview's promises. By its contract a preview is the sweep under the preview's limits, which are at most the full ones: what is known of a
 -- sweep under such limits is known of it, and beside the full sweep it is an instance of the law of two pairs of limits.
 use Prim.Native.Nat.{ℕ, ◌*◌}
+use Rattle.meanings.specs.Calls.{answer_of}
 use mathlib.Core.Path.{◌≡◌, sym, ap, ◌∙◌}
 use mathlib.Core.List.{List}
-use mathlib.Core.Option.{none, some}
+use Rattle.std.specs.Prelude.{None, Some}
 use native.Mathlib.Omega.{arith}
 use lib.ListN.{get_or}
 use Rattle.meanings.specs.Limits.{full, preview}
 use Rattle.meanings.specs.Reports.{Fault, Answer, given, refused}
 use Rattle.meanings.specs.Estimate.{estimate}
 use Rattle.meanings.specs.Claim.{refusal}
-use Rattle.meanings.specs.Calls.{smoothing_answer, smooth}
+use Rattle.meanings.specs.Calls.{smooth}
 use Rattle.meanings.proofs.Checks.{preview_within_full}
 use Rattle.meanings.proofs.SmoothLog.{smooth_passes}
 use Rattle.meanings.proofs.SmoothRows.{smooth_row_is_evaluate}
@@ -25,12 +26,12 @@ use Rattle.demands.proofs.Demand2.{swept_rows}
 use Rattle.demands.proofs.Rows.{five_are_row}
 
 -- an answer is refused with what its refusal says
-refused_with : {A : Type 0} (t : Answer A) (e : Fault) → refusal t ≡ some e → t ≡ refused e
+refused_with : {A : Type 0} (t : Answer A) (e : Fault) → refusal t ≡ Some e → t ≡ refused e
 refused_with (given a) e q = let z : ◌≡◌ {A = ℕ} 0 1 = cc in absurd (omega arith)
 refused_with (refused f) e q = let same : f ≡ e = cc in ap refused same
 
 -- passes that a call for C and Rust has told
-given_passes : (ts vs zs hs rs : List ℕ) (c : ℕ) → c ≡ answered (λ n. n) (smooth preview ts vs zs hs rs) → code_refusal c ≡ none
+given_passes : (ts vs zs hs rs : List ℕ) (c : ℕ) → c ≡ answered (λ n. n) (smooth preview ts vs zs hs rs) → code_refusal c ≡ None
     → (n : ℕ) × (smooth preview ts vs zs hs rs ≡ given n)
 given_passes ts vs zs hs rs c q e = accepted_given (smooth preview ts vs zs hs rs) (sym (smooth_coded preview ts vs zs hs rs c q) ∙ e)
 
@@ -41,7 +42,7 @@ at_zero o f p e = e ∙ ap (λ (q : ℕ). refused (record { number = 8; place = 
 
 pub preview_holds : Preview
 preview_holds = record {
-  preview_refused = λ ts vs zs hs rs a rs' c. smooth_refused preview ts vs zs hs rs (smoothing_answer a) rs' c.ensured.0 c.ensured.1;
+  preview_refused = λ ts vs zs hs rs a rs' c. smooth_refused preview ts vs zs hs rs (answer_of a) rs' c.ensured.0 c.ensured.1;
   preview_rows = λ ts vs zs hs rs n rs' v c. swept_rows preview preview_within_full ts vs zs hs rs rs' n v (sym c.ensured.0) c.ensured.1;
   row_of_question = λ ts vs zs hs rs n rs' k a c l q.
       let r = smooth_row_is_evaluate preview ts vs zs hs rs n k (sym c.ensured.0) l full preview_within_full.samples in

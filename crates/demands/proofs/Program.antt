@@ -1,15 +1,17 @@
 -- The program. Each list of bytes is a sheet of some lists or is refused, never both and in one way only; the reader's meaning goes with it,
 -- so what is written is the curve of those lists or that refusal. An accepted sheet's lists are accepted by the sweep and at each mark.
 use Prim.Native.Nat.{ℕ, suc, ◌*◌, ◌≤◌, ◌<◌}
+use Rattle.std.specs.Prelude.{Result}
+use Rattle.meanings.specs.declared.Refusal.{Refusal}
+use Rattle.meanings.specs.Calls.{answer_of}
 use mathlib.Core.Path.{◌≡◌, refl, sym, ap, ◌∙◌}
 use mathlib.Core.Logic.{◌⊎◌, inl, inr}
 use mathlib.Core.List.{List, ◌++◌}
-use mathlib.Core.Option.{Option, none, some}
+use Rattle.std.specs.Prelude.{Option, None, Some}
 use native.Mathlib.Nat.{le_refl}
 use native.Mathlib.Omega.{arith}
 use borrow.Author.Tests.{ltb-false}
 use lib.ListN.{length, get_or, drop, replicate, length-append, length-replicate}
-use Rattle.meanings.specs.declared.Writing.{Writing}
 use Rattle.meanings.specs.Lists.{AtMost}
 use Rattle.meanings.specs.Limits.{full, max_u16, row_width, max_output, max_plain_output}
 use Rattle.meanings.specs.Moves.{moves}
@@ -21,7 +23,7 @@ use Rattle.meanings.specs.Claim.{refusal}
 use Rattle.meanings.specs.Sheet.{Contents, or_next}
 use Rattle.meanings.specs.SheetForm.{IsSheet}
 use Rattle.meanings.specs.Output.{curve_text, refusal_text}
-use Rattle.meanings.specs.Calls.{smooth, writing_answer, write_refusal_text, refusal_buffer}
+use Rattle.meanings.specs.Calls.{smooth, write_refusal_text, refusal_buffer}
 use Rattle.meanings.proofs.PublishedRows.{published_row}
 use Rattle.meanings.proofs.Checks.{same_limits, differ_same, steps_ordered, bandwidth_in_range}
 use Rattle.meanings.proofs.SmoothLog.{smooth_passes}
@@ -115,9 +117,9 @@ range_text s c i = program_goes_by s (given c) (form_is_read full s c (range_she
 -- the buffer of an accepted sheet, whatever the buffer's own check says
 curve_in_front : (s out out' : List ℕ) (k : ℕ) (f : Option Fault) (o : Answer RangeContents) → read_either full s ≡ o → given k ≡ text_size (or_next f o)
     → out' ≡ text_front (or_next f o) out → (k ≡ length (either_program s)) × (out' ≡ either_program s ++ drop (length (either_program s)) out)
-curve_in_front s out out' k none (given c) r a b = rw (program_goes_by s (given c) r) (cc, b)
-curve_in_front s out out' k none (refused e) r a b = let z : ◌≡◌ {A = ℕ} 0 1 = cc in absurd (omega arith)
-curve_in_front s out out' k (some e) o r a b = let z : ◌≡◌ {A = ℕ} 0 1 = cc in absurd (omega arith)
+curve_in_front s out out' k None (given c) r a b = rw (program_goes_by s (given c) r) (cc, b)
+curve_in_front s out out' k None (refused e) r a b = let z : ◌≡◌ {A = ℕ} 0 1 = cc in absurd (omega arith)
+curve_in_front s out out' k (Some e) o r a b = let z : ◌≡◌ {A = ℕ} 0 1 = cc in absurd (omega arith)
 
 pub text_in_front : (s out : List ℕ) (k : ℕ) (out' : List ℕ) → given k ≡ write_either s out → out' ≡ write_either_buffer s out
     → (k ≡ length (either_program s)) × (out' ≡ either_program s ++ drop (length (either_program s)) out)
@@ -125,14 +127,14 @@ unfolding write_either write_either_buffer
 text_in_front s out k out' a b = curve_in_front s out out' k (first_of (buffer_checks (length out))) (read_either full s) refl a b
 
 -- a refused sheet in a buffer of the right length: the sheet's refusal, and the buffer as it was
-refused_sheet : (s out out' : List ℕ) (f : Fault) (o : Answer RangeContents) → read_either full s ≡ o → refusal (text_size o) ≡ some f
+refused_sheet : (s out out' : List ℕ) (f : Fault) (o : Answer RangeContents) → read_either full s ≡ o → refusal (text_size o) ≡ Some f
     → out' ≡ text_front o out → (either_program s ≡ refusal_text f) × (out' ≡ out)
 refused_sheet s out out' f (given c) r a b = let z : ◌≡◌ {A = ℕ} 0 1 = cc in absurd (omega arith)
 refused_sheet s out out' f (refused e) r a b = let q : e ≡ f = cc in (program_goes_by s (refused e) r ∙ ap refusal_text q, b)
 
-refusal_in_front : (s out out' out'' : List ℕ) (f : Fault) (a b : Writing) → length out ≡ max_output → writing_answer a ≡ write_either s out
-    → out' ≡ write_either_buffer s out → refusal (writing_answer a) ≡ some f → RefusalTextCall f.number f.place out' b out''
-    → (writing_answer b ≡ given (length (either_program s))) × (out'' ≡ either_program s ++ drop (length (either_program s)) out)
+refusal_in_front : (s out out' out'' : List ℕ) (f : Fault) (a b : Result ℕ Refusal) → length out ≡ max_output → answer_of a ≡ write_either s out
+    → out' ≡ write_either_buffer s out → refusal (answer_of a) ≡ Some f → RefusalTextCall f.number f.place out' b out''
+    → (answer_of b ≡ given (length (either_program s))) × (out'' ≡ either_program s ++ drop (length (either_program s)) out)
 unfolding write_either write_either_buffer write_refusal_text refusal_buffer
 refusal_in_front s out out' out'' f a b l answer text q d =
     let e = differ_same (length out) max_output l in

@@ -1,18 +1,19 @@
 -- The row of a record. Its call gives the formulas over the record's sums modulo 2^64, which for a record with the edges and sums of a window
 -- are the window's row. After steps from fresh the record has those of the last accepted step's window.
 use Prim.Native.Nat.{ℕ, zero, suc, ◌+◌, ◌*◌, ◌%◌, ◌^◌, ◌≤◌, ◌<◌}
+use Rattle.std.specs.Prelude.{Result, Ok, Err}
+use Rattle.meanings.specs.declared.Refusal.{Refusal}
+use Rattle.meanings.specs.Calls.{answer_of}
 use mathlib.Core.Path.{◌≡◌, refl, sym, ap, ◌∙◌}
 use mathlib.Core.Logic.{inl, inr}
 use mathlib.Core.List.{List, [], ◌∷◌}
-use mathlib.Core.Option.{Option, none, some}
+use Rattle.std.specs.Prelude.{Option, None, Some}
 use native.Mathlib.Nat.{mod-mod}
 use native.Mathlib.Omega.{arith}
 use borrow.Author.Tests.{ltb-false}
 use lib.ListN.{length}
 use Rattle.meanings.specs.declared.Estimate.{Estimate}
 use Rattle.meanings.specs.declared.RunningSums.{RunningSums}
-use Rattle.meanings.specs.declared.Evaluation.{Evaluation}
-use Rattle.meanings.specs.declared.Evaluation.TheVariants.{Row}
 use Rattle.meanings.specs.Lists.{AtMost, Ordered}
 use Rattle.meanings.specs.Limits.{full, max_u16, max_bandwidth, row_width}
 use Rattle.meanings.specs.Moves.{Move}
@@ -22,7 +23,7 @@ use Rattle.meanings.specs.PublishedRow.{Nearest}
 use Rattle.meanings.specs.Running.{window_sums, plus, combined, record_row}
 use Rattle.meanings.specs.EventLog.{log_refusal}
 use Rattle.meanings.specs.Claim.{accepted_next, accepted_after, last_accepted, record_after}
-use Rattle.meanings.specs.Calls.{evaluation_answer, evaluate, evaluate_refusal}
+use Rattle.meanings.specs.Calls.{evaluate, evaluate_refusal}
 use Rattle.meanings.proofs.Checks.{none_holds, at_none, differ_false, bandwidth_in_range, given_accepted, evaluate_accepts, same_limits}
 use Rattle.meanings.proofs.Claim.{record_at, record_follows}
 use Rattle.meanings.proofs.Modulo.{minus_below, minus_undone}
@@ -94,21 +95,21 @@ row_of_window_record ts vs z h r e v left right sums q =
     record_of_window_gives_row ts vs z h r a.ordered f left right sums ∙ g.1
 
 -- the last accepted step of a list is one that the log accepts
-last_was_accepted : (ts vs : List ℕ) (o : Option Move) (ms : List Move) (m : Move) → (o ≡ some m → log_refusal ts vs m ≡ none)
-    → accepted_after ts vs o ms ≡ some m → log_refusal ts vs m ≡ none
+last_was_accepted : (ts vs : List ℕ) (o : Option Move) (ms : List Move) (m : Move) → (o ≡ Some m → log_refusal ts vs m ≡ None)
+    → accepted_after ts vs o ms ≡ Some m → log_refusal ts vs m ≡ None
 last_was_accepted ts vs o [] m f q = f q
 last_was_accepted ts vs o (n ∷ ms) m f q = last_was_accepted ts vs (accepted_next ts vs o n) ms m (by (log_refusal ts vs n) refl) q
   where
-    by : (g : Option Fault) → log_refusal ts vs n ≡ g → accepted_or g (some n) o ≡ some m → log_refusal ts vs m ≡ none
-    by none e r = let same : n ≡ m = cc in sym (ap (log_refusal ts vs) same) ∙ e
-    by (some x) e r = f r
+    by : (g : Option Fault) → log_refusal ts vs n ≡ g → accepted_or g (Some n) o ≡ Some m → log_refusal ts vs m ≡ None
+    by None e r = let same : n ≡ m = cc in sym (ap (log_refusal ts vs) same) ∙ e
+    by (Some x) e r = f r
 
 in_range : (h : ℕ) → 0 < h → h ≤ max_bandwidth → ¬ OutOfRange max_bandwidth h
 in_range h l m (inl e) = omega arith
 in_range h l m (inr k) = omega arith
 
 -- so the question at its mark, over ordered readings, is accepted
-module _ (ts vs : List ℕ) (ordered : Ordered ts) (m : Move) (accepted : log_refusal ts vs m ≡ none) where
+module _ (ts vs : List ℕ) (ordered : Ordered ts) (m : Move) (accepted : log_refusal ts vs m ≡ None) where
   even : length ts ≡ length vs
   even = differ_false (length ts) (length vs) (at_none 0 _ (none_holds (log_checks full ts vs m.bandwidth) accepted).0)
 
@@ -136,12 +137,12 @@ module _ (ts vs : List ℕ) (ordered : Ordered ts) (m : Move) (accepted : log_re
       (λ n p. none_or_first (evaluate_conditions ts vs m.bandwidth) n p no_fault))
 
 -- after steps from fresh, at the last accepted one's mark and half width
-module _ (ts vs : List ℕ) (ms : List Move) (m : Move) (o : OrderedSteps ts vs ms) (last : last_accepted ts vs ms ≡ some m) where
-  no_step_before : none ≡ some m → log_refusal ts vs m ≡ none
+module _ (ts vs : List ℕ) (ms : List Move) (m : Move) (o : OrderedSteps ts vs ms) (last : last_accepted ts vs ms ≡ Some m) where
+  no_step_before : None ≡ Some m → log_refusal ts vs m ≡ None
   no_step_before e = let z : ◌≡◌ {A = ℕ} 0 1 = cc in absurd (omega arith)
 
   pub last_question : evaluate full ts vs m.point m.bandwidth ≡ given (estimate ts vs m.point m.bandwidth)
-  last_question = question_accepted ts vs o.ordered m (last_was_accepted ts vs none ms m no_step_before last)
+  last_question = question_accepted ts vs o.ordered m (last_was_accepted ts vs None ms m no_step_before last)
 
   pub row_after_steps : (r : RunningSums) → r ≡ record_after ts vs ms
       → record_row r m.point m.bandwidth ≡ estimate ts vs m.point m.bandwidth
@@ -153,9 +154,9 @@ module _ (ts vs : List ℕ) (ms : List Move) (m : Move) (o : OrderedSteps ts vs 
       last_question
 
 -- an answer that gives a row is that row's
-pub answered_row : (a : Evaluation) (e : Estimate) → evaluation_answer a ≡ given e → a ≡ Row e
-answered_row (Row d) e q = let same : d ≡ e = cc in ap Row same
-answered_row (Evaluation.Refused f) e q = let z : ◌≡◌ {A = ℕ} 0 1 = cc in absurd (omega arith)
+pub answered_row : (a : Result Estimate Refusal) (e : Estimate) → answer_of a ≡ given e → a ≡ Ok e
+answered_row (Ok d) e q = let same : d ≡ e = cc in ap Ok same
+answered_row (Err f) e q = let z : ◌≡◌ {A = ℕ} 0 1 = cc in absurd (omega arith)
 
 -- the exported calls, with lists of their lengths
 pub exported_record_row_gives : (xs : List ℕ) (z h : ℕ) (row : List ℕ) (c : ℕ) (row' : List ℕ) → length xs ≡ record_length → length row ≡ row_width

@@ -3,17 +3,14 @@
 -- source's `ensures`, of the arguments, the answer and the arguments at exit. A list that is lent to be read is at exit what it was, by the
 -- type of the loan; a lifetime is how long a loan lasts.
 use Rattle.std.specs.Prelude.{ℕ, List}
+use Rattle.std.specs.Prelude.{Result}
+use Rattle.meanings.specs.declared.Counts.{Counts}
+use Rattle.meanings.specs.declared.Refusal.{Refusal}
 use denote.Ref.{Bor, MutBor, Gone}
 use contract.Lifetimes.{Lfts}
 use borrow.Fn.Kinds.{Dens}
 use Rattle.meanings.specs.declared.Estimate.{Estimate}
 use Rattle.meanings.specs.declared.RunningSums.{RunningSums}
-use Rattle.meanings.specs.declared.Evaluation.{Evaluation}
-use Rattle.meanings.specs.declared.Advance.{Advance}
-use Rattle.meanings.specs.declared.Smoothing.{Smoothing}
-use Rattle.meanings.specs.declared.Filling.{Filling}
-use Rattle.meanings.specs.declared.Parsing.{Parsing}
-use Rattle.meanings.specs.declared.Writing.{Writing}
 use Rattle.estimator.proofs.evaluate.Reads as evaluate
 use Rattle.estimator.proofs.window.Reads as window
 use Rattle.estimator.proofs.advance.Reads as advance
@@ -93,7 +90,7 @@ lent x xs = record { ref_ptr = x.ref_ptr; now = xs }
 abbrev pub lent_mut : Place → List ℕ → MutBor (List ℕ)
 lent_mut x xs = record { ref_ptr = x.ref_ptr; ghost_name = x.ghost_name; now = xs }
 
-pub record EvaluateCall (ts vs : List ℕ) (z h : ℕ) (a : Evaluation) : Type 0 where
+pub record EvaluateCall (ts vs : List ℕ) (z h : ℕ) (a : Result Estimate Refusal) : Type 0 where
   pub lifetimes : Lfts 2
   pub minutes_at : Place
   pub values_at : Place
@@ -107,7 +104,7 @@ pub record WindowCall (ts vs : List ℕ) (z h : ℕ) (values_at : Place) (part :
   pub ensured :
       window.Post lifetimes (lent minutes_at ts, (lent values_at vs, (z, (h, tt)))) part (lent minutes_at ts, (lent values_at vs, (z, (h, tt))))
 
-pub record AdvanceCall (r : RunningSums) (ts vs : List ℕ) (z h : ℕ) (a : Advance) : Type 0 where
+pub record AdvanceCall (r : RunningSums) (ts vs : List ℕ) (z h : ℕ) (a : Result RunningSums Refusal) : Type 0 where
   pub lifetimes : Lfts 2
   pub minutes_at : Place
   pub values_at : Place
@@ -120,7 +117,7 @@ pub record RecordRowCall (r : RunningSums) (z h : ℕ) (e : Estimate) : Type 0 w
   pub ensured : record_row.Post lifetimes (r, (z, (h, tt))) e (r, (z, (h, tt)))
 
 -- rs and rs' are the rows at entry and at exit, and so for every list below
-pub record SmoothCall (ts vs zs hs rs : List ℕ) (a : Smoothing) (rs' : List ℕ) : Type 0 where
+pub record SmoothCall (ts vs zs hs rs : List ℕ) (a : Result ℕ Refusal) (rs' : List ℕ) : Type 0 where
   pub lifetimes : Lfts 5
   pub minutes_at : Place
   pub values_at : Place
@@ -131,7 +128,7 @@ pub record SmoothCall (ts vs zs hs rs : List ℕ) (a : Smoothing) (rs' : List �
       smooth.Post lifetimes (lent minutes_at ts, (lent values_at vs, (lent points_at zs, (lent bandwidths_at hs, (lent_mut rows_at rs, tt))))) a
       (lent minutes_at ts, (lent values_at vs, (lent points_at zs, (lent bandwidths_at hs, (lent_mut rows_at rs', tt)))))
 
-pub record PreviewCall (ts vs zs hs rs : List ℕ) (a : Smoothing) (rs' : List ℕ) : Type 0 where
+pub record PreviewCall (ts vs zs hs rs : List ℕ) (a : Result ℕ Refusal) (rs' : List ℕ) : Type 0 where
   pub lifetimes : Lfts 5
   pub minutes_at : Place
   pub values_at : Place
@@ -142,7 +139,7 @@ pub record PreviewCall (ts vs zs hs rs : List ℕ) (a : Smoothing) (rs' : List �
       preview.Post lifetimes (lent minutes_at ts, (lent values_at vs, (lent points_at zs, (lent bandwidths_at hs, (lent_mut rows_at rs, tt))))) a
       (lent minutes_at ts, (lent values_at vs, (lent points_at zs, (lent bandwidths_at hs, (lent_mut rows_at rs', tt)))))
 
-pub record FillCall (z₀ spacing preset : ℕ) (zs hs : List ℕ) (a : Filling) (zs' hs' : List ℕ) : Type 0 where
+pub record FillCall (z₀ spacing preset : ℕ) (zs hs : List ℕ) (a : Result Unit Refusal) (zs' hs' : List ℕ) : Type 0 where
   pub lifetimes : Lfts 2
   pub points_at : Place
   pub bandwidths_at : Place
@@ -150,7 +147,7 @@ pub record FillCall (z₀ spacing preset : ℕ) (zs hs : List ℕ) (a : Filling)
       fill_grid.Post lifetimes (z₀, (spacing, (preset, (lent_mut points_at zs, (lent_mut bandwidths_at hs, tt))))) a
       (z₀, (spacing, (preset, (lent_mut points_at zs', (lent_mut bandwidths_at hs', tt)))))
 
-pub record ReadCall (s ts vs zs hs : List ℕ) (a : Parsing) (ts' vs' zs' hs' : List ℕ) : Type 0 where
+pub record ReadCall (s ts vs zs hs : List ℕ) (a : Result Counts Refusal) (ts' vs' zs' hs' : List ℕ) : Type 0 where
   pub lifetimes : Lfts 5
   pub sheet_at : Place
   pub minutes_at : Place
@@ -162,19 +159,19 @@ pub record ReadCall (s ts vs zs hs : List ℕ) (a : Parsing) (ts' vs' zs' hs' : 
       (lent sheet_at s, (lent_mut minutes_at ts, (lent_mut values_at vs, (lent_mut points_at zs, (lent_mut bandwidths_at hs, tt))))) a
       (lent sheet_at s, (lent_mut minutes_at ts', (lent_mut values_at vs', (lent_mut points_at zs', (lent_mut bandwidths_at hs', tt)))))
 
-pub record TextCall (s out : List ℕ) (a : Writing) (out' : List ℕ) : Type 0 where
+pub record TextCall (s out : List ℕ) (a : Result ℕ Refusal) (out' : List ℕ) : Type 0 where
   pub lifetimes : Lfts 2
   pub sheet_at : Place
   pub out_at : Place
   pub ensured : curve_text.Post lifetimes (lent sheet_at s, (lent_mut out_at out, tt)) a (lent sheet_at s, (lent_mut out_at out', tt))
 
 -- the sheet is the buffer's first n bytes
-pub record OverCall (buf : List ℕ) (n : ℕ) (a : Writing) (buf' : List ℕ) : Type 0 where
+pub record OverCall (buf : List ℕ) (n : ℕ) (a : Result ℕ Refusal) (buf' : List ℕ) : Type 0 where
   pub lifetimes : Lfts 1
   pub buf_at : Place
   pub ensured : curve_text_over.Post lifetimes (lent_mut buf_at buf, (n, tt)) a (lent_mut buf_at buf', (n, tt))
 
-pub record RefusalTextCall (n p : ℕ) (out : List ℕ) (a : Writing) (out' : List ℕ) : Type 0 where
+pub record RefusalTextCall (n p : ℕ) (out : List ℕ) (a : Result ℕ Refusal) (out' : List ℕ) : Type 0 where
   pub lifetimes : Lfts 1
   pub out_at : Place
   pub ensured : refusal_text.Post lifetimes (n, (p, (lent_mut out_at out, tt))) a (n, (p, (lent_mut out_at out', tt)))

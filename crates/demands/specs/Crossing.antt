@@ -1,10 +1,14 @@
 -- What is promised of the first mark at or below a limit. ts are minutes, vs values, zs and hs marks and half widths, as in Demands.antt.
 use Rattle.std.specs.Prelude.{ℕ, ◌+◌, ◌*◌, ◌≤◌, ◌<◌, ◌≡◌, List, length, get_or}
-use Rattle.std.proofs.Math.Option.{none, some}
+use Rattle.std.specs.Prelude.{Ok}
+use Rattle.std.specs.Prelude.{Result}
+use Rattle.meanings_limit.specs.declared.Located.{Located}
+use Rattle.meanings.specs.declared.Refusal.{Refusal}
+use Rattle.meanings.specs.Calls.{answer_of}
+use Rattle.std.specs.Prelude.{None, Some}
 use contract.Lifetimes.{Lfts}
 use borrow.Fn.Kinds.{Dens}
 use Rattle.meanings.specs.declared.Estimate.{Estimate}
-use Rattle.meanings.specs.declared.Smoothing.{Smoothing}
 use Rattle.meanings.specs.Limits.{full, max_u16, row_width}
 use Rattle.meanings.specs.Lists.{AtMost}
 use Rattle.meanings.specs.Moves.{moves}
@@ -12,11 +16,8 @@ use Rattle.meanings.specs.PublishedRow.{PublishedRow}
 use Rattle.meanings.specs.Reports.{Fault, given}
 use Rattle.meanings.specs.EventLog.{empty_log, log_after, insertion_count, eviction_count}
 use Rattle.meanings.specs.Claim.{refusal}
-use Rattle.meanings.specs.Calls.{smoothing_answer}
 use Rattle.meanings.specs.Codes.{detail_unit}
-use Rattle.meanings_limit.specs.declared.Crossing.{Crossing}
-use Rattle.meanings_limit.specs.declared.Crossing.TheVariants.{Reached, NotReached}
-use Rattle.meanings_limit.specs.Crossing.{Located, crossing_answer, answer_by_rows, reach}
+use Rattle.meanings_limit.specs.Crossing.{answer_by_rows, reach}
 use Rattle.abi_answers.specs.Positions.{no_position, position_of}
 use Rattle.crossing.proofs.first_at_most.Reads as first_at_most
 use Rattle.crossing.proofs.first_at_most.Kinds as first_at_most_kinds
@@ -28,7 +29,7 @@ use Rattle.demands.specs.Calls.{Place, lent, lent_mut, SmoothCall}
 use Rattle.demands.specs.Conditions.{Conditions, RefusedExactly, FirstFault, curve_conditions, length_first, code_refusal}
 
 -- calls that were made
-pub record FirstAtMostCall (ts vs zs hs : List ℕ) (limit : ℕ) (a : Crossing) : Type 0 where
+pub record FirstAtMostCall (ts vs zs hs : List ℕ) (limit : ℕ) (a : Result Located Refusal) : Type 0 where
   pub lifetimes : Lfts 4
   pub minutes_at : Place
   pub values_at : Place
@@ -76,33 +77,35 @@ pub record Crossings : Type 2 where
   pub exported_ends : {M : Type 1} → exported_first_at_most_code.statement M
   pub exported_asks_nothing : (κs : Lfts 5) (a : Dens κs exported_first_at_most_kinds.ps) → exported_first_at_most.Asked κs a
   -- unfit lists are refused before any answer, under the listed conditions only
-  pub refused : (ts vs zs hs : List ℕ) (limit : ℕ) (a : Crossing) → FirstAtMostCall ts vs zs hs limit a
-      → RefusedExactly (refusal (crossing_answer a)) (FirstFault (crossing_conditions ts vs zs hs))
+  pub refused : (ts vs zs hs : List ℕ) (limit : ℕ) (a : Result Located Refusal) → FirstAtMostCall ts vs zs hs limit a
+      → RefusedExactly (refusal (answer_of a)) (FirstFault (crossing_conditions ts vs zs hs))
   -- the answer is the first mark that is low enough, or none; the passes are then the insertions plus evictions of an event log of all marks, at most
   -- two for each reading
-  pub reached : (ts vs zs hs : List ℕ) (limit k n : ℕ) → AtMost max_u16 ts → AtMost max_u16 vs → FirstAtMostCall ts vs zs hs limit (Reached k n)
+  pub reached : (ts vs zs hs : List ℕ) (limit k n : ℕ) → AtMost max_u16 ts → AtMost max_u16 vs
+      → FirstAtMostCall ts vs zs hs limit (Ok (record { position = Some k; passes = n }))
       → FirstLow ts vs zs hs limit k n
-  pub not_reached : (ts vs zs hs : List ℕ) (limit n : ℕ) → AtMost max_u16 ts → AtMost max_u16 vs → FirstAtMostCall ts vs zs hs limit (NotReached n)
+  pub not_reached : (ts vs zs hs : List ℕ) (limit n : ℕ) → AtMost max_u16 ts → AtMost max_u16 vs
+      → FirstAtMostCall ts vs zs hs limit (Ok (record { position = None; passes = n }))
       → NoneLow ts vs zs hs limit
       × (n ≡ insertion_count (log_after ts vs empty_log (moves zs hs)) + eviction_count (log_after ts vs empty_log (moves zs hs)))
       × (n ≤ 2 * length ts)
   -- it is what a sweep with room for its rows would say: refused alike, at the same place; else position and passes are those of its rows,
   -- with none its passes
-  pub by_the_full_curve : (ts vs zs hs rs : List ℕ) (limit : ℕ) (a : Crossing) (b : Smoothing) (rs' : List ℕ) → AtMost max_u16 ts
+  pub by_the_full_curve : (ts vs zs hs rs : List ℕ) (limit : ℕ) (a : Result Located Refusal) (b : Result ℕ Refusal) (rs' : List ℕ) → AtMost max_u16 ts
       → AtMost max_u16 vs → length rs ≡ row_width * length zs → FirstAtMostCall ts vs zs hs limit a → SmoothCall ts vs zs hs rs b rs'
-      → crossing_answer a ≡ answer_by_rows rs' (length zs) limit (smoothing_answer b)
+      → answer_of a ≡ answer_by_rows rs' (length zs) limit (answer_of b)
   -- values from right of the answering mark on, with none of the last mark, have no influence
-  pub values_behind_do_not_count : (ts vs vs' zs hs : List ℕ) (limit : ℕ) (l : Located) (a b : Crossing) → AtMost max_u16 ts → AtMost max_u16 vs
-      → AtMost max_u16 vs' → length vs ≡ length vs' → FirstAtMostCall ts vs zs hs limit a → crossing_answer a ≡ given l
+  pub values_behind_do_not_count : (ts vs vs' zs hs : List ℕ) (limit : ℕ) (l : Located) (a b : Result Located Refusal) → AtMost max_u16 ts → AtMost max_u16 vs
+      → AtMost max_u16 vs' → length vs ≡ length vs' → FirstAtMostCall ts vs zs hs limit a → answer_of a ≡ given l
       → ((i : ℕ) → i < reach ts zs hs l.position → get_or vs i 0 ≡ get_or vs' i 0) → FirstAtMostCall ts vs' zs hs limit b
-      → crossing_answer b ≡ given l
+      → answer_of b ≡ given l
   -- the call for C and Rust is refused likewise, and its list then stays
   pub exported_refused : (ts vs zs hs : List ℕ) (limit : ℕ) (xs : List ℕ) (c : ℕ) (xs' : List ℕ) → ExportedFirstAtMost ts vs zs hs limit xs c xs'
       → RefusedExactly (code_refusal c) (FirstFault (length_first 1 xs (crossing_conditions ts vs zs hs)))
-      × ((e : Fault) → code_refusal c ≡ some e → xs' ≡ xs)
+      × ((e : Fault) → code_refusal c ≡ Some e → xs' ≡ xs)
   -- accepted, its one number is read back as position or none, and its detail is the passes
-  pub exported_tells : (ts vs zs hs : List ℕ) (limit : ℕ) (xs : List ℕ) (c : ℕ) (xs' : List ℕ) (a : Crossing)
-      → ExportedFirstAtMost ts vs zs hs limit xs c xs' → FirstAtMostCall ts vs zs hs limit a → code_refusal c ≡ none
-      → (l : Located) × ((crossing_answer a ≡ given l) × (c ≡ detail_unit * l.passes) × (length xs' ≡ 1) × (position_of (get_or xs' 0 0) ≡ l.position))
+  pub exported_tells : (ts vs zs hs : List ℕ) (limit : ℕ) (xs : List ℕ) (c : ℕ) (xs' : List ℕ) (a : Result Located Refusal)
+      → ExportedFirstAtMost ts vs zs hs limit xs c xs' → FirstAtMostCall ts vs zs hs limit a → code_refusal c ≡ None
+      → (l : Located) × ((answer_of a ≡ given l) × (c ≡ detail_unit * l.passes) × (length xs' ≡ 1) × (position_of (get_or xs' 0 0) ≡ l.position))
   -- what stands for none is no position of a list that 64 bits can count
   pub none_is_no_position : (zs : List ℕ) (k : ℕ) → length zs ≤ no_position → k < length zs → ¬ (k ≡ no_position)

@@ -7,22 +7,14 @@
 -- ts are minutes, vs values, z a mark, h a half width, zs and hs lists of these, rs rows, s the bytes of a sheet; a list at exit has a prime.
 -- `AtMost max_u16` says that a list's numbers have 16 bits, as the type of the lent list has it; it stands where a bound is needed.
 use Rattle.std.specs.Prelude.{ℕ, suc, ◌+◌, ◌-◌, ◌*◌, ◌%◌, ◌^◌, ◌≤◌, ◌<◌, ◌≡◌, ◌↔◌, ◌⊎◌, List, [], ◌∷◌, ◌++◌, map, length, get_or, take, drop, replicate}
-use Rattle.std.proofs.Math.Option.{none, some}
+use Rattle.std.specs.Prelude.{Result, Ok, Err}
+use Rattle.meanings.specs.declared.Counts.{Counts}
+use Rattle.meanings.specs.declared.Refusal.{Refusal}
+use Rattle.meanings.specs.Calls.{answer_of}
+use Rattle.std.specs.Prelude.{None, Some}
 use Rattle.std.specs.Borrow.{Bor}
 use Rattle.meanings.specs.declared.Estimate.{Estimate}
 use Rattle.meanings.specs.declared.RunningSums.{RunningSums}
-use Rattle.meanings.specs.declared.Evaluation.{Evaluation}
-use Rattle.meanings.specs.declared.Evaluation.TheVariants.{Row}
-use Rattle.meanings.specs.declared.Advance.{Advance}
-use Rattle.meanings.specs.declared.Advance.TheVariants.{Moved}
-use Rattle.meanings.specs.declared.Smoothing.{Smoothing}
-use Rattle.meanings.specs.declared.Smoothing.TheVariants.{Passes}
-use Rattle.meanings.specs.declared.Filling.{Filling}
-use Rattle.meanings.specs.declared.Filling.TheVariants.{Filled}
-use Rattle.meanings.specs.declared.Parsing.{Parsing}
-use Rattle.meanings.specs.declared.Parsing.TheVariants.{Used}
-use Rattle.meanings.specs.declared.Writing.{Writing}
-use Rattle.meanings.specs.declared.Writing.TheVariants.{Written}
 use Rattle.meanings.specs.Lists.{AtMost, Ordered}
 use Rattle.meanings.specs.Limits.{full, preview, max_u16, row_width, max_sheet, max_output, max_plain_output}
 use Rattle.meanings.specs.Moves.{Move, moves}
@@ -42,7 +34,6 @@ use Rattle.meanings_ranges.specs.SheetCases.{ProgramCase, program_result, progra
 use Rattle.laws_range_form.specs.RangeForm.{NamesRanges, IsRangeSheet, EitherSheet, EitherRefused}
 use Rattle.meanings.specs.Cases.{AllHold}
 use Rattle.meanings.specs.Document.{document_cases}
-use Rattle.meanings.specs.Calls.{evaluation_answer, advance_answer, smoothing_answer, filling_answer, parsing_answer, writing_answer}
 use Rattle.laws_rows.specs.AmongReadings.{Among}
 use Rattle.laws_rows.specs.Rearranged.{Rearranged}
 use Rattle.laws_rows.specs.TwoLimits.{Fits, Over}
@@ -119,17 +110,18 @@ pub record ProgramHolds (s : List ℕ) : Type 0 where
   pub plain_fits : (c : Contents) → IsSheet full s c → length (either_program s) ≤ max_plain_output
   -- two calls put just that in front of such a buffer: the first where there is a curve; else the second, with the report and place that the
   -- first has answered
-  pub by_curve : (out out' : List ℕ) (k : ℕ) → TextCall s out (Written k) out'
+  pub by_curve : (out out' : List ℕ) (k : ℕ) → TextCall s out (Ok k) out'
       → (k ≡ length (either_program s)) × (out' ≡ either_program s ++ drop (length (either_program s)) out)
-  pub by_refusal : (out out' out'' : List ℕ) (f : Fault) (a b : Writing) → length out ≡ max_output → TextCall s out a out'
-      → refusal (writing_answer a) ≡ some f → RefusalTextCall f.number f.place out' b out''
-      → (writing_answer b ≡ given (length (either_program s))) × (out'' ≡ either_program s ++ drop (length (either_program s)) out)
+  pub by_refusal : (out out' out'' : List ℕ) (f : Fault) (a b : Result ℕ Refusal) → length out ≡ max_output → TextCall s out a out'
+      → refusal (answer_of a) ≡ Some f → RefusalTextCall f.number f.place out' b out''
+      → (answer_of b ≡ given (length (either_program s))) × (out'' ≡ either_program s ++ drop (length (either_program s)) out)
   -- and so does, in place of the first, the call that writes over its sheet, the front of the buffer: the program makes that one
-  pub by_curve_over : (buf buf' : List ℕ) (n k : ℕ) → take n buf ≡ s → OverCall buf n (Written k) buf'
+  pub by_curve_over : (buf buf' : List ℕ) (n k : ℕ) → take n buf ≡ s → OverCall buf n (Ok k) buf'
       → (k ≡ length (either_program s)) × (buf' ≡ either_program s ++ drop (length (either_program s)) buf)
-  pub by_refusal_over : (buf buf' buf'' : List ℕ) (n : ℕ) (f : Fault) (a b : Writing) → take n buf ≡ s → length buf ≡ max_output → OverCall buf n a buf'
-      → refusal (writing_answer a) ≡ some f → RefusalTextCall f.number f.place buf' b buf''
-      → (writing_answer b ≡ given (length (either_program s))) × (buf'' ≡ either_program s ++ drop (length (either_program s)) buf)
+  pub by_refusal_over : (buf buf' buf'' : List ℕ) (n : ℕ) (f : Fault) (a b : Result ℕ Refusal) → take n buf ≡ s → length buf ≡ max_output
+      → OverCall buf n a buf'
+      → refusal (answer_of a) ≡ Some f → RefusalTextCall f.number f.place buf' b buf''
+      → (answer_of b ≡ given (length (either_program s))) × (buf'' ≡ either_program s ++ drop (length (either_program s)) buf)
 
 -- ---------------------------------------------------------------------------------------------------------------------------------------
 -- Demand 1
@@ -140,34 +132,34 @@ pub record Demand1 : Type 2 where
   -- the program
   pub program_holds : (s : List ℕ) → ProgramHolds s
   -- the question at one mark
-  pub evaluate_refused : (ts vs : List ℕ) (z h : ℕ) (a : Evaluation) → EvaluateCall ts vs z h a
-      → RefusedExactly (refusal (evaluation_answer a)) (FirstFault (evaluate_conditions ts vs h))
+  pub evaluate_refused : (ts vs : List ℕ) (z h : ℕ) (a : Result Estimate Refusal) → EvaluateCall ts vs z h a
+      → RefusedExactly (refusal (answer_of a)) (FirstFault (evaluate_conditions ts vs h))
   -- its run: where the question is refused the part is empty, at the start of the values
   pub window_refused : (ts vs : List ℕ) (z h : ℕ) (values_at : Place) (part : Bor (List ℕ)) → WindowCall ts vs z h values_at part
       → (n p : ℕ) → FirstFault (evaluate_conditions ts vs h) n p
       → (part.now ≡ []) × (part.ref_ptr.0 ≡ values_at.ref_ptr.0) × (part.ref_ptr.1 ≡ values_at.ref_ptr.1)
   -- the single step, on a record of any origin
-  pub advance_refused : (r : RunningSums) (ts vs : List ℕ) (z h : ℕ) (a : Advance) → AdvanceCall r ts vs z h a
-      → RefusedExactly (refusal (advance_answer a)) (FirstFault (advance_conditions ts vs r.left r.right h))
+  pub advance_refused : (r : RunningSums) (ts vs : List ℕ) (z h : ℕ) (a : Result RunningSums Refusal) → AdvanceCall r ts vs z h a
+      → RefusedExactly (refusal (answer_of a)) (FirstFault (advance_conditions ts vs r.left r.right h))
   -- the whole sweep
-  pub smooth_refused : (ts vs zs hs rs : List ℕ) (a : Smoothing) (rs' : List ℕ) → SmoothCall ts vs zs hs rs a rs'
-      → RefusedAndStays (refusal (smoothing_answer a)) (FirstFault (smooth_conditions full ts vs zs hs (length rs))) (rs' ≡ rs)
+  pub smooth_refused : (ts vs zs hs rs : List ℕ) (a : Result ℕ Refusal) (rs' : List ℕ) → SmoothCall ts vs zs hs rs a rs'
+      → RefusedAndStays (refusal (answer_of a)) (FirstFault (smooth_conditions full ts vs zs hs (length rs))) (rs' ≡ rs)
   -- the mark filler
-  pub fill_refused : (z₀ spacing preset : ℕ) (zs hs : List ℕ) (a : Filling) (zs' hs' : List ℕ) → FillCall z₀ spacing preset zs hs a zs' hs'
-      → RefusedAndStays (refusal (filling_answer a)) (FirstFault (fill_conditions z₀ spacing preset zs hs)) ((zs' ≡ zs) × (hs' ≡ hs))
+  pub fill_refused : (z₀ spacing preset : ℕ) (zs hs : List ℕ) (a : Result Unit Refusal) (zs' hs' : List ℕ) → FillCall z₀ spacing preset zs hs a zs' hs'
+      → RefusedAndStays (refusal (answer_of a)) (FirstFault (fill_conditions z₀ spacing preset zs hs)) ((zs' ≡ zs) × (hs' ≡ hs))
   -- the reader: its lists' lengths, then the sheet
-  pub read_refused : (s ts vs zs hs : List ℕ) (a : Parsing) (ts' vs' zs' hs' : List ℕ) → ReadCall s ts vs zs hs a ts' vs' zs' hs'
-      → RefusedAndStays (refusal (parsing_answer a)) (FirstOrElse (read_conditions ts vs zs hs) (Refused full s))
+  pub read_refused : (s ts vs zs hs : List ℕ) (a : Result Counts Refusal) (ts' vs' zs' hs' : List ℕ) → ReadCall s ts vs zs hs a ts' vs' zs' hs'
+      → RefusedAndStays (refusal (answer_of a)) (FirstOrElse (read_conditions ts vs zs hs) (Refused full s))
       ((ts' ≡ ts) × (vs' ≡ vs) × (zs' ≡ zs) × (hs' ≡ hs))
   -- a sheet's text: the buffer's length, then the sheet
-  pub text_refused : (s out : List ℕ) (a : Writing) (out' : List ℕ) → TextCall s out a out'
-      → RefusedAndStays (refusal (writing_answer a)) (FirstOrElse (buffer_conditions out) (EitherRefused full s)) (out' ≡ out)
+  pub text_refused : (s out : List ℕ) (a : Result ℕ Refusal) (out' : List ℕ) → TextCall s out a out'
+      → RefusedAndStays (refusal (answer_of a)) (FirstOrElse (buffer_conditions out) (EitherRefused full s)) (out' ≡ out)
   -- and over the sheet itself
-  pub text_over_refused : (buf : List ℕ) (n : ℕ) (a : Writing) (buf' : List ℕ) → OverCall buf n a buf'
-      → RefusedAndStays (refusal (writing_answer a)) (FirstOrElse (buffer_conditions buf) (EitherRefused full (take n buf))) (buf' ≡ buf)
+  pub text_over_refused : (buf : List ℕ) (n : ℕ) (a : Result ℕ Refusal) (buf' : List ℕ) → OverCall buf n a buf'
+      → RefusedAndStays (refusal (answer_of a)) (FirstOrElse (buffer_conditions buf) (EitherRefused full (take n buf))) (buf' ≡ buf)
   -- the text of a refusal: the buffer's length alone
-  pub refusal_text_refused : (n p : ℕ) (out : List ℕ) (a : Writing) (out' : List ℕ) → RefusalTextCall n p out a out'
-      → RefusedAndStays (refusal (writing_answer a)) (FirstFault (buffer_conditions out)) (out' ≡ out)
+  pub refusal_text_refused : (n p : ℕ) (out : List ℕ) (a : Result ℕ Refusal) (out' : List ℕ) → RefusalTextCall n p out a out'
+      → RefusedAndStays (refusal (answer_of a)) (FirstFault (buffer_conditions out)) (out' ≡ out)
   -- the same calls for C and Rust, whose lists of fixed length are looked at first
   pub exported_evaluate_refused : (ts vs : List ℕ) (z h : ℕ) (row : List ℕ) (c : ℕ) (row' : List ℕ) → ExportedEvaluate ts vs z h row c row'
       → RefusedAndStays (code_refusal c) (FirstFault (length_first row_width row (evaluate_conditions ts vs h))) (row' ≡ row)
@@ -205,24 +197,24 @@ pub record Demand2 : Type 0 where
   -- and at most one, so each row below is that one
   pub one_row : (ts vs : List ℕ) (z h : ℕ) (d e : Estimate) → PublishedRow ts vs z h d → PublishedRow ts vs z h e → d ≡ e
   -- the row of the question at one mark
-  pub evaluate_row : (ts vs : List ℕ) (z h : ℕ) (e : Estimate) → AtMost max_u16 vs → EvaluateCall ts vs z h (Row e) → PublishedRow ts vs z h e
+  pub evaluate_row : (ts vs : List ℕ) (z h : ℕ) (e : Estimate) → AtMost max_u16 vs → EvaluateCall ts vs z h (Ok e) → PublishedRow ts vs z h e
   -- its run is that part of the caller's own values, two bytes each
-  pub window_run : (ts vs : List ℕ) (z h : ℕ) (e : Estimate) (values_at : Place) (part : Bor (List ℕ)) → EvaluateCall ts vs z h (Row e)
+  pub window_run : (ts vs : List ℕ) (z h : ℕ) (e : Estimate) (values_at : Place) (part : Bor (List ℕ)) → EvaluateCall ts vs z h (Ok e)
       → WindowCall ts vs z h values_at part
       → (part.now ≡ take (e.right - e.left) (drop e.left vs))
       × (part.ref_ptr.0 ≡ values_at.ref_ptr.0) × (part.ref_ptr.1 ≡ values_at.ref_ptr.1 + e.left * 2)
   -- each five numbers of an accepted sweep's rows
-  pub smooth_rows : (ts vs zs hs rs : List ℕ) (n : ℕ) (rs' : List ℕ) → AtMost max_u16 vs → SmoothCall ts vs zs hs rs (Passes n) rs'
+  pub smooth_rows : (ts vs zs hs rs : List ℕ) (n : ℕ) (rs' : List ℕ) → AtMost max_u16 vs → SmoothCall ts vs zs hs rs (Ok n) rs'
       → (length rs' ≡ row_width * length zs)
       × ((k : ℕ) → k < length zs → PublishedRow ts vs (get_or zs k 0) (get_or hs k 0) (stored_row rs' k))
   -- the same of the calls for C and Rust
   pub exported_row : (ts vs : List ℕ) (z h : ℕ) (row : List ℕ) (c : ℕ) (row' : List ℕ) → AtMost max_u16 vs
-      → ExportedEvaluate ts vs z h row c row' → code_refusal c ≡ none → (c ≡ 0) × (length row' ≡ row_width) × PublishedRow ts vs z h (stored_row row' 0)
+      → ExportedEvaluate ts vs z h row c row' → code_refusal c ≡ None → (c ≡ 0) × (length row' ≡ row_width) × PublishedRow ts vs z h (stored_row row' 0)
   pub exported_bounds : (ts vs : List ℕ) (z h : ℕ) (bounds : List ℕ) (c : ℕ) (bounds' : List ℕ) (e : Estimate) → AtMost max_u16 vs
-      → ExportedWindow ts vs z h bounds c bounds' → code_refusal c ≡ none → PublishedRow ts vs z h e
+      → ExportedWindow ts vs z h bounds c bounds' → code_refusal c ≡ None → PublishedRow ts vs z h e
       → (c ≡ 0) × (bounds' ≡ e.left ∷ e.right ∷ [])
   pub exported_rows : (ts vs zs hs rs : List ℕ) (c : ℕ) (rs' : List ℕ) → AtMost max_u16 vs
-      → ExportedSmooth ts vs zs hs rs c rs' → code_refusal c ≡ none
+      → ExportedSmooth ts vs zs hs rs c rs' → code_refusal c ≡ None
       → (length rs' ≡ row_width * length zs)
       × ((k : ℕ) → k < length zs → PublishedRow ts vs (get_or zs k 0) (get_or hs k 0) (stored_row rs' k))
 
@@ -230,14 +222,14 @@ pub record Demand2 : Type 0 where
 -- Demand 3
 
 -- the record that the caller holds after a step: the new one, or the old one where the step was refused
-abbrev pub held : RunningSums → Advance → RunningSums
-held r (Moved r') = r'
-held r (Advance.Refused e) = r
+abbrev pub held : RunningSums → Result RunningSums Refusal → RunningSums
+held r (Ok r') = r'
+held r (Err e) = r
 
 -- calls of `advance` for the steps ms over the same readings, each with the record held after the one before: from the record r to r'
 pub data Steps (ts vs : List ℕ) : RunningSums → List Move → RunningSums → Type 0 where
   no_step : {r : RunningSums} → Steps ts vs r [] r
-  one_step : {r r' : RunningSums} {ms : List Move} (m : Move) (a : Advance) → AdvanceCall r ts vs m.point m.bandwidth a
+  one_step : {r r' : RunningSums} {ms : List Move} (m : Move) (a : Result RunningSums Refusal) → AdvanceCall r ts vs m.point m.bandwidth a
       → Steps ts vs (held r a) ms r' → Steps ts vs r (m ∷ ms) r'
 
 -- the same of the call for C and Rust, over one lent list of nine numbers that nobody else writes
@@ -266,13 +258,13 @@ pub record LogMatches (ts vs : List ℕ) (ms : List Move) (r : RunningSums) : Ty
 
 pub record Demand3 : Type 0 where
   -- after each step of a list of calls, whatever stands before and after it: the claim of the answer, and of the records held before and after
-  pub each_step : (ts vs : List ℕ) (ms before rest : List Move) (m : Move) (r : RunningSums) (a : Advance) → OrderedSteps ts vs ms
+  pub each_step : (ts vs : List ℕ) (ms before rest : List Move) (m : Move) (r : RunningSums) (a : Result RunningSums Refusal) → OrderedSteps ts vs ms
       → ms ≡ before ++ m ∷ rest → Steps ts vs fresh before r → AdvanceCall r ts vs m.point m.bandwidth a
-      → StepHolds ts vs before m (refusal (advance_answer a)) r (held r a)
+      → StepHolds ts vs before m (refusal (answer_of a)) r (held r a)
   -- no reading is inserted twice, none is evicted twice, and none is evicted that was not inserted
   pub each_once : (ts vs : List ℕ) (ms : List Move) (r : RunningSums) → OrderedSteps ts vs ms → Steps ts vs fresh ms r → LogMatches ts vs ms r
   -- what the log refuses a step with, and so by each_step the call, is 8, 6 or 9 at place 0
-  pub refused_with : (ts vs : List ℕ) (m : Move) (e : Fault) → log_refusal ts vs m ≡ some e
+  pub refused_with : (ts vs : List ℕ) (m : Move) (e : Fault) → log_refusal ts vs m ≡ Some e
       → ((e.number ≡ 8) ⊎ (e.number ≡ 6) ⊎ (e.number ≡ 9)) × (e.place ≡ 0)
   -- the same of the call for C and Rust, from nine zeros
   pub each_exported_step : (ts vs : List ℕ) (ms before rest : List Move) (m : Move) (xs : List ℕ) (c : ℕ) (xs' : List ℕ) → OrderedSteps ts vs ms
@@ -287,32 +279,32 @@ pub record Demand3 : Type 0 where
   pub steps_leave : (ts vs : List ℕ) (r r' : RunningSums) (ms : List Move) → Steps ts vs r ms r' → r' ≡ after ts vs r ms
   pub exported_steps_leave : (ts vs xs xs' : List ℕ) (ms : List Move) → length xs ≡ record_length → ExportedSteps ts vs xs ms xs'
       → (length xs' ≡ record_length) × (record_of xs' ≡ after ts vs (record_of xs) ms)
-  pub exported_step_accepted : (xs ts vs : List ℕ) (z h c : ℕ) (xs' : List ℕ) → ExportedAdvance xs ts vs z h c xs' → code_refusal c ≡ none → c ≡ 0
+  pub exported_step_accepted : (xs ts vs : List ℕ) (z h c : ℕ) (xs' : List ℕ) → ExportedAdvance xs ts vs z h c xs' → code_refusal c ≡ None → c ≡ 0
   -- a record with the edges and sums of a mark's window, whatever it has come by, gives the row of the question at that mark
   pub window_record_row : (ts vs : List ℕ) (z h : ℕ) (r : RunningSums) (e e' : Estimate) → AtMost max_u16 vs → r.left ≡ left_of ts z h
-      → r.right ≡ right_of ts z h → r.sums ≡ window_sums ts vs z h → EvaluateCall ts vs z h (Row e') → RecordRowCall r z h e → e ≡ e'
+      → r.right ≡ right_of ts z h → r.sums ≡ window_sums ts vs z h → EvaluateCall ts vs z h (Ok e') → RecordRowCall r z h e → e ≡ e'
   -- so does the record after each list of steps with an accepted one, at the mark and half width of the last of these
-  pub steps_row : (ts vs : List ℕ) (ms : List Move) (m : Move) (r : RunningSums) (a : Evaluation) (e : Estimate) → OrderedSteps ts vs ms
-      → Steps ts vs fresh ms r → last_accepted ts vs ms ≡ some m → EvaluateCall ts vs m.point m.bandwidth a
-      → RecordRowCall r m.point m.bandwidth e → a ≡ Row e
+  pub steps_row : (ts vs : List ℕ) (ms : List Move) (m : Move) (r : RunningSums) (a : Result Estimate Refusal) (e : Estimate) → OrderedSteps ts vs ms
+      → Steps ts vs fresh ms r → last_accepted ts vs ms ≡ Some m → EvaluateCall ts vs m.point m.bandwidth a
+      → RecordRowCall r m.point m.bandwidth e → a ≡ Ok e
   -- the same of the calls for C and Rust: both are accepted and store the same five numbers
   pub exported_steps_row : (ts vs : List ℕ) (ms : List Move) (m : Move) (xs row₁ : List ℕ) (c₁ : ℕ) (row₁' row : List ℕ) (c : ℕ) (row' : List ℕ)
-      → OrderedSteps ts vs ms → ExportedSteps ts vs zeros ms xs → last_accepted ts vs ms ≡ some m → length row₁ ≡ row_width → length row ≡ row_width
+      → OrderedSteps ts vs ms → ExportedSteps ts vs zeros ms xs → last_accepted ts vs ms ≡ Some m → length row₁ ≡ row_width → length row ≡ row_width
       → ExportedEvaluate ts vs m.point m.bandwidth row₁ c₁ row₁' → ExportedRecordRow xs m.point m.bandwidth row c row'
       → (c₁ ≡ 0) × (c ≡ 0) × (row' ≡ row₁')
   -- an accepted sweep gives what one step a mark gives: the five numbers of mark k are the row of the record after k + 1 steps from fresh
   pub smooth_steps : (ts vs zs hs rs : List ℕ) (n : ℕ) (rs' : List ℕ) (k : ℕ) → AtMost max_u16 ts → AtMost max_u16 vs
-      → SmoothCall ts vs zs hs rs (Passes n) rs' → k < length zs
+      → SmoothCall ts vs zs hs rs (Ok n) rs' → k < length zs
       → stored_row rs' k ≡ record_row (after ts vs fresh (moves (take (suc k) zs) (take (suc k) hs))) (get_or zs k 0) (get_or hs k 0)
   -- its passes are the insertions plus evictions of an event log of its lists, at most two for each reading
   pub smooth_passes : (ts vs zs hs rs : List ℕ) (n : ℕ) (rs' : List ℕ) → AtMost max_u16 ts → AtMost max_u16 vs
-      → SmoothCall ts vs zs hs rs (Passes n) rs' → (n ≡ log_passes ts vs (moves zs hs)) × (n ≤ 2 * length ts)
+      → SmoothCall ts vs zs hs rs (Ok n) rs' → (n ≡ log_passes ts vs (moves zs hs)) × (n ≤ 2 * length ts)
   -- the same of the call for C and Rust, whose answer is the passes in units of its detail
   pub exported_smooth_steps : (ts vs zs hs rs : List ℕ) (c : ℕ) (rs' : List ℕ) (k : ℕ) → AtMost max_u16 ts → AtMost max_u16 vs
-      → ExportedSmooth ts vs zs hs rs c rs' → code_refusal c ≡ none → k < length zs
+      → ExportedSmooth ts vs zs hs rs c rs' → code_refusal c ≡ None → k < length zs
       → stored_row rs' k ≡ record_row (after ts vs fresh (moves (take (suc k) zs) (take (suc k) hs))) (get_or zs k 0) (get_or hs k 0)
   pub exported_smooth_passes : (ts vs zs hs rs : List ℕ) (c : ℕ) (rs' : List ℕ) → AtMost max_u16 ts → AtMost max_u16 vs
-      → ExportedSmooth ts vs zs hs rs c rs' → code_refusal c ≡ none → (c ≡ detail_unit * log_passes ts vs (moves zs hs)) × (c ≤ detail_unit * (2 * length ts))
+      → ExportedSmooth ts vs zs hs rs c rs' → code_refusal c ≡ None → (c ≡ detail_unit * log_passes ts vs (moves zs hs)) × (c ≤ detail_unit * (2 * length ts))
 
 -- ---------------------------------------------------------------------------------------------------------------------------------------
 -- What the calls beside rows and steps give where they are accepted
@@ -348,26 +340,27 @@ pub record OtherCalls : Type 0 where
   -- the row of a record, at any mark and half width; there is one such row
   pub record_row_is : (r : RunningSums) (z h : ℕ) (e : Estimate) → RecordRowCall r z h e → RowOfRecord r z h e
   pub one_record_row : (r : RunningSums) (z h : ℕ) (d e : Estimate) → RowOfRecord r z h d → RowOfRecord r z h e → d ≡ e
-  pub fill_fills : (z₀ spacing preset : ℕ) (zs hs zs' hs' : List ℕ) → FillCall z₀ spacing preset zs hs Filled zs' hs'
+  pub fill_fills : (z₀ spacing preset : ℕ) (zs hs zs' hs' : List ℕ) → FillCall z₀ spacing preset zs hs (Ok tt) zs' hs'
       → FilledGrid z₀ spacing preset (length zs) zs' hs'
   -- n readings are kept, and there are m marks
-  pub read_fills : (s ts vs zs hs : List ℕ) (n m : ℕ) (ts' vs' zs' hs' : List ℕ) → ReadCall s ts vs zs hs (Used n m) ts' vs' zs' hs'
+  pub read_fills : (s ts vs zs hs : List ℕ) (n m : ℕ) (ts' vs' zs' hs' : List ℕ)
+      → ReadCall s ts vs zs hs (Ok (record { samples = n; points = m })) ts' vs' zs' hs'
       → (c : Contents) × ((n ≡ length c.minutes) × (m ≡ length c.points) × SheetRead s c ts vs zs hs ts' vs' zs' hs')
   -- number and place in front of the buffer's untouched rest, and how many bytes that is; of an accepted sheet's text by_curve says it above
-  pub refusal_text_writes : (n p : ℕ) (out : List ℕ) (k : ℕ) (out' : List ℕ) → RefusalTextCall n p out (Written k) out'
+  pub refusal_text_writes : (n p : ℕ) (out : List ℕ) (k : ℕ) (out' : List ℕ) → RefusalTextCall n p out (Ok k) out'
       → (k ≡ length (refusal_text (record { number = n; place = p })))
       × (out' ≡ refusal_text (record { number = n; place = p }) ++ drop (length (refusal_text (record { number = n; place = p }))) out)
   -- the same of the calls for C and Rust
   pub exported_record_row_is : (xs : List ℕ) (z h : ℕ) (row : List ℕ) (c : ℕ) (row' : List ℕ) → ExportedRecordRow xs z h row c row'
-      → code_refusal c ≡ none → (c ≡ 0) × (length row' ≡ row_width) × RowOfRecord (record_of xs) z h (stored_row row' 0)
+      → code_refusal c ≡ None → (c ≡ 0) × (length row' ≡ row_width) × RowOfRecord (record_of xs) z h (stored_row row' 0)
   pub exported_fill_fills : (z₀ spacing preset : ℕ) (zs hs : List ℕ) (c : ℕ) (zs' hs' : List ℕ) → ExportedFill z₀ spacing preset zs hs c zs' hs'
-      → code_refusal c ≡ none → (c ≡ 0) × FilledGrid z₀ spacing preset (length zs) zs' hs'
+      → code_refusal c ≡ None → (c ≡ 0) × FilledGrid z₀ spacing preset (length zs) zs' hs'
   pub exported_read_fills : (s ts vs zs hs ns : List ℕ) (c : ℕ) (ts' vs' zs' hs' ns' : List ℕ)
-      → ExportedRead s ts vs zs hs ns c ts' vs' zs' hs' ns' → code_refusal c ≡ none
+      → ExportedRead s ts vs zs hs ns c ts' vs' zs' hs' ns' → code_refusal c ≡ None
       → (c ≡ 0) × ((d : Contents) × ((ns' ≡ length d.minutes ∷ length d.points ∷ []) × SheetRead s d ts vs zs hs ts' vs' zs' hs'))
-  pub exported_text_writes : (s out : List ℕ) (c : ℕ) (out' : List ℕ) → ExportedText s out c out' → code_refusal c ≡ none
+  pub exported_text_writes : (s out : List ℕ) (c : ℕ) (out' : List ℕ) → ExportedText s out c out' → code_refusal c ≡ None
       → (c ≡ detail_unit * length (either_program s)) × (out' ≡ either_program s ++ drop (length (either_program s)) out)
-  pub exported_refusal_text_writes : (n p : ℕ) (out : List ℕ) (c : ℕ) (out' : List ℕ) → ExportedRefusalText n p out c out' → code_refusal c ≡ none
+  pub exported_refusal_text_writes : (n p : ℕ) (out : List ℕ) (c : ℕ) (out' : List ℕ) → ExportedRefusalText n p out c out' → code_refusal c ≡ None
       → (c ≡ detail_unit * length (refusal_text (record { number = n; place = p })))
       × (out' ≡ refusal_text (record { number = n; place = p }) ++ drop (length (refusal_text (record { number = n; place = p }))) out)
   -- which build it is
@@ -378,40 +371,40 @@ pub record OtherCalls : Type 0 where
 
 pub record Preview : Type 0 where
   -- refused by its own limits, otherwise as the sweep, and then the rows stay
-  pub preview_refused : (ts vs zs hs rs : List ℕ) (a : Smoothing) (rs' : List ℕ) → PreviewCall ts vs zs hs rs a rs'
-      → RefusedAndStays (refusal (smoothing_answer a)) (FirstFault (smooth_conditions preview ts vs zs hs (length rs))) (rs' ≡ rs)
+  pub preview_refused : (ts vs zs hs rs : List ℕ) (a : Result ℕ Refusal) (rs' : List ℕ) → PreviewCall ts vs zs hs rs a rs'
+      → RefusedAndStays (refusal (answer_of a)) (FirstFault (smooth_conditions preview ts vs zs hs (length rs))) (rs' ≡ rs)
   -- each five numbers of an accepted preview's rows are the published row
-  pub preview_rows : (ts vs zs hs rs : List ℕ) (n : ℕ) (rs' : List ℕ) → AtMost max_u16 vs → PreviewCall ts vs zs hs rs (Passes n) rs'
+  pub preview_rows : (ts vs zs hs rs : List ℕ) (n : ℕ) (rs' : List ℕ) → AtMost max_u16 vs → PreviewCall ts vs zs hs rs (Ok n) rs'
       → (length rs' ≡ row_width * length zs)
       × ((k : ℕ) → k < length zs → PublishedRow ts vs (get_or zs k 0) (get_or hs k 0) (stored_row rs' k))
   -- and what the question at that mark answers
-  pub row_of_question : (ts vs zs hs rs : List ℕ) (n : ℕ) (rs' : List ℕ) (k : ℕ) (a : Evaluation) → PreviewCall ts vs zs hs rs (Passes n) rs'
-      → k < length zs → EvaluateCall ts vs (get_or zs k 0) (get_or hs k 0) a → evaluation_answer a ≡ given (stored_row rs' k)
+  pub row_of_question : (ts vs zs hs rs : List ℕ) (n : ℕ) (rs' : List ℕ) (k : ℕ) (a : Result Estimate Refusal) → PreviewCall ts vs zs hs rs (Ok n) rs'
+      → k < length zs → EvaluateCall ts vs (get_or zs k 0) (get_or hs k 0) a → answer_of a ≡ given (stored_row rs' k)
   -- its passes are the insertions plus evictions of an event log of its lists, at most two for each reading
   pub preview_passes : (ts vs zs hs rs : List ℕ) (n : ℕ) (rs' : List ℕ) → AtMost max_u16 ts → AtMost max_u16 vs
-      → PreviewCall ts vs zs hs rs (Passes n) rs' → (n ≡ log_passes ts vs (moves zs hs)) × (n ≤ 2 * length ts)
+      → PreviewCall ts vs zs hs rs (Ok n) rs' → (n ≡ log_passes ts vs (moves zs hs)) × (n ≤ 2 * length ts)
   -- a preview and a sweep of the same lists: the preview accepts exactly what the sweep accepts and its own limits allow
-  pub accepted_by_both : (ts vs zs hs rs : List ℕ) (a b : Smoothing) (rs₁ rs₂ : List ℕ) (n : ℕ) → PreviewCall ts vs zs hs rs a rs₁
-      → SmoothCall ts vs zs hs rs b rs₂ → (smoothing_answer a ≡ given n) ↔ ((smoothing_answer b ≡ given n) × Fits preview ts zs)
+  pub accepted_by_both : (ts vs zs hs rs : List ℕ) (a b : Result ℕ Refusal) (rs₁ rs₂ : List ℕ) (n : ℕ) → PreviewCall ts vs zs hs rs a rs₁
+      → SmoothCall ts vs zs hs rs b rs₂ → (answer_of a ≡ given n) ↔ ((answer_of b ≡ given n) × Fits preview ts zs)
   -- within its limits both give the same, refusals and places included, and leave the same rows
-  pub within : (ts vs zs hs rs : List ℕ) (a b : Smoothing) (rs₁ rs₂ : List ℕ) → Fits preview ts zs → PreviewCall ts vs zs hs rs a rs₁
-      → SmoothCall ts vs zs hs rs b rs₂ → (smoothing_answer a ≡ smoothing_answer b) × (rs₁ ≡ rs₂)
+  pub within : (ts vs zs hs rs : List ℕ) (a b : Result ℕ Refusal) (rs₁ rs₂ : List ℕ) → Fits preview ts zs → PreviewCall ts vs zs hs rs a rs₁
+      → SmoothCall ts vs zs hs rs b rs₂ → (answer_of a ≡ answer_of b) × (rs₁ ≡ rs₂)
   -- over them the preview gives 8 where the sweep does, and otherwise 6 at place 0
-  pub over_uneven : (ts vs zs hs rs : List ℕ) (a b : Smoothing) (rs₁ rs₂ : List ℕ) (p : ℕ) → Over preview ts zs → PreviewCall ts vs zs hs rs a rs₁
-      → SmoothCall ts vs zs hs rs b rs₂ → refusal (smoothing_answer b) ≡ some (record { number = 8; place = p })
-      → refusal (smoothing_answer a) ≡ some (record { number = 8; place = 0 })
-  pub over_too_many : (ts vs zs hs rs : List ℕ) (a b : Smoothing) (rs₁ rs₂ : List ℕ) → Over preview ts zs → PreviewCall ts vs zs hs rs a rs₁
-      → SmoothCall ts vs zs hs rs b rs₂ → ((p : ℕ) → ¬ (refusal (smoothing_answer b) ≡ some (record { number = 8; place = p })))
-      → refusal (smoothing_answer a) ≡ some (record { number = 6; place = 0 })
+  pub over_uneven : (ts vs zs hs rs : List ℕ) (a b : Result ℕ Refusal) (rs₁ rs₂ : List ℕ) (p : ℕ) → Over preview ts zs → PreviewCall ts vs zs hs rs a rs₁
+      → SmoothCall ts vs zs hs rs b rs₂ → refusal (answer_of b) ≡ Some (record { number = 8; place = p })
+      → refusal (answer_of a) ≡ Some (record { number = 8; place = 0 })
+  pub over_too_many : (ts vs zs hs rs : List ℕ) (a b : Result ℕ Refusal) (rs₁ rs₂ : List ℕ) → Over preview ts zs → PreviewCall ts vs zs hs rs a rs₁
+      → SmoothCall ts vs zs hs rs b rs₂ → ((p : ℕ) → ¬ (refusal (answer_of b) ≡ Some (record { number = 8; place = p })))
+      → refusal (answer_of a) ≡ Some (record { number = 6; place = 0 })
   -- the same of the calls for C and Rust
   pub exported_preview_refused : (ts vs zs hs rs : List ℕ) (c : ℕ) (rs' : List ℕ) → ExportedPreview ts vs zs hs rs c rs'
       → RefusedAndStays (code_refusal c) (FirstFault (smooth_conditions preview ts vs zs hs (length rs))) (rs' ≡ rs)
   pub exported_preview_rows : (ts vs zs hs rs : List ℕ) (c : ℕ) (rs' : List ℕ) → AtMost max_u16 vs → ExportedPreview ts vs zs hs rs c rs'
-      → code_refusal c ≡ none
+      → code_refusal c ≡ None
       → (length rs' ≡ row_width * length zs)
       × ((k : ℕ) → k < length zs → PublishedRow ts vs (get_or zs k 0) (get_or hs k 0) (stored_row rs' k))
   pub exported_preview_passes : (ts vs zs hs rs : List ℕ) (c : ℕ) (rs' : List ℕ) → AtMost max_u16 ts → AtMost max_u16 vs
-      → ExportedPreview ts vs zs hs rs c rs' → code_refusal c ≡ none
+      → ExportedPreview ts vs zs hs rs c rs' → code_refusal c ≡ None
       → (c ≡ detail_unit * log_passes ts vs (moves zs hs)) × (c ≤ detail_unit * (2 * length ts))
   pub exported_within : (ts vs zs hs rs : List ℕ) (c d : ℕ) (rs₁ rs₂ : List ℕ) → Fits preview ts zs → ExportedPreview ts vs zs hs rs c rs₁
       → ExportedSmooth ts vs zs hs rs d rs₂ → (c ≡ d) × (rs₁ ≡ rs₂)
@@ -423,11 +416,11 @@ pub record Preview : Type 0 where
 
 pub record EveryCurve : Type 0 where
   -- a present value lies between the lowest and the highest value of the readings with a weight above zero: at one mark
-  pub evaluate_among : (ts vs : List ℕ) (z h : ℕ) (e : Estimate) → EvaluateCall ts vs z h (Row e) → ¬ (e.value ≡ missing) → Among ts vs z h e
+  pub evaluate_among : (ts vs : List ℕ) (z h : ℕ) (e : Estimate) → EvaluateCall ts vs z h (Ok e) → ¬ (e.value ≡ missing) → Among ts vs z h e
   -- in each five numbers of an accepted sweep's rows, and of a preview's
-  pub smooth_among : (ts vs zs hs rs : List ℕ) (n : ℕ) (rs' : List ℕ) (k : ℕ) → SmoothCall ts vs zs hs rs (Passes n) rs' → k < length zs
+  pub smooth_among : (ts vs zs hs rs : List ℕ) (n : ℕ) (rs' : List ℕ) (k : ℕ) → SmoothCall ts vs zs hs rs (Ok n) rs' → k < length zs
       → ¬ ((stored_row rs' k).value ≡ missing) → Among ts vs (get_or zs k 0) (get_or hs k 0) (stored_row rs' k)
-  pub preview_among : (ts vs zs hs rs : List ℕ) (n : ℕ) (rs' : List ℕ) (k : ℕ) → PreviewCall ts vs zs hs rs (Passes n) rs' → k < length zs
+  pub preview_among : (ts vs zs hs rs : List ℕ) (n : ℕ) (rs' : List ℕ) (k : ℕ) → PreviewCall ts vs zs hs rs (Ok n) rs' → k < length zs
       → ¬ ((stored_row rs' k).value ≡ missing) → Among ts vs (get_or zs k 0) (get_or hs k 0) (stored_row rs' k)
   -- and in each row that the program writes for a plain sheet
   pub sheet_among : (s : List ℕ) (c : Contents) (k : ℕ) → IsSheet full s c → k < length c.points
@@ -436,19 +429,19 @@ pub record EveryCurve : Type 0 where
       (estimate c.minutes c.values (get_or c.points k 0) (get_or c.bandwidths k 0))
   -- the same of the calls for C and Rust
   pub exported_evaluate_among : (ts vs : List ℕ) (z h : ℕ) (row : List ℕ) (c : ℕ) (row' : List ℕ) → ExportedEvaluate ts vs z h row c row'
-      → code_refusal c ≡ none → ¬ ((stored_row row' 0).value ≡ missing) → Among ts vs z h (stored_row row' 0)
-  pub exported_smooth_among : (ts vs zs hs rs : List ℕ) (c : ℕ) (rs' : List ℕ) (k : ℕ) → ExportedSmooth ts vs zs hs rs c rs' → code_refusal c ≡ none
+      → code_refusal c ≡ None → ¬ ((stored_row row' 0).value ≡ missing) → Among ts vs z h (stored_row row' 0)
+  pub exported_smooth_among : (ts vs zs hs rs : List ℕ) (c : ℕ) (rs' : List ℕ) (k : ℕ) → ExportedSmooth ts vs zs hs rs c rs' → code_refusal c ≡ None
       → k < length zs → ¬ ((stored_row rs' k).value ≡ missing) → Among ts vs (get_or zs k 0) (get_or hs k 0) (stored_row rs' k)
   pub exported_preview_among : (ts vs zs hs rs : List ℕ) (c : ℕ) (rs' : List ℕ) (k : ℕ) → ExportedPreview ts vs zs hs rs c rs'
-      → code_refusal c ≡ none → k < length zs → ¬ ((stored_row rs' k).value ≡ missing)
+      → code_refusal c ≡ None → k < length zs → ¬ ((stored_row rs' k).value ≡ missing)
       → Among ts vs (get_or zs k 0) (get_or hs k 0) (stored_row rs' k)
   -- readings of equal minute may change places: both calls give the same answer and leave the same rows, refusals included
-  pub evaluate_alike : (ts vs vs' : List ℕ) (z h : ℕ) (a b : Evaluation) → Rearranged ts vs vs' → EvaluateCall ts vs z h a
-      → EvaluateCall ts vs' z h b → evaluation_answer a ≡ evaluation_answer b
-  pub smooth_alike : (ts vs vs' zs hs rs : List ℕ) (a b : Smoothing) (rs₁ rs₂ : List ℕ) → Rearranged ts vs vs' → SmoothCall ts vs zs hs rs a rs₁
-      → SmoothCall ts vs' zs hs rs b rs₂ → (smoothing_answer a ≡ smoothing_answer b) × (rs₁ ≡ rs₂)
-  pub preview_alike : (ts vs vs' zs hs rs : List ℕ) (a b : Smoothing) (rs₁ rs₂ : List ℕ) → Rearranged ts vs vs' → PreviewCall ts vs zs hs rs a rs₁
-      → PreviewCall ts vs' zs hs rs b rs₂ → (smoothing_answer a ≡ smoothing_answer b) × (rs₁ ≡ rs₂)
+  pub evaluate_alike : (ts vs vs' : List ℕ) (z h : ℕ) (a b : Result Estimate Refusal) → Rearranged ts vs vs' → EvaluateCall ts vs z h a
+      → EvaluateCall ts vs' z h b → answer_of a ≡ answer_of b
+  pub smooth_alike : (ts vs vs' zs hs rs : List ℕ) (a b : Result ℕ Refusal) (rs₁ rs₂ : List ℕ) → Rearranged ts vs vs' → SmoothCall ts vs zs hs rs a rs₁
+      → SmoothCall ts vs' zs hs rs b rs₂ → (answer_of a ≡ answer_of b) × (rs₁ ≡ rs₂)
+  pub preview_alike : (ts vs vs' zs hs rs : List ℕ) (a b : Result ℕ Refusal) (rs₁ rs₂ : List ℕ) → Rearranged ts vs vs' → PreviewCall ts vs zs hs rs a rs₁
+      → PreviewCall ts vs' zs hs rs b rs₂ → (answer_of a ≡ answer_of b) × (rs₁ ≡ rs₂)
   -- two plain sheets that differ only so print alike
   pub sheets_alike : (s s' : List ℕ) (c : Contents) (vs' : List ℕ) → Rearranged c.minutes c.values vs' → IsSheet full s c
       → IsSheet full s' (record { minutes = c.minutes; values = vs'; points = c.points; bandwidths = c.bandwidths }) → either_program s ≡ either_program s'

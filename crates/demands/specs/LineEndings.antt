@@ -1,8 +1,10 @@
 -- What is promised of line endings, a line feed with or without a carriage return before it: faultless lines give one curve however each of
 -- them ends, and a sheet in which no carriage return stands directly before a line feed is read as it was when a line feed alone ended a line.
 use Rattle.std.specs.Prelude.{ℕ, ◌≤◌, ◌≡◌, List, length}
-use Rattle.meanings.specs.declared.Parsing.{Parsing}
-use Rattle.meanings.specs.declared.Writing.{Writing}
+use Rattle.std.specs.Prelude.{Result}
+use Rattle.meanings.specs.declared.Counts.{Counts}
+use Rattle.meanings.specs.declared.Refusal.{Refusal}
+use Rattle.meanings.specs.Calls.{answer_of}
 use Rattle.meanings.specs.Limits.{full, max_sheet}
 use Rattle.meanings.specs.Bytes.{LineEnding}
 use Rattle.meanings.specs.Reports.{first_of, read_checks}
@@ -11,7 +13,7 @@ use Rattle.meanings.specs.Sheet.{Injection, Outcome, or_next}
 use Rattle.meanings.specs.SheetForm.{Ended, without_endings, print_sheet, contents_of, FitPoints, FitSamples}
 use Rattle.meanings.specs.FeedSheet.{read_feed_sheet, NoReturnFeed}
 use Rattle.meanings.specs.Output.{curve_text, outcome_text}
-use Rattle.meanings.specs.Calls.{parsing_answer, counts, read_minutes, read_values, read_evaluation_points, read_bandwidths, writing_answer}
+use Rattle.meanings.specs.Calls.{counts, read_minutes, read_values, read_evaluation_points, read_bandwidths}
 use Rattle.meanings.specs.Calls.{filled_front, curve_size, buffer_refusal}
 use Rattle.meanings.specs.Codes.{answered, no_detail}
 use Rattle.meanings_ranges.specs.RangeOutput.{either_program}
@@ -41,10 +43,11 @@ pub record LineEndings : Type 0 where
   -- no carriage return stands directly before a line feed: the program, the reader, a sheet's text, and both calls for C and Rust; where a sheet with
   -- ranges is taken, of the others
   pub program_as_before : (s : List ℕ) → NoReturnFeed s → ¬ NamesRanges full s → either_program s ≡ outcome_text (read_feed_sheet full s)
-  pub read_as_before : (s ts vs zs hs : List ℕ) (a : Parsing) (ts' vs' zs' hs' : List ℕ) → NoReturnFeed s → ReadCall s ts vs zs hs a ts' vs' zs' hs'
-      → (parsing_answer a ≡ counts (read_before s ts vs zs hs)) × ListsBy (read_before s ts vs zs hs) ts vs zs hs ts' vs' zs' hs'
-  pub text_as_before : (s out : List ℕ) (a : Writing) (out' : List ℕ) → NoReturnFeed s → ¬ NamesRanges full s → TextCall s out a out'
-      → (writing_answer a ≡ curve_size (written_before s out)) × (out' ≡ filled_front (written_before s out) curve_text out)
+  pub read_as_before : (s ts vs zs hs : List ℕ) (a : Result Counts Refusal) (ts' vs' zs' hs' : List ℕ) → NoReturnFeed s
+      → ReadCall s ts vs zs hs a ts' vs' zs' hs'
+      → (answer_of a ≡ counts (read_before s ts vs zs hs)) × ListsBy (read_before s ts vs zs hs) ts vs zs hs ts' vs' zs' hs'
+  pub text_as_before : (s out : List ℕ) (a : Result ℕ Refusal) (out' : List ℕ) → NoReturnFeed s → ¬ NamesRanges full s → TextCall s out a out'
+      → (answer_of a ≡ curve_size (written_before s out)) × (out' ≡ filled_front (written_before s out) curve_text out)
   pub exported_read_as_before : (s ts vs zs hs ns : List ℕ) (c : ℕ) (ts' vs' zs' hs' ns' : List ℕ) → NoReturnFeed s
       → ExportedRead s ts vs zs hs ns c ts' vs' zs' hs' ns'
       → (c ≡ answered no_detail (counts (sized 2 ns (read_before s ts vs zs hs))))

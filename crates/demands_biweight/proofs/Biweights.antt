@@ -1,14 +1,15 @@
 -- What is promised of the biweight row follows from the contracts of the calls, which give what the meanings give, and from the meanings' laws.
 use Prim.Native.Nat.{ℕ, ◌+◌, ◌-◌, ◌*◌}
+use Rattle.meanings.specs.Calls.{answer_of}
 use mathlib.Core.Path.{◌≡◌, refl, sym, ap, ◌∙◌}
 use mathlib.Core.Bool.{Bool, true, false}
 use mathlib.Core.List.{List, [], ◌∷◌}
-use mathlib.Core.Option.{Option, none, some}
+use Rattle.std.specs.Prelude.{Option, None, Some}
 use native.Mathlib.Omega.{arith}
 use lib.Dec.{eqb}
 use lib.ListN.{length, take, drop}
 use Rattle.meanings.specs.declared.Estimate.{Estimate}
-use Rattle.meanings.specs.Calls.{evaluation_answer, evaluate, evaluate_refusal, window, window_start}
+use Rattle.meanings.specs.Calls.{evaluate, evaluate_refusal, window, window_start}
 use Rattle.meanings.specs.Claim.{refusal}
 use Rattle.meanings.specs.Codes.{answered, no_detail}
 use Rattle.meanings.specs.Estimate.{left_of, right_of, estimate, missing, fields}
@@ -64,7 +65,7 @@ module _ (ts vs : List ℕ) (z : ℕ) where
       let g = given_accepted (biweight_refusal full ts vs) (biweight_row ts vs z biweight_bandwidth) e (sym q) in
       (evaluate_accepts full (same_limits full) ts vs biweight_bandwidth (sym (refused_as_evaluate full ts vs) ∙ g.0), g.1)
 
-  no_refusal : (e : Estimate) → given e ≡ biweight full ts vs z → evaluate_refusal full ts vs biweight_bandwidth ≡ none
+  no_refusal : (e : Estimate) → given e ≡ biweight full ts vs z → evaluate_refusal full ts vs biweight_bandwidth ≡ None
   no_refusal e q = sym (refused_as_evaluate full ts vs) ∙ sym biweight_refused ∙ ap refusal (sym q)
 
   exactly : (t : Answer Estimate) → t ≡ biweight full ts vs z → RefusedExactly (refusal t) (FirstFault (biweight_conditions ts vs))
@@ -150,10 +151,10 @@ same_places ts vs vs' z r = rw (← same) (by (biweight_refusal full ts vs) refl
 
     by : (f : Option Fault) → biweight_refusal full ts vs ≡ f
         → unless f (biweight_row ts vs z biweight_bandwidth) ≡ unless f (biweight_row ts vs' z biweight_bandwidth)
-    by none e =
+    by None e =
         let a = evaluate_accepts full (same_limits full) ts vs biweight_bandwidth (sym (refused_as_evaluate full ts vs) ∙ e) in
         ap given (row_may_change_places ts vs vs' z biweight_bandwidth a.ordered r)
-    by (some e) q = refl
+    by (Some e) q = refl
 
 -- answers without detail that are refused alike are one number
 same_code : (t u : Answer Estimate) → refusal t ≡ refusal u → answered no_detail t ≡ answered no_detail u
@@ -176,7 +177,7 @@ module _ (ts vs : List ℕ) (z : ℕ) where
   alike : (y : ℕ) → refusal (biweight full ts vs z) ≡ refusal (evaluate full ts vs y biweight_bandwidth)
   alike y = biweight_refused ts vs z ∙ refused_as_evaluate full ts vs ∙ sym (evaluate_refused ts vs y)
 
-  tells : (row : List ℕ) (c : ℕ) (row' : List ℕ) → ExportedBiweight ts vs z row c row' → code_refusal c ≡ none
+  tells : (row : List ℕ) (c : ℕ) (row' : List ℕ) → ExportedBiweight ts vs z row c row' → code_refusal c ≡ None
       → (e : Estimate) × ((biweight full ts vs z ≡ given e) × (c ≡ 0) × (row' ≡ fields e))
   tells row c row' k r =
       let accepted = sym (coded ts vs z row c k.ensured.0) ∙ r in
@@ -191,7 +192,7 @@ module _ (ts vs : List ℕ) (z : ℕ) where
       )
 
   -- what is stored is the row
-  stored_is : (row : List ℕ) (c : ℕ) (row' : List ℕ) → ExportedBiweight ts vs z row c row' → code_refusal c ≡ none
+  stored_is : (row : List ℕ) (c : ℕ) (row' : List ℕ) → ExportedBiweight ts vs z row c row' → code_refusal c ≡ None
       → given (stored_row row' 0) ≡ biweight full ts vs z
   stored_is row c row' k r =
       let t = tells row c row' k r in
@@ -201,7 +202,7 @@ module _ (ts vs : List ℕ) (z : ℕ) where
       → (e : Estimate) → biweight full ts vs z ≡ given e → e.left ∷ e.right ∷ [] ≡ bounds'
   bounds_stored bounds d bounds' two k e q =
       let u = evaluate full ts vs z biweight_bandwidth in
-      let none_refused : refusal u ≡ none = sym (alike z) ∙ ap refusal q in
+      let none_refused : refusal u ≡ None = sym (alike z) ∙ ap refusal q in
       let g = accepted_given u none_refused in
       let same = edges ts vs z e g.0 (sym q) (sym g.1) in
       let open-answer = sym (right_size 2 bounds two u) ∙ g.1 in
@@ -213,7 +214,7 @@ biweights = record {
   biweight_asks_nothing = λ κs a. tt;
   exported_ends = exported_met.met;
   exported_asks_nothing = λ κs a. tt;
-  refused = λ ts vs z a k. exactly ts vs z (evaluation_answer a) k.ensured;
+  refused = λ ts vs z a k. exactly ts vs z (answer_of a) k.ensured;
   refused_as_evaluate = λ ts vs z y a b k m. ap refusal k.ensured ∙ alike ts vs z y ∙ ap refusal (sym m.ensured);
   edges_of_evaluate = λ ts vs z e d k m. edges ts vs z e d k.ensured m.ensured;
   run_of_window = λ ts vs z e values_at part k m.

@@ -4,7 +4,7 @@ use mathlib.Core.Path.{◌≡◌, ap}
 use mathlib.Core.Bool.{◌||◌}
 use mathlib.Core.List.{List}
 use mathlib.Core.Logic.{◌⊎◌, inl, inr}
-use mathlib.Core.Option.{Option, none}
+use Rattle.std.specs.Prelude.{Option, None}
 use native.Mathlib.Omega.{arith}
 use lib.Dec.{ltb}
 use lib.ListN.{length, get_or}
@@ -77,12 +77,12 @@ pub record BoxesTaken (A B : Axis) (vs : List ℕ) (b c s : ℕ) : Type 0 where
   pub positive : (k : ℕ) → k < length A.points → 0 < get_or A.bandwidths k 0
   pub positive_other : (k : ℕ) → k < length B.points → 0 < get_or B.bandwidths k 0
 
-pub accepts : (A B : Axis) (vs : List ℕ) (b c s : ℕ) → box_refusal A B vs b c s ≡ none → BoxesTaken A B vs b c s
+pub accepts : (A B : Axis) (vs : List ℕ) (b c s : ℕ) → box_refusal A B vs b c s ≡ None → BoxesTaken A B vs b c s
 accepts A B vs b c s e =
     let h = none_holds (box_checks A B vs b c s) e in
     let a = boxes_accept A B vs b c s e in
-    let alone : (most : ℕ) (hs : List ℕ) → lowest (outside_at most hs) (length hs) ≡ none → first_of (bandwidth_list_checks most hs) ≡ none =
-    λ most hs q. ap (λ (o : Option ℕ). fault_or 9 o none) q in
+    let alone : (most : ℕ) (hs : List ℕ) → lowest (outside_at most hs) (length hs) ≡ None → first_of (bandwidth_list_checks most hs) ≡ None =
+    λ most hs q. ap (λ (o : Option ℕ). fault_or 9 o None) q in
     record {
       checked = a;
       positive = λ k l.

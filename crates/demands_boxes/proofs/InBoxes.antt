@@ -1,17 +1,17 @@
 -- The calls' contracts with the laws of their meaning: answer and lists are those of the meaning.
 use Prim.Native.Nat.{ℕ, ◌+◌}
+use Rattle.std.specs.Prelude.{Result, Ok, Err}
+use Rattle.meanings.specs.declared.Refusal.{Refusal}
+use Rattle.meanings.specs.Calls.{answer_of}
 use mathlib.Core.Path.{◌≡◌, refl, sym, ap, ◌∙◌}
 use mathlib.Core.List.{List}
-use mathlib.Core.Option.{none, some}
+use Rattle.std.specs.Prelude.{None, Some}
 use native.Mathlib.Omega.{arith}
 use lib.ListN.{length, get_or}
-use Rattle.meanings.specs.declared.Filling.{Filling}
-use Rattle.meanings.specs.declared.Filling.TheVariants.{Filled}
 use Rattle.meanings.specs.Limits.{max_u16}
 use Rattle.meanings.specs.Lists.{AtMost, distance}
 use Rattle.meanings.specs.Reports.{Fault, Answer, given}
 use Rattle.meanings.specs.Claim.{refusal}
-use Rattle.meanings.specs.Calls.{filling_answer}
 use Rattle.meanings.specs.Codes.{answered, no_detail}
 use Rattle.meanings.proofs.Checks.{given_accepted}
 use Rattle.meanings_boxes.specs.Boxes.{Axis, shift, cuts, gathered, one, value, cell_list, box, box_list, boxes, boxes_then}
@@ -49,7 +49,7 @@ module _ (q : TenLists) where
 
   stay : (bs' cs' ss' : List ℕ) → bs' ≡ boxes_then A B q.values q.boxes q.counts q.sums
       → cs' ≡ counts_then A B q.values q.boxes q.counts q.sums → ss' ≡ sums_then A B q.values q.boxes q.counts q.sums
-      → (e : Fault) → refusal meant ≡ some e → (bs' ≡ q.boxes) × (cs' ≡ q.counts) × (ss' ≡ q.sums)
+      → (e : Fault) → refusal meant ≡ Some e → (bs' ≡ q.boxes) × (cs' ≡ q.counts) × (ss' ≡ q.sums)
   unfolding boxes boxes_then counts_then sums_then
   stay bs' cs' ss' b c s e r = (
     decided_stays {t = meant} tt (finds_conditions q) refl (box_list A B q.values (readings q)) q.boxes bs' b e r,
@@ -59,7 +59,7 @@ module _ (q : TenLists) where
 
   -- ---- what an accepted call leaves
   module _ (small : AtMost max_u16 q.values) (g : meant ≡ given tt) where
-    unrefused : refusal_of q ≡ none
+    unrefused : refusal_of q ≡ None
     unfolding boxes
     unrefused = (given_accepted (refusal_of q) tt tt g).0
 
@@ -84,9 +84,9 @@ unordered_filled : boxes_then (along_minutes unordered) (along_temperatures unor
 unfolding boxes_then box_list box gathered distance
 unordered_filled = refl
 
-filled_answer : (a : Filling) → filling_answer a ≡ given tt → a ≡ Filled
-filled_answer Filled e = refl
-filled_answer (Filling.Refused r) e = let z : ◌≡◌ {A = ℕ} 0 1 = cc in absurd (omega arith)
+filled_answer : (a : Result Unit Refusal) → answer_of a ≡ given tt → a ≡ (Ok tt)
+filled_answer (Ok tt) e = refl
+filled_answer (Err r) e = let z : ◌≡◌ {A = ℕ} 0 1 = cc in absurd (omega arith)
 
 pub in_boxes : InBoxes
 in_boxes = record {

@@ -1,15 +1,15 @@
 -- What is promised of minute and temperature together, of the call as a caller has it and of the call for C and Rust, each known by its contract
 -- alone. SPECIFICATION, "Minute and temperature together". A list at exit has a prime.
 use Rattle.std.specs.Prelude.{ℕ, suc, ◌+◌, ◌≡◌, true, ◌↔◌, List, [], ◌∷◌, map, get_or}
-use Rattle.std.proofs.Math.Option.{none}
+use Rattle.std.specs.Prelude.{Result, Ok}
+use Rattle.meanings.specs.declared.Refusal.{Refusal}
+use Rattle.meanings.specs.Calls.{answer_of}
+use Rattle.std.specs.Prelude.{None}
 use contract.Lifetimes.{Lfts}
 use borrow.Fn.Kinds.{Dens}
-use Rattle.meanings.specs.declared.Filling.{Filling}
-use Rattle.meanings.specs.declared.Filling.TheVariants.{Filled}
 use Rattle.meanings.specs.Limits.{max_u16}
 use Rattle.meanings.specs.Lists.{AtMost}
 use Rattle.meanings.specs.Claim.{refusal}
-use Rattle.meanings.specs.Calls.{filling_answer}
 use Rattle.meanings_boxes.specs.Boxes.{Axis, shift, cuts, member, tally, strip_of}
 use Rattle.meanings_boxes.specs.Cases.{BoxesInput, outcome, sevens, four, four_outcome, RefusalCase, refusal_expected, refusal_cases}
 use Rattle.meanings_boxes.specs.Cases.{StripsCase, strips_result, strips_cases, PairsCase, pairs_result, pairs_cases}
@@ -38,7 +38,7 @@ pub record Loans : Type 0 where
   pub sums : Place
 
 -- calls that were made: the lists, the answer, and boxes, counts and sums at exit
-pub record BoxesCall (q : TenLists) (a : Filling) (bs' cs' ss' : List ℕ) : Type 0 where
+pub record BoxesCall (q : TenLists) (a : Result Unit Refusal) (bs' cs' ss' : List ℕ) : Type 0 where
   pub lifetimes : Lfts 10
   pub loans : Loans
   pub ensured :
@@ -176,19 +176,19 @@ pub record InBoxes : Type 2 where
   pub exported_ends : {M : Type 1} → exported_boxes_code.statement M
   pub exported_asks_nothing : (κs : Lfts 10) (a : Dens κs exported_boxes_kinds.ps) → exported_boxes.Asked κs a
   -- refused exactly for the first report whose condition holds, at its lowest place; then all three lists stay
-  pub refused : (q : TenLists) (a : Filling) (bs' cs' ss' : List ℕ) → BoxesCall q a bs' cs' ss'
-      → RefusedAndStays (refusal (filling_answer a)) (FirstFault (box_conditions q)) ((bs' ≡ q.boxes) × (cs' ≡ q.counts) × (ss' ≡ q.sums))
+  pub refused : (q : TenLists) (a : Result Unit Refusal) (bs' cs' ss' : List ℕ) → BoxesCall q a bs' cs' ss'
+      → RefusedAndStays (refusal (answer_of a)) (FirstFault (box_conditions q)) ((bs' ≡ q.boxes) × (cs' ≡ q.counts) × (ss' ≡ q.sums))
   pub exported_refused : (q : TenLists) (c : ℕ) (bs' cs' ss' : List ℕ) → ExportedBoxes q c bs' cs' ss'
       → RefusedAndStays (code_refusal c) (FirstFault (box_conditions q)) ((bs' ≡ q.boxes) × (cs' ≡ q.counts) × (ss' ≡ q.sums))
   -- accepted, the lists are filled in; values have 16 bits as their type says
-  pub filled_in : (q : TenLists) (bs' cs' ss' : List ℕ) → AtMost max_u16 q.values → BoxesCall q Filled bs' cs' ss' → FilledIn q bs' cs' ss'
-  pub exported_filled_in : (q : TenLists) (c : ℕ) (bs' cs' ss' : List ℕ) → AtMost max_u16 q.values → ExportedBoxes q c bs' cs' ss' → code_refusal c ≡ none
+  pub filled_in : (q : TenLists) (bs' cs' ss' : List ℕ) → AtMost max_u16 q.values → BoxesCall q (Ok tt) bs' cs' ss' → FilledIn q bs' cs' ss'
+  pub exported_filled_in : (q : TenLists) (c : ℕ) (bs' cs' ss' : List ℕ) → AtMost max_u16 q.values → ExportedBoxes q c bs' cs' ss' → code_refusal c ≡ None
       → (c ≡ 0) × FilledIn q bs' cs' ss'
   -- such lists are there: the four readings of the worked case
-  pub some_accepted : (a : Filling) (bs' cs' ss' : List ℕ) → BoxesCall (lists_of four) a bs' cs' ss' → a ≡ Filled
+  pub some_accepted : (a : Result Unit Refusal) (bs' cs' ss' : List ℕ) → BoxesCall (lists_of four) a bs' cs' ss' → a ≡ (Ok tt)
   pub exported_some_accepted : (c : ℕ) (bs' cs' ss' : List ℕ) → ExportedBoxes (lists_of four) c bs' cs' ss' → c ≡ 0
   -- and lists with neither readings nor edges in order
-  pub unordered_accepted : (a : Filling) (bs' cs' ss' : List ℕ) → BoxesCall unordered a bs' cs' ss' → (a ≡ Filled) × (bs' ≡ unordered_boxes)
+  pub unordered_accepted : (a : Result Unit Refusal) (bs' cs' ss' : List ℕ) → BoxesCall unordered a bs' cs' ss' → (a ≡ (Ok tt)) × (bs' ≡ unordered_boxes)
   pub exported_unordered_accepted : (c : ℕ) (bs' cs' ss' : List ℕ) → ExportedBoxes unordered c bs' cs' ss' → (c ≡ 0) × (bs' ≡ unordered_boxes)
   -- a strip's cuts are the edges and nothing else, and a strip is how many numbers up to the reading are cuts
   pub cuts_are_edges : (A : Axis) (c : ℕ) → (member c (cuts A) ≡ true) ↔ IsCut A c

@@ -5,7 +5,7 @@ use mathlib.Core.Path.{◌≡◌, refl, sym, ap, ◌∙◌}
 use mathlib.Core.Bool.{Bool, true, false, true≢false}
 use mathlib.Core.Logic.{inl, inr}
 use mathlib.Core.List.{List, [], ◌∷◌}
-use mathlib.Core.Option.{Option, none, some}
+use Rattle.std.specs.Prelude.{Option, None, Some}
 use native.Mathlib.Omega.{arith}
 use Rattle.meanings.specs.Lists.{lowest}
 use Rattle.meanings.specs.Reports.{Fault, Check, at, fault_or, first_of}
@@ -16,8 +16,8 @@ use Rattle.demands_conditions.specs.Conditions.{Conditions, no_more, condition, 
 -- the check finds report n where its condition holds, lowest place first, and nothing where it holds nowhere
 pub record Finds (k : Check) (n : ℕ) (At : ℕ → Type 0) : Type 0 where
   pub number : k.number ≡ n
-  pub found : (p : ℕ) → k.place ≡ some p → At p × ((q : ℕ) → q < p → ¬ At q)
-  pub absent : k.place ≡ none → (q : ℕ) → ¬ At q
+  pub found : (p : ℕ) → k.place ≡ Some p → At p × ((q : ℕ) → q < p → ¬ At q)
+  pub absent : k.place ≡ None → (q : ℕ) → ¬ At q
 
 abbrev pub FindEach : List Check → Conditions → Type 0
 FindEach [] no_more = Unit {0}
@@ -33,32 +33,32 @@ pub record FindAll (ks : List Check) (cs : Conditions) : Type 0 where
 abbrev fault : ℕ → ℕ → Fault
 fault n p = record { number = n; place = p }
 
-some_same : (n p m q : ℕ) → some (fault n p) ≡ some (fault m q) → (n ≡ m) × (p ≡ q)
+some_same : (n p m q : ℕ) → Some (fault n p) ≡ Some (fault m q) → (n ≡ m) × (p ≡ q)
 some_same n p m q e = let f : fault n p ≡ fault m q = cc in (ap (λ (f : Fault). f.number) f, ap (λ (f : Fault). f.place) f)
 
-pub first_found : (ks : List Check) (cs : Conditions) → FindEach ks cs → (n p : ℕ) → first_of ks ≡ some (fault n p) → FirstFault cs n p
+pub first_found : (ks : List Check) (cs : Conditions) → FindEach ks cs → (n p : ℕ) → first_of ks ≡ Some (fault n p) → FirstFault cs n p
 first_found [] no_more f n p e = let z : ◌≡◌ {A = ℕ} 0 1 = cc in absurd (omega arith)
 first_found [] (condition m At cs) f n p e = elim f [ ]
 first_found (k ∷ ks) no_more f n p e = elim f [ ]
 first_found (k ∷ ks) (condition m At cs) f n p e = by k.place refl e (first_found ks cs f.1 n p)
   where
-    by : (o : Option ℕ) → k.place ≡ o → fault_or k.number o (first_of ks) ≡ some (fault n p)
-        → (first_of ks ≡ some (fault n p) → FirstFault cs n p) → FirstFault (condition m At cs) n p
-    by none q e rest = inr (f.0.absent q, rest e)
-    by (some i) q e rest =
+    by : (o : Option ℕ) → k.place ≡ o → fault_or k.number o (first_of ks) ≡ Some (fault n p)
+        → (first_of ks ≡ Some (fault n p) → FirstFault cs n p) → FirstFault (condition m At cs) n p
+    by None q e rest = inr (f.0.absent q, rest e)
+    by (Some i) q e rest =
         let s = some_same k.number i n p e in
         let g = rw s.1 at (f.0.found i q) in
         inl (sym s.0 ∙ f.0.number, g.0, g.1)
 
-pub none_found : (ks : List Check) (cs : Conditions) → FindEach ks cs → first_of ks ≡ none → NoFault cs
+pub none_found : (ks : List Check) (cs : Conditions) → FindEach ks cs → first_of ks ≡ None → NoFault cs
 none_found [] no_more f e = tt
 none_found [] (condition m At cs) f e = elim f [ ]
 none_found (k ∷ ks) no_more f e = elim f [ ]
 none_found (k ∷ ks) (condition m At cs) f e = by k.place refl e (none_found ks cs f.1)
   where
-    by : (o : Option ℕ) → k.place ≡ o → fault_or k.number o (first_of ks) ≡ none → (first_of ks ≡ none → NoFault cs) → NoFault (condition m At cs)
-    by none q e rest = (f.0.absent q, rest e)
-    by (some i) q e rest = let z : ◌≡◌ {A = ℕ} 0 1 = cc in absurd (omega arith)
+    by : (o : Option ℕ) → k.place ≡ o → fault_or k.number o (first_of ks) ≡ None → (first_of ks ≡ None → NoFault cs) → NoFault (condition m At cs)
+    by None q e rest = (f.0.absent q, rest e)
+    by (Some i) q e rest = let z : ◌≡◌ {A = ℕ} 0 1 = cc in absurd (omega arith)
 
 -- there is one first fault
 pub one_first : (cs : Conditions) (n p m q : ℕ) → FirstFault cs n p → FirstFault cs m q → (n ≡ m) × (p ≡ q)
@@ -77,22 +77,22 @@ none_or_first (condition k At cs) n p a (inl b) = a.0 p b.1
 none_or_first (condition k At cs) n p a (inr b) = none_or_first cs n p a.1 b.1
 
 -- what finds every refusal that R knows, and none where it knows none, is R, where R knows one at most
-pub exactly : (f : Option Fault) (R : ℕ → ℕ → Type 0) → ((n p : ℕ) → f ≡ some (fault n p) → R n p) → (f ≡ none → (n p : ℕ) → ¬ R n p)
+pub exactly : (f : Option Fault) (R : ℕ → ℕ → Type 0) → ((n p : ℕ) → f ≡ Some (fault n p) → R n p) → (f ≡ None → (n p : ℕ) → ¬ R n p)
     → ((n p m q : ℕ) → R n p → R m q → (n ≡ m) × (p ≡ q)) → RefusedExactly f R
 exactly f R found absent one = record {
   refused = λ n p. (found n p, λ r. by f refl n p r);
   accepted = (absent, λ none-known. all f refl none-known);
 }
   where
-    by : (o : Option Fault) → f ≡ o → (n p : ℕ) → R n p → f ≡ some (fault n p)
-    by none e n p r = absurd (absent e n p r)
-    by (some g) e n p r =
+    by : (o : Option Fault) → f ≡ o → (n p : ℕ) → R n p → f ≡ Some (fault n p)
+    by None e n p r = absurd (absent e n p r)
+    by (Some g) e n p r =
         let s = one g.number g.place n p (found g.number g.place e) r in
-        e ∙ (λ i. some (record { number = s.0 i; place = s.1 i }))
+        e ∙ (λ i. Some (record { number = s.0 i; place = s.1 i }))
 
-    all : (o : Option Fault) → f ≡ o → ((n p : ℕ) → ¬ R n p) → f ≡ none
-    all none e k = e
-    all (some g) e k = absurd (k g.number g.place (found g.number g.place e))
+    all : (o : Option Fault) → f ≡ o → ((n p : ℕ) → ¬ R n p) → f ≡ None
+    all None e k = e
+    all (Some g) e k = absurd (k g.number g.place (found g.number g.place e))
 
 pub refused_exactly : {ks : List Check} {cs : Conditions} → FindAll ks cs → RefusedExactly (first_of ks) (FirstFault cs)
 refused_exactly {ks} {cs} f =

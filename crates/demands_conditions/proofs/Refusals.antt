@@ -5,7 +5,7 @@ use mathlib.Core.Path.{◌≡◌, refl, sym, ap, ◌∙◌}
 use mathlib.Core.Bool.{Bool, true, false, true≢false, not, ◌&&◌, and-eq-true_iff}
 use mathlib.Core.Logic.{inl, inr}
 use mathlib.Core.List.{List, [], ◌∷◌}
-use mathlib.Core.Option.{Option, none, some}
+use Rattle.std.specs.Prelude.{Option, None, Some}
 use native.Mathlib.Omega.{arith}
 use borrow.Author.Tests.{eq-eqb, ne_eqb, eqb-true, eqb-false, leb-true, ltb-true}
 use lib.Dec.{eqb, ltb, leb}
@@ -38,7 +38,7 @@ module _ {A : Type 0} {t : Answer A} (a : A) {ks : List Check} {cs : Conditions}
   decided_exactly = rw refusal_is_first (refused_exactly finds)
 
   -- a lent list that such a call writes only where it accepts
-  pub decided_stays : (ys xs xs' : List ℕ) → xs' ≡ accepted_or (first_of ks) ys xs → (e : Fault) → refusal t ≡ some e → xs' ≡ xs
+  pub decided_stays : (ys xs xs' : List ℕ) → xs' ≡ accepted_or (first_of ks) ys xs → (e : Fault) → refusal t ≡ Some e → xs' ≡ xs
   decided_stays ys xs xs' q e r = q ∙ ap (λ (f : Option Fault). accepted_or f ys xs) (sym refusal_is_first ∙ r)
 
 -- what the reader makes of a sheet, after the checks ks
@@ -49,19 +49,19 @@ module _ {ks : List Check} {cs : Conditions} (finds : FindAll ks cs) (s : List �
       (absent (first_of ks) refl (read_sheet full s) refl) one
     where
       found : (f : Option Fault) → first_of ks ≡ f → (o : Outcome) → read_sheet full s ≡ o → (n p : ℕ)
-          → refusal (or_next f o) ≡ some (record { number = n; place = p }) → FirstOrElse cs (Refused full s) n p
-      found none q (given c) r n p e = let z : ◌≡◌ {A = ℕ} 0 1 = cc in absurd (omega arith)
-      found none q (refused g) r n p e =
+          → refusal (or_next f o) ≡ Some (record { number = n; place = p }) → FirstOrElse cs (Refused full s) n p
+      found None q (given c) r n p e = let z : ◌≡◌ {A = ℕ} 0 1 = cc in absurd (omega arith)
+      found None q (refused g) r n p e =
           let same : g ≡ record { number = n; place = p } = cc in
           inr (none_found ks cs finds.each q, refused_is_refused full s n p (r ∙ ap refused same))
-      found (some g) q o r n p e = inl (first_found ks cs finds.each n p (q ∙ e))
+      found (Some g) q o r n p e = inl (first_found ks cs finds.each n p (q ∙ e))
 
-      absent : (f : Option Fault) → first_of ks ≡ f → (o : Outcome) → read_sheet full s ≡ o → refusal (or_next f o) ≡ none → (n p : ℕ)
+      absent : (f : Option Fault) → first_of ks ≡ f → (o : Outcome) → read_sheet full s ≡ o → refusal (or_next f o) ≡ None → (n p : ℕ)
           → ¬ FirstOrElse cs (Refused full s) n p
-      absent none q (given c) r e n p (inl a) = none_or_first cs n p (none_found ks cs finds.each q) a
-      absent none q (given c) r e n p (inr b) = never_both full s c n p (read_is_printed full s c r) b.1
-      absent none q (refused g) r e n p a = let z : ◌≡◌ {A = ℕ} 0 1 = cc in omega arith
-      absent (some g) q o r e n p a = let z : ◌≡◌ {A = ℕ} 0 1 = cc in omega arith
+      absent None q (given c) r e n p (inl a) = none_or_first cs n p (none_found ks cs finds.each q) a
+      absent None q (given c) r e n p (inr b) = never_both full s c n p (read_is_printed full s c r) b.1
+      absent None q (refused g) r e n p a = let z : ◌≡◌ {A = ℕ} 0 1 = cc in omega arith
+      absent (Some g) q o r e n p a = let z : ◌≡◌ {A = ℕ} 0 1 = cc in omega arith
 
       one : (n p m q : ℕ) → FirstOrElse cs (Refused full s) n p → FirstOrElse cs (Refused full s) m q → (n ≡ m) × (p ≡ q)
       one n p m q (inl a) (inl b) = one_first cs n p m q a b
@@ -115,7 +115,7 @@ sized_sheet_is_checked n xs ks o = by (eqb (length xs) n)
     by false = refl
 
 -- a lent list that an exported call stores its answer in stays where the answer is a refusal
-pub stored_stays : {A : Type 0} (numbers : A → List ℕ) (t : Answer A) (xs : List ℕ) (e : Fault) → refusal t ≡ some e → stored numbers t xs ≡ xs
+pub stored_stays : {A : Type 0} (numbers : A → List ℕ) (t : Answer A) (xs : List ℕ) (e : Fault) → refusal t ≡ Some e → stored numbers t xs ≡ xs
 stored_stays numbers (given a) xs e q = let z : ◌≡◌ {A = ℕ} 0 1 = cc in absurd (omega arith)
 stored_stays numbers (refused f) xs e q = refl
 
@@ -154,7 +154,7 @@ sheet_numbered s n p (malformed_sample l e ms fit o d f js g b rest q w) = (omeg
 sheet_numbered s n p (faulty_sample l e ms fit o d f js g j k b x) = sample_fault_numbered n x
 
 -- the one number of an answer tells what it was refused with
-pub code_reads : {A : Type 0} (detail : A → ℕ) (t : Answer A) → ((e : Fault) → refusal t ≡ some e → Numbered e.number)
+pub code_reads : {A : Type 0} (detail : A → ℕ) (t : Answer A) → ((e : Fault) → refusal t ≡ Some e → Numbered e.number)
     → code_refusal (answered detail t) ≡ refusal t
 code_reads detail (given a) f = rw (eq-eqb (detail_unit * detail a % detail_unit) 0 (accepted_read_back (detail a)).0)
 code_reads detail (refused e) f =
@@ -170,19 +170,19 @@ exported_refusal detail t c R q small r =
 
 -- and what it is lent stays where its answer is a refusal
 pub exported_stays : {A : Type 0} (t : Answer A) (c : ℕ) (R : ℕ → ℕ → Type 0) → code_refusal c ≡ refusal t → RefusedExactly (refusal t) R
-    → (Stays : Type 0) → ((e : Fault) → refusal t ≡ some e → Stays) → RefusedAndStays (code_refusal c) R Stays
+    → (Stays : Type 0) → ((e : Fault) → refusal t ≡ Some e → Stays) → RefusedAndStays (code_refusal c) R Stays
 exported_stays t c R same r Stays stays = record { exactly = rw same r; stays = λ e k. stays e (sym same ∙ k) }
 
 -- an answer that is no refusal is given, and behind a list of fixed length it is the answer itself
-pub accepted_given : {A : Type 0} (t : Answer A) → refusal t ≡ none → (a : A) × (t ≡ given a)
+pub accepted_given : {A : Type 0} (t : Answer A) → refusal t ≡ None → (a : A) × (t ≡ given a)
 accepted_given (given a) q = (a, refl)
 accepted_given (refused e) q = let z : ◌≡◌ {A = ℕ} 0 1 = cc in absurd (omega arith)
 
-pub sized_opens : {A : Type 0} (n : ℕ) (xs : List ℕ) (t : Answer A) → refusal (sized n xs t) ≡ none → sized n xs t ≡ t
+pub sized_opens : {A : Type 0} (n : ℕ) (xs : List ℕ) (t : Answer A) → refusal (sized n xs t) ≡ None → sized n xs t ≡ t
 unfolding sized
 sized_opens {A} n xs t = by (eqb (length xs) n)
   where
-    by : (b : Bool) → refusal (pick b t (refused (record { number = 8; place = 0 }))) ≡ none
+    by : (b : Bool) → refusal (pick b t (refused (record { number = 8; place = 0 }))) ≡ None
         → pick b t (refused (record { number = 8; place = 0 })) ≡ t
     by true q = refl
     by false q = let z : ◌≡◌ {A = ℕ} 0 1 = cc in absurd (omega arith)
@@ -197,6 +197,6 @@ pub counts_refused : (o : Outcome) → refusal (counts o) ≡ refusal o
 counts_refused (given c) = refl
 counts_refused (refused e) = refl
 
-pub front_stays : (o : Outcome) (part : Contents → List ℕ) (xs : List ℕ) (e : Fault) → refusal o ≡ some e → filled_front o part xs ≡ xs
+pub front_stays : (o : Outcome) (part : Contents → List ℕ) (xs : List ℕ) (e : Fault) → refusal o ≡ Some e → filled_front o part xs ≡ xs
 front_stays (given c) part xs e q = let z : ◌≡◌ {A = ℕ} 0 1 = cc in absurd (omega arith)
 front_stays (refused f) part xs e q = refl

@@ -1,7 +1,7 @@
 -- When a call is refused, in plain arithmetic: for each call the conditions of its reports, in the order in which they count, each with the
 -- places at which it holds. A call is refused with the first condition that holds anywhere, at the lowest place at which it does.
 use Rattle.std.specs.Prelude.{ℕ, suc, ◌+◌, ◌-◌, ◌*◌, ◌%◌, ◌/◌, ◌≤◌, ◌<◌, ◌≡◌, ◌↔◌, ◌⊎◌, List, eqb, length, get_or}
-use Rattle.std.proofs.Math.Option.{Option, none, some}
+use Rattle.std.specs.Prelude.{Option, None, Some}
 use Rattle.meanings.specs.declared.Limits.{Limits}
 use Rattle.meanings.specs.Lists.{pick}
 use Rattle.meanings.specs.Limits.{full, max_u16, max_bandwidth, row_width, max_output}
@@ -31,13 +31,13 @@ FirstOrElse cs R n p = FirstFault cs n p ⊎ (NoFault cs × R n p)
 
 -- a call is refused with n at p exactly if R n p, and accepted exactly if R holds of nothing
 pub record RefusedExactly (f : Option Fault) (R : ℕ → ℕ → Type 0) : Type 0 where
-  pub refused : (n p : ℕ) → (f ≡ some (record { number = n; place = p })) ↔ R n p
-  pub accepted : (f ≡ none) ↔ ((n p : ℕ) → ¬ R n p)
+  pub refused : (n p : ℕ) → (f ≡ Some (record { number = n; place = p })) ↔ R n p
+  pub accepted : (f ≡ None) ↔ ((n p : ℕ) → ¬ R n p)
 
 -- a call is refused exactly as R says, and what is lent then stays
 pub record RefusedAndStays (f : Option Fault) (R : ℕ → ℕ → Type 0) (Stays : Type 0) : Type 0 where
   pub exactly : RefusedExactly f R
-  pub stays : (e : Fault) → f ≡ some e → Stays
+  pub stays : (e : Fault) → f ≡ Some e → Stays
 
 -- a condition of the whole call: its place is 0
 abbrev pub AtZero : Type 0 → ℕ → Type 0
@@ -148,4 +148,4 @@ record_row_conditions xs row = length_first record_length xs (length_first row_w
 
 -- what the one number of an exported answer says: a report, its number and its place as detail, or that the call is accepted
 abbrev pub code_refusal : ℕ → Option Fault
-code_refusal c = pick (eqb (c % detail_unit) 0) none (some (record { number = c % detail_unit; place = c / detail_unit }))
+code_refusal c = pick (eqb (c % detail_unit) 0) None (Some (record { number = c % detail_unit; place = c / detail_unit }))

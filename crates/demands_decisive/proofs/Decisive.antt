@@ -1,17 +1,18 @@
 -- The call's contract with the laws of its meaning: what it finds is by the rows of the meaning, which are the published ones and those that the
 -- question at one mark gives.
 use Prim.Native.Nat.{ℕ, ◌≤◌, ◌<◌}
+use Rattle.std.specs.Prelude.{Result, Ok, Err}
+use Rattle.meanings.specs.declared.Refusal.{Refusal}
+use Rattle.meanings.specs.Calls.{answer_of}
 use mathlib.Core.Path.{◌≡◌, refl, sym, ap, ◌∙◌}
 use mathlib.Core.Logic.{inl, inr}
 use mathlib.Core.Bool.{Bool, true, false, true≢false}
 use mathlib.Core.List.{List}
-use mathlib.Core.Option.{Option, none, some}
+use Rattle.std.specs.Prelude.{Option, None, Some}
 use native.Mathlib.Omega.{arith}
 use borrow.Author.Tests.{ne_eqb}
 use lib.ListN.{length, get_or}
 use Rattle.meanings.specs.declared.Estimate.{Estimate}
-use Rattle.meanings.specs.declared.Evaluation.{Evaluation}
-use Rattle.meanings.specs.declared.Evaluation.TheVariants.{Row}
 use Rattle.meanings.specs.Limits.{full, max_u16, row_width}
 use Rattle.meanings.specs.Lists.{AtMost}
 use Rattle.meanings.specs.PublishedRow.{PublishedRow}
@@ -28,9 +29,7 @@ use Rattle.meanings.proofs.PublishedRows.{published_row, one_published_row}
 use Rattle.meanings.proofs.Search.{lowest_none, lowest_some}
 use Rattle.meanings.proofs.Window.{run_is_inside}
 use Rattle.meanings_limit.specs.Threshold.{low_enough}
-use Rattle.meanings_decisive.specs.declared.Decisive.{Decisive}
-use Rattle.meanings_decisive.specs.declared.Decisive.TheVariants.{Sample, NoSample}
-use Rattle.meanings_decisive.specs.Decisive.{decisive_answer, without, verdict, differs, decides, first_decisive, decisive}
+use Rattle.meanings_decisive.specs.Decisive.{without, verdict, differs, decides, first_decisive, decisive}
 use Rattle.meanings_decisive.proofs.Decides.{without_removes, one_removed, removed_within, without_at_most, without_accepted}
 use Rattle.meanings_decisive.proofs.Decides.{accepted_not_refused, named_has_weight, missing_keeps}
 use Rattle.meanings_decisive.proofs.Removal.{weight_without, sum_without, weight_stays, sum_stays, run_kernel, no_weight_outside}
@@ -74,10 +73,10 @@ not_both limit e e' (inl a) (inr b) = b.0 a.0
 not_both limit e e' (inr a) (inl b) = a.0 b.0
 not_both limit e e' (inr a) (inr b) = b.1 a.1
 
-none_answered : (a : Decisive) → decisive_answer a ≡ given none → a ≡ NoSample
-none_answered NoSample q = refl
-none_answered (Sample i) q = let z : ◌≡◌ {A = ℕ} 0 1 = cc in absurd (omega arith)
-none_answered (Decisive.Refused r) q = let z : ◌≡◌ {A = ℕ} 0 1 = cc in absurd (omega arith)
+none_answered : (a : Result (Option ℕ) Refusal) → answer_of a ≡ given None → a ≡ (Ok None)
+none_answered (Ok None) q = refl
+none_answered (Ok (Some i)) q = let z : ◌≡◌ {A = ℕ} 0 1 = cc in absurd (omega arith)
+none_answered (Err r) q = let z : ◌≡◌ {A = ℕ} 0 1 = cc in absurd (omega arith)
 
 -- the question over accepted lists
 module _ (ts vs : List ℕ) (z h : ℕ) where
@@ -92,7 +91,7 @@ module _ (ts vs : List ℕ) (z h : ℕ) where
     unfolding evaluate
     row_asked = ap (λ (f : Option Fault). unless f (estimate ts vs z h)) (accepted_not_refused ts vs h a)
 
-    row_of_call : (b : Evaluation) → EvaluateCall ts vs z h b → b ≡ Row (estimate ts vs z h)
+    row_of_call : (b : Result Estimate Refusal) → EvaluateCall ts vs z h b → b ≡ Ok (estimate ts vs z h)
     row_of_call b c = answered_row b (estimate ts vs z h) (c.ensured ∙ row_asked)
 
     row_published : AtMost max_u16 vs → (e : Estimate) → PublishedRow ts vs z h e → e ≡ estimate ts vs z h
@@ -135,7 +134,7 @@ module _ (ts vs : List ℕ) (z h : ℕ) (a : EvaluateAccepted ts vs h) (R : Esti
       )
       (f ts' vs' w)
 
-  of_calls : (i : ℕ) (ts' vs' : List ℕ) → Without i ts vs ts' vs' → R (estimate ts vs z h) (estimate ts' vs' z h) → (b b' : Evaluation)
+  of_calls : (i : ℕ) (ts' vs' : List ℕ) → Without i ts vs ts' vs' → R (estimate ts vs z h) (estimate ts' vs' z h) → (b b' : Result Estimate Refusal)
       → EvaluateCall ts vs z h b → EvaluateCall ts' vs' z h b' → BothRows R b b'
   of_calls i ts' vs' w r b b' c c' = record {
     whole = estimate ts vs z h;
@@ -220,7 +219,7 @@ module _ (ts vs : List ℕ) (z h limit : ℕ) where
       refusal_unless (evaluate_refusal full ts vs h) (first_decisive ts vs z h limit)
       ∙ sym (refusal_unless (evaluate_refusal full ts vs h) (estimate ts vs z h))
 
-  module _ (i : ℕ) (q : first_decisive ts vs z h limit ≡ some i) where
+  module _ (i : ℕ) (q : first_decisive ts vs z h limit ≡ Some i) where
     found_within : i < length ts
     found_within = (lowest_some (decides ts vs z h limit) (length ts) i q).0
 
@@ -231,19 +230,19 @@ module _ (ts vs : List ℕ) (z h limit : ℕ) where
     none_lower j l = (lowest_some (decides ts vs z h limit) (length ts) i q).1.before j (omega arith) l
 
   -- no reading before the answer decides
-  kept_before : (d : Decisive) (j : ℕ) → decisive_answer d ≡ decisive full ts vs z h limit → BeforeAnswer d j → j < length ts
+  kept_before : (d : Result (Option ℕ) Refusal) (j : ℕ) → answer_of d ≡ decisive full ts vs z h limit → BeforeAnswer d j → j < length ts
       → EvaluateAccepted ts vs h × (decides ts vs z h limit j ≡ false)
-  kept_before (Sample i) j q b l = let o = opened (some i) q in (o.0, none_lower i o.1 j b)
-  kept_before NoSample j q b l = let o = opened none q in (o.0, lowest_none (decides ts vs z h limit) (length ts) o.1 j l)
-  kept_before (Decisive.Refused r) j q b l = absurd b
+  kept_before (Ok (Some i)) j q b l = let o = opened (Some i) q in (o.0, none_lower i o.1 j b)
+  kept_before (Ok None) j q b l = let o = opened None q in (o.0, lowest_none (decides ts vs z h limit) (length ts) o.1 j l)
+  kept_before (Err r) j q b l = absurd b
 
   -- where no removal changes anything, none is named
-  none_named : AtMost max_u16 vs → (d : Decisive) → decisive_answer d ≡ decisive full ts vs z h limit → refusal (decisive_answer d) ≡ none
-      → ((j : ℕ) → j < length ts → WithPublished (Stays limit) ts vs z h j) → d ≡ NoSample
-  none_named v NoSample q r f = refl
-  none_named v (Decisive.Refused e) q r f = let n : ◌≡◌ {A = ℕ} 0 1 = cc in absurd (omega arith)
-  none_named v (Sample i) q r f =
-      let o = opened (some i) q in
+  none_named : AtMost max_u16 vs → (d : Result (Option ℕ) Refusal) → answer_of d ≡ decisive full ts vs z h limit → refusal (answer_of d) ≡ None
+      → ((j : ℕ) → j < length ts → WithPublished (Stays limit) ts vs z h j) → d ≡ (Ok None)
+  none_named v (Ok None) q r f = refl
+  none_named v (Err e) q r f = let n : ◌≡◌ {A = ℕ} 0 1 = cc in absurd (omega arith)
+  none_named v (Ok (Some i)) q r f =
+      let o = opened (Some i) q in
       let l = found_within i o.1 in
       let m : i < length vs = omega (arith, o.0.even) in
       let w : Without i ts vs (without i ts) (without i vs) = record { minutes = without_removes i ts l; values = without_removes i vs m } in
@@ -254,8 +253,8 @@ module _ (ts vs : List ℕ) (z h limit : ℕ) where
       (published_row ts vs z h v o.0)
       (published_row (without i ts) (without i vs) z h (without_at_most max_u16 i vs m v) (without_accepted ts vs h i l o.0))))
 
-  missing_none : AtMost max_u16 vs → (d : Decisive) → decisive_answer d ≡ decisive full ts vs z h limit → (e : Estimate)
-      → given e ≡ evaluate full ts vs z h → e.value ≡ missing → d ≡ NoSample
+  missing_none : AtMost max_u16 vs → (d : Result (Option ℕ) Refusal) → answer_of d ≡ decisive full ts vs z h limit → (e : Estimate)
+      → given e ≡ evaluate full ts vs z h → e.value ≡ missing → d ≡ (Ok None)
   unfolding estimate
   missing_none v d q e g m =
       let a = row_given ts vs z h e g in
@@ -278,9 +277,9 @@ module _ (ts vs : List ℕ) (z h limit : ℕ) where
 
   -- a position of the answer lies among the readings, which are few
   read_back : (o : Option ℕ) → given o ≡ decisive full ts vs z h limit → position_of (get_or (position_numbers o) 0 0) ≡ o
-  read_back none q = refl
-  read_back (some i) q =
-      let o = opened (some i) q in
+  read_back None q = refl
+  read_back (Some i) q =
+      let o = opened (Some i) q in
       let l = found_within i o.1 in
       let few : length ts ≤ 1024 = o.0.few in
       rw (ne_eqb i no_position (λ (e : i ≡ no_position). omega arith))
@@ -293,7 +292,7 @@ module _ (ts vs : List ℕ) (z h limit : ℕ) where
     one : length xs' ≡ 1
     back : position_of (get_or xs' 0 0) ≡ position
 
-  export_opened : (xs : List ℕ) (c : ℕ) (xs' : List ℕ) → ExportedDecisive ts vs z h limit xs c xs' → code_refusal c ≡ none → ExportOpened c xs'
+  export_opened : (xs : List ℕ) (c : ℕ) (xs' : List ℕ) → ExportedDecisive ts vs z h limit xs c xs' → code_refusal c ≡ None → ExportOpened c xs'
   export_opened xs c xs' k r =
       let t = sized 1 xs (decisive full ts vs z h limit) in
       let accepted = sym (coded xs c k.ensured.0) ∙ r in
@@ -314,10 +313,10 @@ decisive_readings = record {
   decisive_asks_nothing = λ κs a. tt;
   exported_ends = exported_met.met;
   exported_asks_nothing = λ κs a. tt;
-  refused = λ ts vs z h limit a c. exactly ts vs z h limit (decisive_answer a) c.ensured;
+  refused = λ ts vs z h limit a c. exactly ts vs z h limit (answer_of a) c.ensured;
   refused_alike = λ ts vs z h limit a b c d. ap refusal c.ensured ∙ alike ts vs z h limit ∙ sym (ap refusal d.ensured);
   named = λ ts vs z h limit i v c.
-      let o = opened ts vs z h limit (some i) c.ensured in (
+      let o = opened ts vs z h limit (Some i) c.ensured in (
         found_within ts vs z h limit i o.1,
         of_published ts vs z h o.0 (Changes limit) v i
             (λ ts' vs' w. removal_changes i ts vs ts' vs' w z h limit (found_decides ts vs z h limit i o.1)),
@@ -327,7 +326,7 @@ decisive_readings = record {
       );
   none_exactly = λ ts vs z h limit a v c r. (
     λ e j l.
-        let o = opened ts vs z h limit none (sym (ap decisive_answer e) ∙ c.ensured) in
+        let o = opened ts vs z h limit None (sym (ap answer_of e) ∙ c.ensured) in
         of_published ts vs z h o.0 (Stays limit) v j
         (λ ts' vs' w. removal_keeps j ts vs ts' vs' w z h limit (lowest_none (decides ts vs z h limit) (length ts) o.1 j l)),
     none_named ts vs z h limit v a c.ensured r,
@@ -335,7 +334,7 @@ decisive_readings = record {
   still_accepted = λ ts vs z h i e ts' vs' b c w d.
       let a = rest_accepted i ts vs ts' vs' w h (row_given ts vs z h e c.ensured).0 in (estimate ts' vs' z h, row_of_call ts' vs' z h a b d);
   asked_again = λ ts vs z h limit i ts' vs' a b d w c c'.
-      let o = opened ts vs z h limit (some i) d.ensured in
+      let o = opened ts vs z h limit (Some i) d.ensured in
       of_calls ts vs z h o.0 (Changes limit) i ts' vs' w
       (removal_changes i ts vs ts' vs' w z h limit (found_decides ts vs z h limit i o.1)) a b c c';
   others_asked_again = λ ts vs z h limit d j ts' vs' a b k m w c c'.
@@ -350,7 +349,7 @@ decisive_readings = record {
       let o' = row_given ts' vs' z h e' c'.ensured in
       run_sums ts vs z h i ts' vs' w o.0 e e' o.1 o'.1 n;
   named_has_weight = λ ts vs z h limit i c.
-      let o = opened ts vs z h limit (some i) c.ensured in
+      let o = opened ts vs z h limit (Some i) c.ensured in
       let n = named_has_weight ts vs z h limit o.0.ordered i o.1 in (
         record { within = found_within ts vs z h limit i o.1; above_zero = n },
         (weighs_near z h (get_or ts i 0)).0 n,
@@ -365,7 +364,7 @@ decisive_readings = record {
       let t = export_opened ts vs z h limit xs c xs' k r in (t.position, (d.ensured ∙ sym t.tells, t.zero_is, t.one, t.back));
   exported_asked_again = λ ts vs z h limit i xs c xs' ts' vs' row c₁ row₁ row' c₂ row₂ k r p w five five' d d'.
       let t = export_opened ts vs z h limit xs c xs' k r in
-      let o = opened ts vs z h limit (some i) (ap given (sym p ∙ t.back) ∙ t.tells) in
+      let o = opened ts vs z h limit (Some i) (ap given (sym p ∙ t.back) ∙ t.tells) in
       of_exports ts vs z h o.0 (Changes limit) i ts' vs' w
       (removal_changes i ts vs ts' vs' w z h limit (found_decides ts vs z h limit i o.1)) row c₁ row₁ row' c₂ row₂ five five' d d';
 }

@@ -2,22 +2,20 @@
 -- and by what the question at one mark answers when it is asked again without it. SPECIFICATION, "Questions with a limit".
 -- ts are minutes, vs values, z a mark and h its half width.
 use Rattle.std.specs.Prelude.{ℕ, ◌+◌, ◌-◌, ◌*◌, ◌≤◌, ◌<◌, ◌≡◌, ◌↔◌, ◌⊎◌, List, length, get_or}
-use Rattle.std.proofs.Math.Option.{Option, none, some}
+use Rattle.std.specs.Prelude.{Result, Ok, Err}
+use Rattle.meanings.specs.declared.Refusal.{Refusal}
+use Rattle.meanings.specs.Calls.{answer_of}
+use Rattle.std.specs.Prelude.{Option, None, Some}
 use contract.Lifetimes.{Lfts}
 use borrow.Fn.Kinds.{Dens}
 use Rattle.meanings.specs.declared.Estimate.{Estimate}
-use Rattle.meanings.specs.declared.Evaluation.{Evaluation}
-use Rattle.meanings.specs.declared.Evaluation.TheVariants.{Row}
 use Rattle.meanings.specs.Limits.{max_u16, row_width}
 use Rattle.meanings.specs.Lists.{distance, AtMost}
 use Rattle.meanings.specs.PublishedRow.{PublishedRow}
 use Rattle.meanings.specs.Reports.{Fault, given}
 use Rattle.meanings.specs.Estimate.{missing, fields}
 use Rattle.meanings.specs.Claim.{refusal}
-use Rattle.meanings.specs.Calls.{evaluation_answer}
-use Rattle.meanings_decisive.specs.declared.Decisive.{Decisive}
-use Rattle.meanings_decisive.specs.declared.Decisive.TheVariants.{Sample, NoSample}
-use Rattle.meanings_decisive.specs.Decisive.{Removed, decisive_answer}
+use Rattle.meanings_decisive.specs.Decisive.{Removed}
 use Rattle.laws_rows.specs.Weighted.{Weighs}
 use Rattle.laws_rows.specs.AmongReadings.{weight_at}
 use Rattle.abi_answers.specs.Positions.{position_of}
@@ -32,7 +30,7 @@ use Rattle.demands.specs.Conditions.{RefusedExactly, FirstFault, evaluate_condit
 use Rattle.demands.specs.Crossing.{LowEnough}
 
 -- calls that were made
-pub record DecisiveCall (ts vs : List ℕ) (z h limit : ℕ) (a : Decisive) : Type 0 where
+pub record DecisiveCall (ts vs : List ℕ) (z h limit : ℕ) (a : Result (Option ℕ) Refusal) : Type 0 where
   pub lifetimes : Lfts 2
   pub minutes_at : Place
   pub values_at : Place
@@ -73,17 +71,17 @@ abbrev pub RemovalKeeps : List ℕ → List ℕ → ℕ → ℕ → ℕ → ℕ 
 RemovalKeeps ts vs z h limit i = WithPublished (Stays limit) ts vs z h i
 
 -- reading j stands before the answer: before the named one; where none is named, anywhere
-abbrev pub BeforeAnswer : Decisive → ℕ → Type 0
-BeforeAnswer (Sample i) j = j < i
-BeforeAnswer NoSample j = Unit
-BeforeAnswer (Decisive.Refused r) j = ⊥
+abbrev pub BeforeAnswer : Result (Option ℕ) Refusal → ℕ → Type 0
+BeforeAnswer (Ok (Some i)) j = j < i
+BeforeAnswer (Ok None) j = Unit
+BeforeAnswer (Err r) j = ⊥
 
 -- the question asked twice is answered twice, with rows of which R holds
-pub record BothRows (R : Estimate → Estimate → Type 0) (a b : Evaluation) : Type 0 where
+pub record BothRows (R : Estimate → Estimate → Type 0) (a b : Result Estimate Refusal) : Type 0 where
   pub whole : Estimate
   pub rest : Estimate
-  pub whole_is : a ≡ Row whole
-  pub rest_is : b ≡ Row rest
+  pub whole_is : a ≡ Ok whole
+  pub rest_is : b ≡ Ok rest
   pub holds : R whole rest
 
 -- the same of the calls for C and Rust: both are accepted and leave the numbers of such rows
@@ -119,46 +117,47 @@ pub record DecisiveReadings : Type 2 where
   pub exported_ends : {M : Type 1} → exported_decisive_code.statement M
   pub exported_asks_nothing : (κs : Lfts 3) (a : Dens κs exported_decisive_kinds.ps) → exported_decisive.Asked κs a
   -- refused under the conditions of the question at one mark, and as it is
-  pub refused : (ts vs : List ℕ) (z h limit : ℕ) (a : Decisive) → DecisiveCall ts vs z h limit a
-      → RefusedExactly (refusal (decisive_answer a)) (FirstFault (evaluate_conditions ts vs h))
-  pub refused_alike : (ts vs : List ℕ) (z h limit : ℕ) (a : Decisive) (b : Evaluation) → DecisiveCall ts vs z h limit a → EvaluateCall ts vs z h b
-      → refusal (decisive_answer a) ≡ refusal (evaluation_answer b)
+  pub refused : (ts vs : List ℕ) (z h limit : ℕ) (a : Result (Option ℕ) Refusal) → DecisiveCall ts vs z h limit a
+      → RefusedExactly (refusal (answer_of a)) (FirstFault (evaluate_conditions ts vs h))
+  pub refused_alike : (ts vs : List ℕ) (z h limit : ℕ) (a : Result (Option ℕ) Refusal) (b : Result Estimate Refusal) → DecisiveCall ts vs z h limit a
+      → EvaluateCall ts vs z h b
+      → refusal (answer_of a) ≡ refusal (answer_of b)
   -- without the named reading the row is low enough where it was not, or is not where it was; without a lower one it is as it was
-  pub named : (ts vs : List ℕ) (z h limit i : ℕ) → AtMost max_u16 vs → DecisiveCall ts vs z h limit (Sample i)
+  pub named : (ts vs : List ℕ) (z h limit i : ℕ) → AtMost max_u16 vs → DecisiveCall ts vs z h limit (Ok (Some i))
       → (i < length ts) × RemovalChanges ts vs z h limit i × ((j : ℕ) → j < i → RemovalKeeps ts vs z h limit j)
   -- none is said exactly if no removal does
-  pub none_exactly : (ts vs : List ℕ) (z h limit : ℕ) (a : Decisive) → AtMost max_u16 vs → DecisiveCall ts vs z h limit a
-      → refusal (decisive_answer a) ≡ none → (a ≡ NoSample) ↔ ((j : ℕ) → j < length ts → RemovalKeeps ts vs z h limit j)
+  pub none_exactly : (ts vs : List ℕ) (z h limit : ℕ) (a : Result (Option ℕ) Refusal) → AtMost max_u16 vs → DecisiveCall ts vs z h limit a
+      → refusal (answer_of a) ≡ None → (a ≡ (Ok None)) ↔ ((j : ℕ) → j < length ts → RemovalKeeps ts vs z h limit j)
   -- lists that the question accepts it accepts without any one reading
-  pub still_accepted : (ts vs : List ℕ) (z h i : ℕ) (e : Estimate) (ts' vs' : List ℕ) (b : Evaluation) → EvaluateCall ts vs z h (Row e)
-      → Without i ts vs ts' vs' → EvaluateCall ts' vs' z h b → (e' : Estimate) × (b ≡ Row e')
+  pub still_accepted : (ts vs : List ℕ) (z h i : ℕ) (e : Estimate) (ts' vs' : List ℕ) (b : Result Estimate Refusal) → EvaluateCall ts vs z h (Ok e)
+      → Without i ts vs ts' vs' → EvaluateCall ts' vs' z h b → (e' : Estimate) × (b ≡ Ok e')
   -- so it can be asked again: without the named reading it has the other answer, without one before the answer the same
-  pub asked_again : (ts vs : List ℕ) (z h limit i : ℕ) (ts' vs' : List ℕ) (a b : Evaluation) → DecisiveCall ts vs z h limit (Sample i)
+  pub asked_again : (ts vs : List ℕ) (z h limit i : ℕ) (ts' vs' : List ℕ) (a b : Result Estimate Refusal) → DecisiveCall ts vs z h limit (Ok (Some i))
       → Without i ts vs ts' vs' → EvaluateCall ts vs z h a → EvaluateCall ts' vs' z h b → BothRows (Changes limit) a b
-  pub others_asked_again : (ts vs : List ℕ) (z h limit : ℕ) (d : Decisive) (j : ℕ) (ts' vs' : List ℕ) (a b : Evaluation)
+  pub others_asked_again : (ts vs : List ℕ) (z h limit : ℕ) (d : Result (Option ℕ) Refusal) (j : ℕ) (ts' vs' : List ℕ) (a b : Result Estimate Refusal)
       → DecisiveCall ts vs z h limit d → BeforeAnswer d j → Without j ts vs ts' vs' → EvaluateCall ts vs z h a → EvaluateCall ts' vs' z h b
       → BothRows (Stays limit) a b
   -- weight and sum without a reading of the run are less by its share; without another one they stay
-  pub of_the_run : (ts vs : List ℕ) (z h i : ℕ) (ts' vs' : List ℕ) (e e' : Estimate) → EvaluateCall ts vs z h (Row e) → Without i ts vs ts' vs'
-      → EvaluateCall ts' vs' z h (Row e') → e.left ≤ i → i < e.right → LessItsShare ts vs z h i e e'
-  pub outside_the_run : (ts vs : List ℕ) (z h i : ℕ) (ts' vs' : List ℕ) (e e' : Estimate) → EvaluateCall ts vs z h (Row e)
-      → Without i ts vs ts' vs' → EvaluateCall ts' vs' z h (Row e') → ¬ ((e.left ≤ i) × (i < e.right)) → SameSums e e'
+  pub of_the_run : (ts vs : List ℕ) (z h i : ℕ) (ts' vs' : List ℕ) (e e' : Estimate) → EvaluateCall ts vs z h (Ok e) → Without i ts vs ts' vs'
+      → EvaluateCall ts' vs' z h (Ok e') → e.left ≤ i → i < e.right → LessItsShare ts vs z h i e e'
+  pub outside_the_run : (ts vs : List ℕ) (z h i : ℕ) (ts' vs' : List ℕ) (e e' : Estimate) → EvaluateCall ts vs z h (Ok e)
+      → Without i ts vs ts' vs' → EvaluateCall ts' vs' z h (Ok e') → ¬ ((e.left ≤ i) × (i < e.right)) → SameSums e e'
   -- only a reading with a weight above zero is named, which is one nearer to the mark than the half width
-  pub named_has_weight : (ts vs : List ℕ) (z h limit i : ℕ) → DecisiveCall ts vs z h limit (Sample i)
+  pub named_has_weight : (ts vs : List ℕ) (z h limit i : ℕ) → DecisiveCall ts vs z h limit (Ok (Some i))
       → Weighs (weight_at ts z h) (length ts) i × (distance (get_or ts i 0) z < h)
   -- where the value is missing none is
-  pub missing_names_none : (ts vs : List ℕ) (z h limit : ℕ) (a : Decisive) (e : Estimate) → AtMost max_u16 vs → DecisiveCall ts vs z h limit a
-      → EvaluateCall ts vs z h (Row e) → e.value ≡ missing → a ≡ NoSample
+  pub missing_names_none : (ts vs : List ℕ) (z h limit : ℕ) (a : Result (Option ℕ) Refusal) (e : Estimate) → AtMost max_u16 vs → DecisiveCall ts vs z h limit a
+      → EvaluateCall ts vs z h (Ok e) → e.value ≡ missing → a ≡ (Ok None)
   -- the call for C and Rust is refused likewise, after the length of its list, which then stays
   pub exported_refused : (ts vs : List ℕ) (z h limit : ℕ) (xs : List ℕ) (c : ℕ) (xs' : List ℕ) → ExportedDecisive ts vs z h limit xs c xs'
       → RefusedExactly (code_refusal c) (FirstFault (length_first 1 xs (evaluate_conditions ts vs h)))
-      × ((e : Fault) → code_refusal c ≡ some e → xs' ≡ xs)
+      × ((e : Fault) → code_refusal c ≡ Some e → xs' ≡ xs)
   -- accepted, it answers 0, and its one number is read back as position or none
-  pub exported_tells : (ts vs : List ℕ) (z h limit : ℕ) (xs : List ℕ) (c : ℕ) (xs' : List ℕ) (a : Decisive)
-      → ExportedDecisive ts vs z h limit xs c xs' → DecisiveCall ts vs z h limit a → code_refusal c ≡ none
-      → (o : Option ℕ) × ((decisive_answer a ≡ given o) × (c ≡ 0) × (length xs' ≡ 1) × (position_of (get_or xs' 0 0) ≡ o))
+  pub exported_tells : (ts vs : List ℕ) (z h limit : ℕ) (xs : List ℕ) (c : ℕ) (xs' : List ℕ) (a : Result (Option ℕ) Refusal)
+      → ExportedDecisive ts vs z h limit xs c xs' → DecisiveCall ts vs z h limit a → code_refusal c ≡ None
+      → (o : Option ℕ) × ((answer_of a ≡ given o) × (c ≡ 0) × (length xs' ≡ 1) × (position_of (get_or xs' 0 0) ≡ o))
   -- without the reading that it names the exported question has the other answer
   pub exported_asked_again : (ts vs : List ℕ) (z h limit i : ℕ) (xs : List ℕ) (c : ℕ) (xs' ts' vs' row : List ℕ) (c₁ : ℕ) (row₁ row' : List ℕ) (c₂ : ℕ)
-      (row₂ : List ℕ) → ExportedDecisive ts vs z h limit xs c xs' → code_refusal c ≡ none → position_of (get_or xs' 0 0) ≡ some i
+      (row₂ : List ℕ) → ExportedDecisive ts vs z h limit xs c xs' → code_refusal c ≡ None → position_of (get_or xs' 0 0) ≡ Some i
       → Without i ts vs ts' vs' → length row ≡ row_width → length row' ≡ row_width → ExportedEvaluate ts vs z h row c₁ row₁
       → ExportedEvaluate ts' vs' z h row' c₂ row₂ → BothLists (Changes limit) c₁ row₁ c₂ row₂

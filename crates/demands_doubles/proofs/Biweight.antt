@@ -2,7 +2,7 @@
 use Prim.Native.Nat.{ℕ}
 use mathlib.Core.Path.{◌≡◌, refl, sym, ap, ◌∙◌, subst}
 use mathlib.Core.List.{List}
-use mathlib.Core.Option.{none}
+use Rattle.std.specs.Prelude.{None}
 use native.Mathlib.Omega.{arith}
 use lib.ListN.{take}
 use Rattle.meanings.specs.declared.Estimate.{Estimate}
@@ -40,14 +40,14 @@ module _ (ts vs : List ℕ) (z : ℕ) (values : AtMost max_u16 vs) where
         no_sum_alone = missing_alone ts vs z biweight_bandwidth a.even values;
       })
 
-module _ (ts vs : List ℕ) (z : ℕ) (row : List ℕ) (k : ℕ) (row' : List ℕ) (x : ExportedBiweight ts vs z row k row') (accepted : code_refusal k ≡ none) where
+module _ (ts vs : List ℕ) (z : ℕ) (row : List ℕ) (k : ℕ) (row' : List ℕ) (x : ExportedBiweight ts vs z row k row') (accepted : code_refusal k ≡ None) where
   exactly : RefusedExactly (refusal (sized row_width row (biweight full ts vs z))) (FirstFault (length_first row_width row (biweight_conditions ts vs)))
   unfolding biweight
   exactly =
       decided_exactly (biweight_row ts vs z biweight_bandwidth) (length_first_finds row_width row (series_finds full ts vs none_left))
       (sized_is_checked row_width row (series_checks full ts vs) (biweight_row ts vs z biweight_bandwidth))
 
-  opens : refusal (sized row_width row (biweight full ts vs z)) ≡ none
+  opens : refusal (sized row_width row (biweight full ts vs z)) ≡ None
   opens =
       sym (exported_refusal no_detail (sized row_width row (biweight full ts vs z)) k _ x.ensured.0
       (first_numbered (length_first row_width row (biweight_conditions ts vs)) refl) exactly)

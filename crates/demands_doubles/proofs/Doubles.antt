@@ -4,7 +4,7 @@ use Prim.Native.Nat.{ℕ, ◌*◌, ◌/◌, ◌^◌, ◌<◌}
 use mathlib.Core.Path.{◌≡◌, refl, sym, ap, ◌∙◌, subst}
 use mathlib.Core.Bool.{Bool, true, false, true≢false, not}
 use mathlib.Core.List.{List, [], ◌∷◌}
-use mathlib.Core.Option.{none, some}
+use Rattle.std.specs.Prelude.{None, Some}
 use native.Mathlib.Omega.{arith}
 use borrow.Author.Tests.{eqb-true, eqb-false}
 use lib.Dec.{eqb}
@@ -95,7 +95,7 @@ module _ (w n : ℕ) (xs : List Float) where
   answer_coded : (c : ℕ) → c ≡ answered used answer → code_refusal c ≡ refusal answer
   answer_coded c q = exported_refusal used answer c _ q (first_numbered (doubles_conditions xs) refl) answer_exactly
 
-  answer_stays : (t : Answer Doubles) (e : Fault) → refusal t ≡ some e → filled t xs ≡ xs
+  answer_stays : (t : Answer Doubles) (e : Fault) → refusal t ≡ Some e → filled t xs ≡ xs
   answer_stays (given d) e q = let z : ◌≡◌ {A = ℕ} 0 1 = cc in absurd (omega arith)
   answer_stays (refused f) e q = refl
 
@@ -146,7 +146,7 @@ stored_five row e q = five_are_row row 0 e (ap (λ (r : List ℕ). take row_widt
 
 -- a coded sweep, under limits at most the full ones
 coded_tellable : (L : Limits) → LimitsWithin L full → (ts vs zs hs rs rs' : List ℕ) (k i : ℕ) → AtMost max_u16 vs
-    → k ≡ answered (λ n. n) (smooth L ts vs zs hs rs) → rs' ≡ smooth_rows L ts vs zs hs rs → code_refusal k ≡ none → i < length zs
+    → k ≡ answered (λ n. n) (smooth L ts vs zs hs rs) → rs' ≡ smooth_rows L ts vs zs hs rs → code_refusal k ≡ None → i < length zs
     → Tellable (stored_row rs' i)
 coded_tellable L w ts vs zs hs rs rs' k i v q e a l =
     let g = accepted_given (smooth L ts vs zs hs rs) (sym (smooth_coded L ts vs zs hs rs k q) ∙ a) in
@@ -166,11 +166,11 @@ own_behind ts vs r r' m t ns k w =
 
 record NumbersBehind (ts vs xs xs'' : List ℕ) (m : Move) (ns : List Move) : Type 0 where
   nine : length xs'' ≡ record_length
-  took : turn_refusal ts vs (record_of xs) m.bandwidth ≡ none
+  took : turn_refusal ts vs (record_of xs) m.bandwidth ≡ None
   led : record_of xs'' ≡ after ts vs (turn_record ts vs (record_of xs) m.point m.bandwidth) ns
 
 numbers_behind : (ts vs xs xs' xs'' : List ℕ) (ms : List Motion) (m : Move) (a : ℕ) (ns : List Move) → ExportedMotions ts vs zeros ms xs
-    → ExportedTurn xs ts vs m.point m.bandwidth a xs' → code_refusal a ≡ none → ExportedSteps ts vs xs' ns xs'' → NumbersBehind ts vs xs xs'' m ns
+    → ExportedTurn xs ts vs m.point m.bandwidth a xs' → code_refusal a ≡ None → ExportedSteps ts vs xs' ns xs'' → NumbersBehind ts vs xs xs'' m ns
 numbers_behind ts vs xs xs' xs'' ms m a ns s k q w =
     let n = numbers_turn xs ts vs m.point m.bandwidth a xs' (turns_hold.exported_motions_leave ts vs zeros xs ms refl s).0 k in
     let l = demand_3_of_calls.exported_steps_leave ts vs xs' xs'' ns n.nine w in

@@ -3,7 +3,7 @@ use Prim.Native.Nat.{ℕ, ◌<◌}
 use mathlib.Core.Path.{◌≡◌, refl, sym, ap, ◌∙◌, subst}
 use mathlib.Core.Bool.{Bool, true, ◌&&◌, and-eq-true_iff}
 use mathlib.Core.List.{List, [], ◌∷◌}
-use mathlib.Core.Option.{Option, none, some}
+use Rattle.std.specs.Prelude.{Option, None, Some}
 use native.Mathlib.Omega.{arith}
 use borrow.Author.Tests.{ltb-true}
 use lib.Dec.{ltb}
@@ -52,26 +52,26 @@ numbered [] = true
 numbered (c ∷ cs) = ltb 0 c.number && numbered cs
 
 number_of_fault : Option Fault → ℕ
-number_of_fault none = 0
-number_of_fault (some f) = f.number
+number_of_fault None = 0
+number_of_fault (Some f) = f.number
 
-found_numbered : (cs : List Check) → numbered cs ≡ true → (f : Fault) → first_of cs ≡ some f → 0 < f.number
+found_numbered : (cs : List Check) → numbered cs ≡ true → (f : Fault) → first_of cs ≡ Some f → 0 < f.number
 unfolding numbered number_of_fault
 found_numbered [] n f q = let z : ◌≡◌ {A = ℕ} 0 1 = cc in absurd (omega arith)
 found_numbered (c ∷ cs) n f q =
     let b = (and-eq-true_iff (ltb 0 c.number) (numbered cs)).0 n in
     by c.place q (ltb-true 0 c.number b.0) (found_numbered cs b.1 f)
   where
-    by : (p : Option ℕ) → fault_or c.number p (first_of cs) ≡ some f → 0 < c.number → (first_of cs ≡ some f → 0 < f.number) → 0 < f.number
-    by none q l later = later q
-    by (some p) q l later = let same : c.number ≡ f.number = ap number_of_fault q in omega arith
+    by : (p : Option ℕ) → fault_or c.number p (first_of cs) ≡ Some f → 0 < c.number → (first_of cs ≡ Some f → 0 < f.number) → 0 < f.number
+    by None q l later = later q
+    by (Some p) q l later = let same : c.number ≡ f.number = ap number_of_fault q in omega arith
 
-accepted_by_zero : (cs : List Check) → numbered cs ≡ true → 0 ≡ answered {A = Unit} no_detail (unless (first_of cs) tt) → first_of cs ≡ none
+accepted_by_zero : (cs : List Check) → numbered cs ≡ true → 0 ≡ answered {A = Unit} no_detail (unless (first_of cs) tt) → first_of cs ≡ None
 accepted_by_zero cs n q = by (first_of cs) refl q
   where
-    by : (o : Option Fault) → first_of cs ≡ o → 0 ≡ answered {A = Unit} no_detail (unless o tt) → first_of cs ≡ none
-    by none e q = e
-    by (some f) e q = let l = found_numbered cs n f e in absurd (omega arith)
+    by : (o : Option Fault) → first_of cs ≡ o → 0 ≡ answered {A = Unit} no_detail (unless o tt) → first_of cs ≡ None
+    by None e q = e
+    by (Some f) e q = let l = found_numbered cs n f e in absurd (omega arith)
 
 given_by_zero : (ts vs zs : List ℕ) (k : ℕ) (hs rs : List ℕ) → 0 ≡ answered no_detail (neighbours full ts vs zs k hs rs)
     → neighbours full ts vs zs k hs rs ≡ given tt

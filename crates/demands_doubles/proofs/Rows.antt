@@ -4,7 +4,7 @@ use Prim.Native.Nat.{ℕ, ◌≤◌, ◌<◌}
 use mathlib.Core.Path.{◌≡◌, refl, sym, ap, ◌∙◌, subst}
 use mathlib.Core.Logic.{◌⊎◌, inl, inr}
 use mathlib.Core.List.{List, [], ◌∷◌}
-use mathlib.Core.Option.{Option, none, some}
+use Rattle.std.specs.Prelude.{Option, None, Some}
 use native.Mathlib.Omega.{arith}
 use lib.ListN.{length, get_or}
 use Rattle.meanings.specs.declared.Estimate.{Estimate}
@@ -78,16 +78,16 @@ module _ (ts vs : List ℕ) where
     where
       by : (f : Option Fault) → first_of (advance_checks full ts vs r.left r.right m.bandwidth) ≡ f
           → Begun ts vs (next_record r (unless f (moved ts vs r m.point m.bandwidth)))
-      by none q = let a = advance_accepts full (same_limits full) ts vs r.left r.right m.bandwidth q in inr (a.even, a.few)
-      by (some e) q = b
+      by None q = let a = advance_accepts full (same_limits full) ts vs r.left r.right m.bandwidth q in inr (a.even, a.few)
+      by (Some e) q = b
 
   turn_begun : (r : RunningSums) (m : Move) → Begun ts vs r → Begun ts vs (after_motion ts vs r (turn m))
   unfolding turn_record
   turn_begun r m b = by (turn_refusal ts vs r m.bandwidth) refl
     where
       by : (f : Option Fault) → turn_refusal ts vs r m.bandwidth ≡ f → Begun ts vs (accepted_or f (turned ts vs r m.point m.bandwidth) r)
-      by none q = let a = turn_accepts full (same_limits full) ts vs r.left r.right m.bandwidth q in inr (a.even, a.few)
-      by (some e) q = b
+      by None q = let a = turn_accepts full (same_limits full) ts vs r.left r.right m.bandwidth q in inr (a.even, a.few)
+      by (Some e) q = b
 
   motions_begun : (ms : List Motion) (r : RunningSums) → Begun ts vs r → Begun ts vs (after_motions ts vs r ms)
   motions_begun [] r b = b
@@ -112,7 +112,7 @@ record_tellable ts vs r ms z h v e d w = by (subst (Begun ts vs) (sym e) (motion
         rw row (window_tellable ts vs z h f)
 
 -- ---- records that hold a window
-module _ (ts vs : List ℕ) (ms : List Move) (m : Move) (o : OrderedSteps ts vs ms) (last : last_accepted ts vs ms ≡ some m) where
+module _ (ts vs : List ℕ) (ms : List Move) (m : Move) (o : OrderedSteps ts vs ms) (last : last_accepted ts vs ms ≡ Some m) where
   pub steps_hold : (r : RunningSums) → r ≡ record_after ts vs ms → HoldsWindow ts m.point m.bandwidth r
   unfolding evaluate
   steps_hold r e =
@@ -126,44 +126,44 @@ module _ (ts vs : List ℕ) (ms : List Move) (m : Move) (o : OrderedSteps ts vs 
         right_is = ap (λ (x : RunningSums). x.right) stands;
       }
 
-pub turn_holds : (ts vs : List ℕ) (r r' : RunningSums) (z h : ℕ) → turn_refusal ts vs r h ≡ none → OnWindow ts vs z h r' → HoldsWindow ts z h r'
+pub turn_holds : (ts vs : List ℕ) (r r' : RunningSums) (z h : ℕ) → turn_refusal ts vs r h ≡ None → OnWindow ts vs z h r' → HoldsWindow ts z h r'
 turn_holds ts vs r r' z h q w =
     let a = turn_accepts full (same_limits full) ts vs r.left r.right h q in
     record { ordered = a.ordered; bandwidth = a.bandwidth; left_is = w.left_is; right_is = w.right_is }
 
 -- the half width of the step accepted last, where o is the one in front of them all
 module _ (ts vs : List ℕ) (ordered : Ordered ts) where
-  logged_bandwidth : (m : Move) → log_refusal ts vs m ≡ none → m.bandwidth ≤ max_bandwidth
+  logged_bandwidth : (m : Move) → log_refusal ts vs m ≡ None → m.bandwidth ≤ max_bandwidth
   unfolding evaluate
   logged_bandwidth m q =
       let g = given_accepted (evaluate_refusal full ts vs m.bandwidth) (estimate ts vs m.point m.bandwidth) _ (question_accepted ts vs ordered m q) in
       (evaluate_accepts full (same_limits full) ts vs m.bandwidth g.0).bandwidth
 
-  last_bandwidth : (o : Option Move) (ms : List Move) (m : Move) → (o ≡ some m → m.bandwidth ≤ max_bandwidth) → accepted_after ts vs o ms ≡ some m
+  last_bandwidth : (o : Option Move) (ms : List Move) (m : Move) → (o ≡ Some m → m.bandwidth ≤ max_bandwidth) → accepted_after ts vs o ms ≡ Some m
       → m.bandwidth ≤ max_bandwidth
   last_bandwidth o [] m f q = f q
   last_bandwidth o (n ∷ ms) m f q = last_bandwidth (accepted_next ts vs o n) ms m (by (log_refusal ts vs n) refl) q
     where
-      by : (g : Option Fault) → log_refusal ts vs n ≡ g → accepted_or g (some n) o ≡ some m → m.bandwidth ≤ max_bandwidth
-      by none e r = let same : n ≡ m = cc in subst (λ (x : Move). x.bandwidth ≤ max_bandwidth) same (logged_bandwidth n e)
-      by (some x) e r = f r
+      by : (g : Option Fault) → log_refusal ts vs n ≡ g → accepted_or g (Some n) o ≡ Some m → m.bandwidth ≤ max_bandwidth
+      by None e r = let same : n ≡ m = cc in subst (λ (x : Move). x.bandwidth ≤ max_bandwidth) same (logged_bandwidth n e)
+      by (Some x) e r = f r
 
 -- steps behind an accepted turn, with no edge back from it on
 module _ (ts vs : List ℕ) (minutes : AtMost max_u16 ts) (values : AtMost max_u16 vs) (r r' : RunningSums) (m n : Move) (ns : List Move)
-    (direct : Direct ts vs r) (accepted : turn_refusal ts vs r m.bandwidth ≡ none) (onward : NoEdgeBackAfter ts vs (some m) ns)
-    (last : accepted_after ts vs (some m) ns ≡ some n) (led : r' ≡ after ts vs (turn_record ts vs r m.point m.bandwidth) ns) where
+    (direct : Direct ts vs r) (accepted : turn_refusal ts vs r m.bandwidth ≡ None) (onward : NoEdgeBackAfter ts vs (Some m) ns)
+    (last : accepted_after ts vs (Some m) ns ≡ Some n) (led : r' ≡ after ts vs (turn_record ts vs r m.point m.bandwidth) ns) where
   pub behind_holds : HoldsWindow ts n.point n.bandwidth r'
   behind_holds =
       let a = turn_accepts full (same_limits full) ts vs r.left r.right m.bandwidth accepted in
       let w = steps_behind_turn ts vs minutes values r m ns direct accepted onward in
       record {
         ordered = a.ordered;
-        bandwidth = last_bandwidth ts vs a.ordered (some m) ns n (λ e. first e a.bandwidth) last;
+        bandwidth = last_bandwidth ts vs a.ordered (Some m) ns n (λ e. first e a.bandwidth) last;
         left_is = ap (λ (x : RunningSums). x.left) led ∙ w.left_alike ∙ ap (λ (o : Option Move). (record_at ts vs o).left) last;
         right_is = ap (λ (x : RunningSums). x.right) led ∙ w.right_alike ∙ ap (λ (o : Option Move). (record_at ts vs o).right) last;
       }
     where
-      first : some m ≡ some n → m.bandwidth ≤ max_bandwidth → n.bandwidth ≤ max_bandwidth
+      first : Some m ≡ Some n → m.bandwidth ≤ max_bandwidth → n.bandwidth ≤ max_bandwidth
       first e l = let same : m ≡ n = cc in subst (λ (x : Move). x.bandwidth ≤ max_bandwidth) same l
 
   pub behind_tellable : Tellable (record_row r' n.point n.bandwidth)

@@ -1,14 +1,13 @@
 -- What is promised of weights and sums as doubles, of the calls as a caller has them. SPECIFICATION, "Sums for the spreadsheet".
 -- ts are minutes, vs values, z a mark, h a half width, zs and hs lists of these, rs rows, as in Demands.antt of the crate demands.
 use Rattle.std.specs.Prelude.{ℕ, ◌*◌, ◌/◌, ◌^◌, ◌≤◌, ◌<◌, ◌≡◌, List, map, length, drop, Float}
-use Rattle.std.proofs.Math.Option.{none, some}
+use Rattle.std.specs.Prelude.{Ok}
+use Rattle.std.specs.Prelude.{None, Some}
 use Rattle.std.specs.Borrow.{MutBor}
 use contract.Lifetimes.{Lfts}
 use borrow.Fn.Kinds.{Dens}
 use Rattle.meanings.specs.declared.Estimate.{Estimate}
-use Rattle.meanings.specs.declared.Evaluation.TheVariants.{Row}
 use Rattle.meanings.specs.declared.RunningSums.{RunningSums}
-use Rattle.meanings.specs.declared.Smoothing.TheVariants.{Passes}
 use Rattle.meanings.specs.declared.Turning.{Turning}
 use Rattle.meanings.specs.Claim.{NoEdgeBackAfter, accepted_after, last_accepted}
 use Rattle.meanings.specs.Codes.{detail_unit}
@@ -124,34 +123,34 @@ pub record DoublesHold : Type 2 where
   pub foreign_had_back : (r : RunningSums) (z h : ℕ) (e : Estimate) (c : RowCells) → (e.weight ≡ 0 → e.sum ≡ 0) → RecordRowCall r z h e
       → RowCellsCall e c → RowHadBack e c
   -- such are all rows of the question at one mark, the sweep and the preview
-  pub evaluated_had_back : (ts vs : List ℕ) (z h : ℕ) (e : Estimate) (c : RowCells) → AtMost max_u16 vs → EvaluateCall ts vs z h (Row e)
+  pub evaluated_had_back : (ts vs : List ℕ) (z h : ℕ) (e : Estimate) (c : RowCells) → AtMost max_u16 vs → EvaluateCall ts vs z h (Ok e)
       → RowCellsCall e c → RowHadBack e c
   pub swept_had_back : (ts vs zs hs rs : List ℕ) (n : ℕ) (rs' : List ℕ) (k : ℕ) (c : RowCells) → AtMost max_u16 vs
-      → SmoothCall ts vs zs hs rs (Passes n) rs' → k < length zs → RowCellsCall (stored_row rs' k) c → RowHadBack (stored_row rs' k) c
+      → SmoothCall ts vs zs hs rs (Ok n) rs' → k < length zs → RowCellsCall (stored_row rs' k) c → RowHadBack (stored_row rs' k) c
   pub previewed_had_back : (ts vs zs hs rs : List ℕ) (n : ℕ) (rs' : List ℕ) (k : ℕ) (c : RowCells) → AtMost max_u16 vs
-      → PreviewCall ts vs zs hs rs (Passes n) rs' → k < length zs → RowCellsCall (stored_row rs' k) c → RowHadBack (stored_row rs' k) c
+      → PreviewCall ts vs zs hs rs (Ok n) rs' → k < length zs → RowCellsCall (stored_row rs' k) c → RowHadBack (stored_row rs' k) c
   -- and those of a record after steps and turns, at the mark and half width whose window it holds
   pub record_had_back : (ts vs : List ℕ) (r : RunningSums) (ms : List Motion) (z h : ℕ) (e : Estimate) (c : RowCells) → AtMost max_u16 ts
       → AtMost max_u16 vs → Motions ts vs fresh ms r → HoldsWindow ts z h r → RecordRowCall r z h e → RowCellsCall e c → RowHadBack e c
   -- which is that of the last accepted step where no edge has gone back, and that of an accepted turn
   pub steps_hold_window : (ts vs : List ℕ) (ms : List Move) (m : Move) (r : RunningSums) → OrderedSteps ts vs ms → Steps ts vs fresh ms r
-      → last_accepted ts vs ms ≡ some m → HoldsWindow ts m.point m.bandwidth r
+      → last_accepted ts vs ms ≡ Some m → HoldsWindow ts m.point m.bandwidth r
   pub turn_holds_window : (ts vs : List ℕ) (r : RunningSums) (ms : List Motion) (z h : ℕ) (t : Turning) → AtMost max_u16 ts → AtMost max_u16 vs
-      → Motions ts vs fresh ms r → TurnCall r ts vs z h t → verdict_fault t.verdict ≡ none → HoldsWindow ts z h t.running
+      → Motions ts vs fresh ms r → TurnCall r ts vs z h t → verdict_fault t.verdict ≡ None → HoldsWindow ts z h t.running
   -- and that of the last accepted step behind such a turn, where no edge has gone back from the turn on
   pub behind_turn_holds_window : (ts vs : List ℕ) (r r' : RunningSums) (ms : List Motion) (m n : Move) (t : Turning) (ns : List Move) → AtMost max_u16 ts
-      → AtMost max_u16 vs → Motions ts vs fresh ms r → TurnCall r ts vs m.point m.bandwidth t → verdict_fault t.verdict ≡ none
-      → Steps ts vs t.running ns r' → NoEdgeBackAfter ts vs (some m) ns → accepted_after ts vs (some m) ns ≡ some n
+      → AtMost max_u16 vs → Motions ts vs fresh ms r → TurnCall r ts vs m.point m.bandwidth t → verdict_fault t.verdict ≡ None
+      → Steps ts vs t.running ns r' → NoEdgeBackAfter ts vs (Some m) ns → accepted_after ts vs (Some m) ns ≡ Some n
       → HoldsWindow ts n.point n.bandwidth r'
   -- so the row there is had back after a turn
   pub turned_had_back : (ts vs : List ℕ) (r : RunningSums) (ms : List Motion) (z h : ℕ) (t : Turning) (e : Estimate) (c : RowCells)
-      → AtMost max_u16 ts → AtMost max_u16 vs → Motions ts vs fresh ms r → TurnCall r ts vs z h t → verdict_fault t.verdict ≡ none
+      → AtMost max_u16 ts → AtMost max_u16 vs → Motions ts vs fresh ms r → TurnCall r ts vs z h t → verdict_fault t.verdict ≡ None
       → RecordRowCall t.running z h e → RowCellsCall e c → RowHadBack e c
   -- and after steps behind it
   pub behind_turn_had_back : (ts vs : List ℕ) (r r' : RunningSums) (ms : List Motion) (m n : Move) (t : Turning) (ns : List Move) (e : Estimate) (c : RowCells)
       → AtMost max_u16 ts → AtMost max_u16 vs → Motions ts vs fresh ms r → TurnCall r ts vs m.point m.bandwidth t
-      → verdict_fault t.verdict ≡ none → Steps ts vs t.running ns r' → NoEdgeBackAfter ts vs (some m) ns
-      → accepted_after ts vs (some m) ns ≡ some n → RecordRowCall r' n.point n.bandwidth e → RowCellsCall e c → RowHadBack e c
+      → verdict_fault t.verdict ≡ None → Steps ts vs t.running ns r' → NoEdgeBackAfter ts vs (Some m) ns
+      → accepted_after ts vs (Some m) ns ≡ Some n → RecordRowCall r' n.point n.bandwidth e → RowCellsCall e c → RowHadBack e c
   -- the call for C and Rust refuses a list of another length than two, and leaves it
   pub exported_refused : (w n : ℕ) (xs : List Float) (c : ℕ) (xs' : List Float) → ExportedDoubles w n xs c xs'
       → RefusedAndStays (code_refusal c) (FirstFault (doubles_conditions xs)) (xs' ≡ xs)
@@ -166,13 +165,13 @@ pub record DoublesHold : Type 2 where
   pub exported_row_had_back : (e : Estimate) (c : ℕ) (xs' : List Float) (d : ℕ) (ys' : List Float) → Tellable e → ExportedRow e c xs' d ys'
       → ExportedHadBack e c xs' d ys'
   pub exported_evaluated_had_back : (ts vs : List ℕ) (z h : ℕ) (row : List ℕ) (k : ℕ) (row' : List ℕ) (c : ℕ) (xs' : List Float) (d : ℕ)
-      (ys' : List Float) → AtMost max_u16 vs → ExportedEvaluate ts vs z h row k row' → code_refusal k ≡ none
+      (ys' : List Float) → AtMost max_u16 vs → ExportedEvaluate ts vs z h row k row' → code_refusal k ≡ None
       → ExportedRow (stored_row row' 0) c xs' d ys' → ExportedHadBack (stored_row row' 0) c xs' d ys'
   pub exported_swept_had_back : (ts vs zs hs rs : List ℕ) (k : ℕ) (rs' : List ℕ) (i c : ℕ) (xs' : List Float) (d : ℕ) (ys' : List Float)
-      → AtMost max_u16 vs → ExportedSmooth ts vs zs hs rs k rs' → code_refusal k ≡ none → i < length zs
+      → AtMost max_u16 vs → ExportedSmooth ts vs zs hs rs k rs' → code_refusal k ≡ None → i < length zs
       → ExportedRow (stored_row rs' i) c xs' d ys' → ExportedHadBack (stored_row rs' i) c xs' d ys'
   pub exported_previewed_had_back : (ts vs zs hs rs : List ℕ) (k : ℕ) (rs' : List ℕ) (i c : ℕ) (xs' : List Float) (d : ℕ) (ys' : List Float)
-      → AtMost max_u16 vs → ExportedPreview ts vs zs hs rs k rs' → code_refusal k ≡ none → i < length zs
+      → AtMost max_u16 vs → ExportedPreview ts vs zs hs rs k rs' → code_refusal k ≡ None → i < length zs
       → ExportedRow (stored_row rs' i) c xs' d ys' → ExportedHadBack (stored_row rs' i) c xs' d ys'
   pub exported_record_had_back : (ts vs xs : List ℕ) (ms : List Motion) (z h : ℕ) (row : List ℕ) (k : ℕ) (row' : List ℕ) (c : ℕ)
       (xs' : List Float) (d : ℕ) (ys' : List Float) → AtMost max_u16 ts → AtMost max_u16 vs → ExportedMotions ts vs zeros ms xs
@@ -180,18 +179,18 @@ pub record DoublesHold : Type 2 where
       → ExportedRow (stored_row row' 0) c xs' d ys' → ExportedHadBack (stored_row row' 0) c xs' d ys'
   -- whose window such a record holds
   pub exported_steps_hold_window : (ts vs : List ℕ) (ms : List Move) (m : Move) (xs : List ℕ) → OrderedSteps ts vs ms → ExportedSteps ts vs zeros ms xs
-      → last_accepted ts vs ms ≡ some m → HoldsWindow ts m.point m.bandwidth (record_of xs)
+      → last_accepted ts vs ms ≡ Some m → HoldsWindow ts m.point m.bandwidth (record_of xs)
   pub exported_turn_holds_window : (ts vs xs : List ℕ) (ms : List Motion) (z h a : ℕ) (xs' : List ℕ) → AtMost max_u16 ts → AtMost max_u16 vs
-      → ExportedMotions ts vs zeros ms xs → ExportedTurn xs ts vs z h a xs' → code_refusal a ≡ none → HoldsWindow ts z h (record_of xs')
+      → ExportedMotions ts vs zeros ms xs → ExportedTurn xs ts vs z h a xs' → code_refusal a ≡ None → HoldsWindow ts z h (record_of xs')
   pub exported_behind_turn_holds_window : (ts vs xs xs' xs'' : List ℕ) (ms : List Motion) (m n : Move) (a : ℕ) (ns : List Move) → AtMost max_u16 ts
-      → AtMost max_u16 vs → ExportedMotions ts vs zeros ms xs → ExportedTurn xs ts vs m.point m.bandwidth a xs' → code_refusal a ≡ none
-      → ExportedSteps ts vs xs' ns xs'' → NoEdgeBackAfter ts vs (some m) ns → accepted_after ts vs (some m) ns ≡ some n
+      → AtMost max_u16 vs → ExportedMotions ts vs zeros ms xs → ExportedTurn xs ts vs m.point m.bandwidth a xs' → code_refusal a ≡ None
+      → ExportedSteps ts vs xs' ns xs'' → NoEdgeBackAfter ts vs (Some m) ns → accepted_after ts vs (Some m) ns ≡ Some n
       → HoldsWindow ts n.point n.bandwidth (record_of xs'')
   -- so the row there is had back after a turn, and after steps behind it
   pub exported_behind_turn_had_back : (ts vs xs xs' xs'' : List ℕ) (ms : List Motion) (m n : Move) (a : ℕ) (ns : List Move) (row : List ℕ) (k : ℕ)
       (row' : List ℕ) (c : ℕ) (ds : List Float) (d : ℕ) (es : List Float) → AtMost max_u16 ts → AtMost max_u16 vs → ExportedMotions ts vs zeros ms xs
-      → ExportedTurn xs ts vs m.point m.bandwidth a xs' → code_refusal a ≡ none → ExportedSteps ts vs xs' ns xs''
-      → NoEdgeBackAfter ts vs (some m) ns → accepted_after ts vs (some m) ns ≡ some n → length row ≡ row_width
+      → ExportedTurn xs ts vs m.point m.bandwidth a xs' → code_refusal a ≡ None → ExportedSteps ts vs xs' ns xs''
+      → NoEdgeBackAfter ts vs (Some m) ns → accepted_after ts vs (Some m) ns ≡ Some n → length row ≡ row_width
       → ExportedRecordRow xs'' n.point n.bandwidth row k row' → ExportedRow (stored_row row' 0) c ds d es → ExportedHadBack (stored_row row' 0) c ds d es
   -- worked cases, by bit patterns
   pub number_cases_hold : map (λ (c : NumberCase). number_result c) number_cases ≡ map (λ (c : NumberCase). c.expected) number_cases

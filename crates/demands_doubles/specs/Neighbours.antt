@@ -1,7 +1,7 @@
 -- That weight and sum are had back from every row of the half widths by neighbours, of the calls. SPECIFICATION 17.6.
 use Rattle.std.specs.Prelude.{ℕ, ◌<◌, ◌≡◌, List, length, Float}
-use Rattle.std.proofs.Math.Option.{none}
-use Rattle.meanings.specs.declared.Filling.TheVariants.{Filled}
+use Rattle.std.specs.Prelude.{Ok}
+use Rattle.std.specs.Prelude.{None}
 use Rattle.meanings.specs.Limits.{max_u16}
 use Rattle.meanings.specs.Lists.{AtMost}
 use Rattle.meanings_doubles.specs.declared.RowCells.{RowCells}
@@ -12,8 +12,8 @@ use Rattle.demands_doubles.specs.Doubles.{RowCellsCall, RowHadBack, ExportedRow,
 
 pub record NeighboursHadBack : Type 0 where
   pub neighbours_had_back : (ts vs zs : List ℕ) (k : ℕ) (hs rs hs' rs' : List ℕ) (i : ℕ) (c : RowCells) → AtMost max_u16 ts → AtMost max_u16 vs
-      → AtMost max_u16 zs → NeighboursCall ts vs zs k hs rs Filled hs' rs' → i < length zs → RowCellsCall (stored_row rs' i) c
+      → AtMost max_u16 zs → NeighboursCall ts vs zs k hs rs (Ok tt) hs' rs' → i < length zs → RowCellsCall (stored_row rs' i) c
       → RowHadBack (stored_row rs' i) c
   pub exported_neighbours_had_back : (ts vs zs : List ℕ) (k : ℕ) (hs rs : List ℕ) (a : ℕ) (hs' rs' : List ℕ) (i c : ℕ) (xs' : List Float) (d : ℕ)
       (ys' : List Float) → AtMost max_u16 ts → AtMost max_u16 vs → AtMost max_u16 zs → ExportedNeighbours ts vs zs k hs rs a hs' rs'
-      → code_refusal a ≡ none → i < length zs → ExportedRow (stored_row rs' i) c xs' d ys' → ExportedHadBack (stored_row rs' i) c xs' d ys'
+      → code_refusal a ≡ None → i < length zs → ExportedRow (stored_row rs' i) c xs' d ys' → ExportedHadBack (stored_row rs' i) c xs' d ys'

@@ -1,7 +1,7 @@
 -- That weight and both sums are had back from every row of the sweep over ranges, of the calls. SPECIFICATION 18.19.
 use Rattle.std.specs.Prelude.{ℕ, ◌<◌, ◌≡◌, List, length, Float}
-use Rattle.std.proofs.Math.Option.{none}
-use Rattle.meanings.specs.declared.Smoothing.TheVariants.{Passes}
+use Rattle.std.specs.Prelude.{Ok}
+use Rattle.std.specs.Prelude.{None}
 use Rattle.meanings.specs.Limits.{max_u16}
 use Rattle.meanings.specs.Lists.{AtMost}
 use Rattle.meanings_doubles.specs.declared.Cell.{Cell}
@@ -24,14 +24,14 @@ pub record RangeHadBack (r : RangeEstimate) (w l u : Cell) : Type 0 where
 
 pub record RangesHadBack : Type 0 where
   pub ranges_had_back : (ts ls us zs hs rs : List ℕ) (n : ℕ) (rs' : List ℕ) (k : ℕ) (w l u : Cell) → AtMost max_u16 us
-      → RangesCall ts ls us zs hs rs (Passes n) rs' → k < length zs → RangeCells (stored_range_row rs' k) w l u
+      → RangesCall ts ls us zs hs rs (Ok n) rs' → k < length zs → RangeCells (stored_range_row rs' k) w l u
       → RangeHadBack (stored_range_row rs' k) w l u
   -- the same of the calls for C and Rust, which are given two doubles to write for each number
   pub exported_low_had_back : (ts ls us zs hs rs : List ℕ) (a : ℕ) (rs' : List ℕ) (k : ℕ) (xs : List Float) (c : ℕ) (xs' : List Float)
-      → AtMost max_u16 us → ExportedRanges ts ls us zs hs rs a rs' → code_refusal a ≡ none → k < length zs → length xs ≡ 2
+      → AtMost max_u16 us → ExportedRanges ts ls us zs hs rs a rs' → code_refusal a ≡ None → k < length zs → length xs ≡ 2
       → ExportedDoubles (stored_range_row rs' k).weight (stored_range_row rs' k).sum.low xs c xs'
       → HadBack (doubles_of_answer c xs') (stored_range_row rs' k).sum.low
   pub exported_high_had_back : (ts ls us zs hs rs : List ℕ) (a : ℕ) (rs' : List ℕ) (k : ℕ) (xs : List Float) (c : ℕ) (xs' : List Float)
-      → AtMost max_u16 us → ExportedRanges ts ls us zs hs rs a rs' → code_refusal a ≡ none → k < length zs → length xs ≡ 2
+      → AtMost max_u16 us → ExportedRanges ts ls us zs hs rs a rs' → code_refusal a ≡ None → k < length zs → length xs ≡ 2
       → ExportedDoubles (stored_range_row rs' k).weight (stored_range_row rs' k).sum.high xs c xs'
       → HadBack (doubles_of_answer c xs') (stored_range_row rs' k).sum.high

@@ -1,17 +1,18 @@
 -- The call's contract with the laws of its meaning: answer, half widths and rows are those of the meaning.
 use Prim.Native.Nat.{ℕ, suc, ◌+◌, ◌*◌, ◌≤◌, ◌<◌}
+use Rattle.std.specs.Prelude.{Result, Ok, Err}
+use Rattle.meanings.specs.declared.Refusal.{Refusal}
+use Rattle.meanings.specs.Calls.{answer_of}
 use mathlib.Core.Path.{◌≡◌, refl, sym, ap, subst, ◌∙◌}
 use mathlib.Core.Bool.{true, false, true≢false}
 use mathlib.Core.Logic.{◌↔◌, ◌⊎◌, inl, inr}
 use mathlib.Core.List.{List, [], ◌++◌}
-use mathlib.Core.Option.{none, some}
+use Rattle.std.specs.Prelude.{None, Some}
 use native.Mathlib.Decide.{dec_le}
 use native.Mathlib.Omega.{arith}
 use borrow.Author.Tests.{ltb-false}
 use lib.ListN.{length, get_or}
 use Rattle.meanings.specs.declared.Estimate.{Estimate}
-use Rattle.meanings.specs.declared.Smoothing.{Smoothing}
-use Rattle.meanings.specs.declared.Smoothing.TheVariants.{Passes}
 use Rattle.meanings.specs.Limits.{full, max_u16, max_bandwidth, row_width}
 use Rattle.meanings.specs.Lists.{AtMost, Ordered}
 use Rattle.meanings.specs.Moves.{moves}
@@ -20,7 +21,7 @@ use Rattle.meanings.specs.Reports as reports
 use Rattle.meanings.specs.Estimate.{estimate, rows}
 use Rattle.meanings.specs.Running.{fresh, passes}
 use Rattle.meanings.specs.Claim.{refusal}
-use Rattle.meanings.specs.Calls.{smoothing_answer, smooth, smooth_refusal, smooth_rows}
+use Rattle.meanings.specs.Calls.{smooth, smooth_refusal, smooth_rows}
 use Rattle.meanings.specs.Codes.{answered, no_detail}
 use Rattle.meanings.proofs.Checks.{same_limits, none_of_both, given_accepted, or_false, bandwidth_in_range, differ_false, differ_same}
 use Rattle.meanings.proofs.PublishedRows.{published_row}
@@ -84,12 +85,12 @@ module _ (ts vs zs hs : List ℕ) (n : ℕ) where
 
   -- lists that pass find nothing
   pass : NoFault (list_conditions ts vs zs hs n no_more)
-      → (first_of (curve_size_checks full ts vs zs hs (uneven_rows row_width n (length zs))) ≡ none) × (first_of (order_checks ts zs) ≡ none)
+      → (first_of (curve_size_checks full ts vs zs hs (uneven_rows row_width n (length zs))) ≡ None) × (first_of (order_checks ts zs) ≡ None)
   pass f =
       let r = (refused_exactly list_finds).accepted.1 (λ m p q. none_or_first (list_conditions ts vs zs hs n no_more) m p f q) in
       none_of_both (curve_size_checks full ts vs zs hs (uneven_rows row_width n (length zs))) (order_checks ts zs) r
 
-refused_opens : {A : Type 0} (t : Answer A) (e : Fault) → refusal t ≡ some e → t ≡ refused e
+refused_opens : {A : Type 0} (t : Answer A) (e : Fault) → refusal t ≡ Some e → t ≡ refused e
 refused_opens (given a) e q = let z : ◌≡◌ {A = ℕ} 0 1 = cc in absurd (omega arith)
 refused_opens (refused f) e q = ap refused (let s : f ≡ e = cc in s)
 
@@ -133,7 +134,7 @@ module _ (ts vs zs : List ℕ) (k : ℕ) (hs rs : List ℕ) where
       exported_refusal no_detail (neighbours full ts vs zs k hs rs) c _ q (first_numbered (neighbours_conditions ts vs zs k hs (length rs)) refl) exactly
 
   stay : (hs' rs' : List ℕ) → hs' ≡ bandwidths_then full ts vs zs k hs rs → rs' ≡ rows_then full ts vs zs k hs rs → (e : Fault)
-      → refusal (neighbours full ts vs zs k hs rs) ≡ some e → (hs' ≡ hs) × (rs' ≡ rs)
+      → refusal (neighbours full ts vs zs k hs rs) ≡ Some e → (hs' ≡ hs) × (rs' ≡ rs)
   unfolding neighbours bandwidths_then rows_then
   stay hs' rs' h r e q =
       let f = finds ts vs zs hs (length rs) k in (
@@ -143,26 +144,26 @@ module _ (ts vs zs : List ℕ) (k : ℕ) (hs rs : List ℕ) where
 
   -- by the second reading; whether there is a k-th does not hang on the mark
   by_kth : NoFault (list_conditions ts vs zs hs (length rs) no_more) → (z : ℕ)
-      → ((refusal (neighbours full ts vs zs k hs rs) ≡ some (record { number = 14; place = 0 })) ↔ ((d : ℕ) → ¬ Kth ts z k d))
-      × ((refusal (neighbours full ts vs zs k hs rs) ≡ none) ↔ ((d : ℕ) × Kth ts z k d))
+      → ((refusal (neighbours full ts vs zs k hs rs) ≡ Some (record { number = 14; place = 0 })) ↔ ((d : ℕ) → ¬ Kth ts z k d))
+      × ((refusal (neighbours full ts vs zs k hs rs) ≡ None) ↔ ((d : ℕ) × Kth ts z k d))
   by_kth f z = (
     (λ q d p. both q (given_with ((kth_exists ts z k).0 (d, p))), λ g. refused_with (λ r. let e = (kth_exists ts z k).1 r in g e.0 e.1)),
     (λ q. (kth_exists ts z k).1 (range q), λ e. given_with ((kth_exists ts z k).0 e)),
   )
     where
-      p : (first_of (curve_size_checks full ts vs zs hs (uneven_rows row_width (length rs) (length zs))) ≡ none) × (first_of (order_checks ts zs) ≡ none)
+      p : (first_of (curve_size_checks full ts vs zs hs (uneven_rows row_width (length rs) (length zs))) ≡ None) × (first_of (order_checks ts zs) ≡ None)
       p = pass ts vs zs hs (length rs) f
 
-      given_with : (1 ≤ k) × (k ≤ length ts) → refusal (neighbours full ts vs zs k hs rs) ≡ none
+      given_with : (1 ≤ k) × (k ≤ length ts) → refusal (neighbours full ts vs zs k hs rs) ≡ None
       given_with r = ap refusal (accepted_with_kth full ts vs zs k hs rs p.0 p.1 (λ i l. (kth_exists ts (get_or zs i 0) k).1 r))
 
-      refused_with : ¬ ((1 ≤ k) × (k ≤ length ts)) → refusal (neighbours full ts vs zs k hs rs) ≡ some (record { number = 14; place = 0 })
+      refused_with : ¬ ((1 ≤ k) × (k ≤ length ts)) → refusal (neighbours full ts vs zs k hs rs) ≡ Some (record { number = 14; place = 0 })
       refused_with g = ap refusal (refused_without_kth full ts vs zs k hs rs p.0 p.1 0 (λ e. g ((kth_exists ts (get_or zs 0 0) k).0 e)))
 
-      both : {e : Fault} → refusal (neighbours full ts vs zs k hs rs) ≡ some e → refusal (neighbours full ts vs zs k hs rs) ≡ none → ⊥
+      both : {e : Fault} → refusal (neighbours full ts vs zs k hs rs) ≡ Some e → refusal (neighbours full ts vs zs k hs rs) ≡ None → ⊥
       both q r = let z : ◌≡◌ {A = ℕ} 0 1 = cc in omega arith
 
-      range : refusal (neighbours full ts vs zs k hs rs) ≡ none → (1 ≤ k) × (k ≤ length ts)
+      range : refusal (neighbours full ts vs zs k hs rs) ≡ None → (1 ≤ k) × (k ≤ length ts)
       range q = by (dec_le 1 k) (dec_le k (length ts))
         where
           by : Dec (1 ≤ k) → Dec (k ≤ length ts) → (1 ≤ k) × (k ≤ length ts)
@@ -172,7 +173,7 @@ module _ (ts vs zs : List ℕ) (k : ℕ) (hs rs : List ℕ) where
 
   -- ---- what an accepted call leaves
   module _ (minutes : AtMost max_u16 ts) (values : AtMost max_u16 vs) (points : AtMost max_u16 zs) (q : neighbours full ts vs zs k hs rs ≡ given tt) where
-    unrefused : neighbours_refusal full ts vs zs k hs rs ≡ none
+    unrefused : neighbours_refusal full ts vs zs k hs rs ≡ None
     unfolding neighbours
     unrefused = (given_accepted (neighbours_refusal full ts vs zs k hs rs) tt tt q).0
 
@@ -198,7 +199,7 @@ module _ (ts vs zs : List ℕ) (k : ℕ) (hs rs : List ℕ) where
 
     -- a sweep with room for its rows
     module _ (rs₀ : List ℕ) (fits : length rs₀ ≡ row_width * length zs) where
-      free : smooth_refusal full ts vs zs nb rs₀ ≡ none
+      free : smooth_refusal full ts vs zs nb rs₀ ≡ None
       free =
           ap (λ (n : ℕ). first_of (reports.smooth_checks full ts vs zs nb n)) (fits ∙ sym accepted.rows_fit)
           ∙ sweep_accepts full ts vs zs k hs rs minutes points unrefused
@@ -211,16 +212,16 @@ module _ (ts vs zs : List ℕ) (k : ℕ) (hs rs : List ℕ) where
       unfolding smooth_rows
       rows_swept = rw free refl
 
-    same_sweep : (rs₀ : List ℕ) (b : Smoothing) (rs'' : List ℕ) → length rs₀ ≡ row_width * length zs → SmoothCall ts vs zs nb rs₀ b rs''
-        → ((n : ℕ) × (b ≡ Passes n)) × (rs'' ≡ rows ts vs zs nb (length zs))
+    same_sweep : (rs₀ : List ℕ) (b : Result ℕ Refusal) (rs'' : List ℕ) → length rs₀ ≡ row_width * length zs → SmoothCall ts vs zs nb rs₀ b rs''
+        → ((n : ℕ) × (b ≡ Ok n)) × (rs'' ≡ rows ts vs zs nb (length zs))
     same_sweep rs₀ b rs'' fits c = (opened b (c.ensured.0 ∙ swept rs₀ fits), c.ensured.1 ∙ rows_swept rs₀ fits)
       where
-        opened : (b : Smoothing) → smoothing_answer b ≡ given (passes ts vs fresh (moves zs nb)) → (n : ℕ) × (b ≡ Passes n)
-        opened (Passes n) e = (n, refl)
-        opened (Smoothing.Refused r) e = let z : ◌≡◌ {A = ℕ} 0 1 = cc in absurd (omega arith)
+        opened : (b : Result ℕ Refusal) → answer_of b ≡ given (passes ts vs fresh (moves zs nb)) → (n : ℕ) × (b ≡ Ok n)
+        opened (Ok n) e = (n, refl)
+        opened (Err r) e = let z : ◌≡◌ {A = ℕ} 0 1 = cc in absurd (omega arith)
 
     same_exported_sweep : (rs₀ : List ℕ) (c : ℕ) (rs'' : List ℕ) → length rs₀ ≡ row_width * length zs → ExportedSmooth ts vs zs nb rs₀ c rs''
-        → (code_refusal c ≡ none) × (rs'' ≡ rows ts vs zs nb (length zs))
+        → (code_refusal c ≡ None) × (rs'' ≡ rows ts vs zs nb (length zs))
     same_exported_sweep rs₀ c rs'' fits x = (
       ap code_refusal (x.ensured.0 ∙ ap (answered (λ n. n)) (swept rs₀ fits))
           ∙ code_reads (λ n. n) (given (passes ts vs fresh (moves zs nb))) (λ e q. let z : ◌≡◌ {A = ℕ} 0 1 = cc in absurd (omega arith)),
@@ -284,7 +285,7 @@ by_neighbours = record {
   in_range = λ ts zs k minutes points low high. in_range ts zs k low high minutes points;
   no_edge_back = edges;
   never_nine_or_ten = λ ts vs zs k rs b rs' minutes points low high o c e q.
-      never_nine_or_ten full ts vs zs rs k minutes points low high o e (sym c.ensured.0 ∙ refused_opens (smoothing_answer b) e q);
+      never_nine_or_ten full ts vs zs rs k minutes points low high o e (sym c.ensured.0 ∙ refused_opens (answer_of b) e q);
   alike = λ ts vs vs' zs k hs rs a b hs₁ rs₁ hs₂ rs₂ r c d. (
     c.ensured.0 ∙ same_answer ts vs vs' r full zs k hs rs ∙ sym d.ensured.0,
     c.ensured.1.0 ∙ same_bandwidths_then ts vs vs' r full zs k hs rs ∙ sym d.ensured.1.0,

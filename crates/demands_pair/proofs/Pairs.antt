@@ -1,13 +1,15 @@
 -- What is promised of two tanks follows from the contracts of the calls, which answer as the meanings do, and from the laws of the comparison.
 use Prim.Native.Nat.{ℕ, ◌+◌, ◌*◌, ◌<◌}
+use Rattle.std.specs.Prelude.{Ok}
+use Rattle.meanings_pair.specs.declared.Bounded.{Bounded}
+use Rattle.meanings_pair.specs.declared.Parting.{Parting}
 use mathlib.Core.Path.{◌≡◌, refl, sym, ap, ◌∙◌}
 use mathlib.Core.Bool.{false, true≢false}
 use mathlib.Core.List.{List, []}
-use mathlib.Core.Option.{Option, none, some}
+use Rattle.std.specs.Prelude.{Option, None, Some}
 use native.Mathlib.Omega.{arith}
 use lib.ListN.{length, get_or}
 use denote.Ref.{Bor}
-use Rattle.meanings.specs.declared.Smoothing.TheVariants.{Passes}
 use Rattle.meanings.specs.Claim.{refusal}
 use Rattle.meanings.specs.Calls.{smooth, smooth_refusal, smooth_rows}
 use Rattle.meanings.specs.Codes.{answered}
@@ -19,7 +21,7 @@ use Rattle.meanings.specs.Running.{fresh, passes}
 use Rattle.meanings.proofs.Claim.{refusal_unless}
 use Rattle.meanings.proofs.Checks.{same_limits, given_accepted}
 use Rattle.meanings_pair.specs.declared.Tank.{Tank}
-use Rattle.meanings_pair.specs.Comparison.{Parting, Bounded, of_tank, compare, fault_place, compare_checks, compare_refusal}
+use Rattle.meanings_pair.specs.Comparison.{of_tank, compare, fault_place, compare_checks, compare_refusal}
 use Rattle.meanings_pair.specs.Comparison.{parted, run_in, tank_in, start_in, bounded, with_bounds, compare_bounds, compare_run, run_tank, run_start}
 use Rattle.meanings_pair.proofs.Cases.{missing_is_higher}
 use Rattle.laws_pair.proofs.Order.{FitTank, both_fit, fit_compared, fit_by_sweep, no_higher_reflexive, no_higher_transitive, no_higher_total}
@@ -52,10 +54,10 @@ second_finds us ws = record {
   absent = λ e q a. nowhere (first_of (series_checks full us ws)) refl e q a;
 }
   where
-    at : (o : Option Fault) → first_of (series_checks full us ws) ≡ o → (p : ℕ) → fault_place o ≡ some p
+    at : (o : Option Fault) → first_of (series_checks full us ws) ≡ o → (p : ℕ) → fault_place o ≡ Some p
         → SecondEarns us ws p × ((q : ℕ) → q < p → ¬ SecondEarns us ws q)
-    at none q p e = let z : ◌≡◌ {A = ℕ} 0 1 = cc in absurd (omega arith)
-    at (some f) q p e =
+    at None q p e = let z : ◌≡◌ {A = ℕ} 0 1 = cc in absurd (omega arith)
+    at (Some f) q p e =
         let place : f.place ≡ p = cc in
         let here = first_found (series_checks full us ws) (series_conditions full us ws no_more) (series_found us ws).each f.number f.place q in (
           (f.number, rw (← place) here),
@@ -64,11 +66,11 @@ second_finds us ws = record {
               omega (arith, same.1),
         )
 
-    nowhere : (o : Option Fault) → first_of (series_checks full us ws) ≡ o → fault_place o ≡ none → (q : ℕ) → ¬ SecondEarns us ws q
-    nowhere none e n q a =
+    nowhere : (o : Option Fault) → first_of (series_checks full us ws) ≡ o → fault_place o ≡ None → (q : ℕ) → ¬ SecondEarns us ws q
+    nowhere None e n q a =
         none_or_first (series_conditions full us ws no_more) a.0 q
         (none_found (series_checks full us ws) (series_conditions full us ws no_more) (series_found us ws).each e) a.1
-    nowhere (some f) e n q a = let z : ◌≡◌ {A = ℕ} 0 1 = cc in omega arith
+    nowhere (Some f) e n q a = let z : ◌≡◌ {A = ℕ} 0 1 = cc in omega arith
 
 -- no further list has to fit
 nothing_more : Decides false (¬ Unit)
@@ -86,20 +88,20 @@ module _ (ts vs us ws zs hs : List ℕ) where
   meant_exactly = decided_exactly (parted ts vs us ws zs hs) (compare_finds ts vs us ws zs hs) refl
 
   -- no refusal of the meaning: no check holds
-  meant_fit : refusal (compare full ts vs us ws zs hs) ≡ none → compare_refusal full ts vs us ws zs hs ≡ none
+  meant_fit : refusal (compare full ts vs us ws zs hs) ≡ None → compare_refusal full ts vs us ws zs hs ≡ None
   unfolding compare
   meant_fit q = sym (refusal_unless (compare_refusal full ts vs us ws zs hs) (parted ts vs us ws zs hs)) ∙ q
 
 -- ---- the exported call's list comes first
 abbrev bounded_option : List ℕ → List ℕ → List ℕ → List ℕ → Option Parting → Option Bounded
-bounded_option ts us zs hs none = none
-bounded_option ts us zs hs (some p) = some (bounded ts us zs hs p)
+bounded_option ts us zs hs None = None
+bounded_option ts us zs hs (Some p) = Some (bounded ts us zs hs p)
 
 bounds_unless : (ts us zs hs : List ℕ) (f : Option Fault) (o : Option Parting)
     → with_bounds ts us zs hs (unless f o) ≡ unless f (bounded_option ts us zs hs o)
-bounds_unless ts us zs hs none none = refl
-bounds_unless ts us zs hs none (some p) = refl
-bounds_unless ts us zs hs (some e) o = refl
+bounds_unless ts us zs hs None None = refl
+bounds_unless ts us zs hs None (Some p) = refl
+bounds_unless ts us zs hs (Some e) o = refl
 
 module _ (ts vs us ws zs hs out : List ℕ) where
   exported_exactly : RefusedExactly (refusal (sized 3 out (compare_bounds full ts vs us ws zs hs)))
@@ -122,9 +124,9 @@ module _ (ts vs us ws zs hs out : List ℕ) where
   opened right q =
       sym (right_size 3 out right (with_bounds ts us zs hs (compare full ts vs us ws zs hs))) ∙ ap (with_bounds ts us zs hs) (sym q)
 
-parting_stays : (a : Answer (Option Bounded)) (xs : List ℕ) (e : Fault) → refusal a ≡ some e → stored_parting a xs ≡ xs
-parting_stays (given none) xs e q = refl
-parting_stays (given (some b)) xs e q = let z : ◌≡◌ {A = ℕ} 0 1 = cc in absurd (omega arith)
+parting_stays : (a : Answer (Option Bounded)) (xs : List ℕ) (e : Fault) → refusal a ≡ Some e → stored_parting a xs ≡ xs
+parting_stays (given None) xs e q = refl
+parting_stays (given (Some b)) xs e q = let z : ◌≡◌ {A = ℕ} 0 1 = cc in absurd (omega arith)
 parting_stays (refused f) xs e q = refl
 
 -- ---- the run, by what the comparison means
@@ -144,20 +146,20 @@ module _ (ts vs us ws zs hs : List ℕ) (first_at second_at : Place) (part : Bor
   empty_by_refusal : {e : Fault} → compare full ts vs us ws zs hs ≡ refused e → EmptyAtFirst first_at part
   empty_by_refusal q = let p = part_by q in record { empty = p.0; block = p.1; start = omega (arith, p.2) }
 
-  empty_by_likeness : compare full ts vs us ws zs hs ≡ given none → EmptyAtFirst first_at part
+  empty_by_likeness : compare full ts vs us ws zs hs ≡ given None → EmptyAtFirst first_at part
   empty_by_likeness q = let p = part_by q in record { empty = p.0; block = p.1; start = omega (arith, p.2) }
 
-  run_by_parting : {k : ℕ} {t : Tank} → compare full ts vs us ws zs hs ≡ given (some (record { position = k; higher = t }))
+  run_by_parting : {k : ℕ} {t : Tank} → compare full ts vs us ws zs hs ≡ given (Some (record { position = k; higher = t }))
       → RunOfTank ts vs us ws t (get_or zs k 0) (get_or hs k 0) first_at second_at part
   run_by_parting q = let p = part_by q in record { values = p.0; block = p.1; start = p.2 }
 
-refused_as : {A : Type 0} (a : Answer A) (e : Fault) → refusal a ≡ some e → a ≡ refused e
+refused_as : {A : Type 0} (a : Answer A) (e : Fault) → refusal a ≡ Some e → a ≡ refused e
 refused_as (given x) e q = let z : ◌≡◌ {A = ℕ} 0 1 = cc in absurd (omega arith)
 refused_as (refused f) e q = ap refused (let s : f ≡ e = cc in s)
 
 -- ---- an accepted sweep
-module _ (ts vs zs hs rs : List ℕ) (n : ℕ) (rs' : List ℕ) (c : SmoothCall ts vs zs hs rs (Passes n) rs') where
-  sweep_accepted : smooth_refusal full ts vs zs hs rs ≡ none
+module _ (ts vs zs hs rs : List ℕ) (n : ℕ) (rs' : List ℕ) (c : SmoothCall ts vs zs hs rs (Ok n) rs') where
+  sweep_accepted : smooth_refusal full ts vs zs hs rs ≡ None
   unfolding smooth
   sweep_accepted = (given_accepted (smooth_refusal full ts vs zs hs rs) (passes ts vs fresh (moves zs hs)) n (sym c.ensured.0)).0
 

@@ -1,21 +1,22 @@
 -- What is promised of the comparison of two tanks, of the calls as a caller has them: the two in Rattle, and the one for C and Rust.
 -- SPECIFICATION, "Two tanks".
 use Rattle.std.specs.Prelude.{ℕ, ◌+◌, ◌*◌, ◌<◌, ◌≡◌, ◌⊎◌, ◌↔◌, List, [], ◌∷◌, length, get_or}
-use Rattle.std.proofs.Math.Option.{none, some}
+use Rattle.std.specs.Prelude.{Option, Result, Ok}
+use Rattle.meanings_pair.specs.declared.Parting.{Parting}
+use Rattle.meanings.specs.declared.Refusal.{Refusal}
+use Rattle.meanings.specs.Calls.{answer_of}
+use Rattle.std.specs.Prelude.{None, Some}
 use Rattle.std.specs.Borrow.{Bor}
 use contract.Lifetimes.{Lfts}
 use borrow.Fn.Kinds.{Dens}
-use Rattle.meanings.specs.declared.Smoothing.TheVariants.{Passes}
 use Rattle.meanings.specs.Claim.{refusal}
 use Rattle.meanings.specs.Codes.{detail_unit}
 use Rattle.meanings.specs.Estimate.{left_of, right_of, run_of}
 use Rattle.meanings.specs.Limits.{full, max_u16}
 use Rattle.meanings.specs.Lists.{AtMost}
-use Rattle.meanings_pair.specs.declared.Comparison.{Comparison}
-use Rattle.meanings_pair.specs.declared.Comparison.TheVariants.{Apart, Alike}
 use Rattle.meanings_pair.specs.declared.Tank.{Tank}
 use Rattle.meanings_pair.specs.declared.Tank.TheVariants.{First}
-use Rattle.meanings_pair.specs.Comparison.{comparison_answer, of_tank}
+use Rattle.meanings_pair.specs.Comparison.{of_tank}
 use Rattle.meanings_pair.specs.Order.{NoHigher, exchanged, SameValues, position_in, value_field, RowsPartAt}
 use Rattle.pair.proofs.compare.Reads as compare
 use Rattle.pair.proofs.compare.Kinds as compare_kinds
@@ -32,7 +33,7 @@ use Rattle.demands.specs.Conditions.{windows_conditions, length_first, code_refu
 use Rattle.demands.specs.Demands.{RefusedAndStays}
 
 -- a call of the comparison: the first tank's minutes and values, the second's, marks and half widths
-pub record CompareCall (ts vs us ws zs hs : List ℕ) (a : Comparison) : Type 0 where
+pub record CompareCall (ts vs us ws zs hs : List ℕ) (a : Result (Option Parting) Refusal) : Type 0 where
   pub lifetimes : Lfts 6
   pub minutes_at : Place
   pub values_at : Place
@@ -124,24 +125,24 @@ pub record EveryPairTaken : Type 2 where
 pub record Pairs : Type 2 where
   pub every_pair : EveryPairTaken
   -- refused exactly for the first report whose condition holds
-  pub compare_refused : (ts vs us ws zs hs : List ℕ) (a : Comparison) → CompareCall ts vs us ws zs hs a
-      → RefusedExactly (refusal (comparison_answer a)) (FirstFault (compare_conditions ts vs us ws zs hs))
+  pub compare_refused : (ts vs us ws zs hs : List ℕ) (a : Result (Option Parting) Refusal) → CompareCall ts vs us ws zs hs a
+      → RefusedExactly (refusal (answer_of a)) (FirstFault (compare_conditions ts vs us ws zs hs))
   pub exported_compare_refused : (ts vs us ws zs hs out : List ℕ) (c : ℕ) (out' : List ℕ) → ExportedCompare ts vs us ws zs hs out c out'
       → RefusedAndStays (code_refusal c) (FirstFault (length_first 3 out (compare_conditions ts vs us ws zs hs))) (out' ≡ out)
   -- the two calls agree: the run is empty, at the first list's start, where the comparison is refused or alike, and else the higher tank's
   pub run_refused : (ts vs us ws zs hs : List ℕ) (first_at second_at : Place) (part : Bor (List ℕ))
       → CompareRunCall ts vs us ws zs hs first_at second_at part → (n p : ℕ) → FirstFault (compare_conditions ts vs us ws zs hs) n p
       → EmptyAtFirst first_at part
-  pub run_alike : (ts vs us ws zs hs : List ℕ) (first_at second_at : Place) (part : Bor (List ℕ)) → CompareCall ts vs us ws zs hs Alike
+  pub run_alike : (ts vs us ws zs hs : List ℕ) (first_at second_at : Place) (part : Bor (List ℕ)) → CompareCall ts vs us ws zs hs (Ok None)
       → CompareRunCall ts vs us ws zs hs first_at second_at part → EmptyAtFirst first_at part
   pub run_apart : (ts vs us ws zs hs : List ℕ) (k : ℕ) (t : Tank) (first_at second_at : Place) (part : Bor (List ℕ))
-      → CompareCall ts vs us ws zs hs (Apart k t) → CompareRunCall ts vs us ws zs hs first_at second_at part
+      → CompareCall ts vs us ws zs hs (Ok (Some (record { position = k; higher = t }))) → CompareRunCall ts vs us ws zs hs first_at second_at part
       → RunOfTank ts vs us ws t (get_or zs k 0) (get_or hs k 0) first_at second_at part
   -- the call for C and Rust tells the same
-  pub exported_alike : (ts vs us ws zs hs out : List ℕ) (c : ℕ) (out' : List ℕ) → length out ≡ 3 → CompareCall ts vs us ws zs hs Alike
+  pub exported_alike : (ts vs us ws zs hs out : List ℕ) (c : ℕ) (out' : List ℕ) → length out ≡ 3 → CompareCall ts vs us ws zs hs (Ok None)
       → ExportedCompare ts vs us ws zs hs out c out' → (c ≡ 0) × (out' ≡ out)
   pub exported_apart : (ts vs us ws zs hs out : List ℕ) (k : ℕ) (t : Tank) (c : ℕ) (out' : List ℕ) → length out ≡ 3
-      → CompareCall ts vs us ws zs hs (Apart k t) → ExportedCompare ts vs us ws zs hs out c out'
+      → CompareCall ts vs us ws zs hs (Ok (Some (record { position = k; higher = t }))) → ExportedCompare ts vs us ws zs hs out c out'
       → (c ≡ detail_unit * of_tank t 1 2)
       × (out'
       ≡ k
@@ -149,26 +150,28 @@ pub record Pairs : Type 2 where
       ∷ of_tank t (right_of ts (get_or zs k 0) (get_or hs k 0)) (right_of us (get_or zs k 0) (get_or hs k 0))
       ∷ [])
   -- with the sweep: the tanks part at k exactly if the value fields of both sweeps' rows agree before k and differ at k
-  pub parts_with_sweeps : (ts vs us ws zs hs rs qs : List ℕ) (n m : ℕ) (rs' qs' : List ℕ) (a : Comparison) → AtMost max_u16 vs → AtMost max_u16 ws
-      → SmoothCall ts vs zs hs rs (Passes n) rs' → SmoothCall us ws zs hs qs (Passes m) qs' → CompareCall ts vs us ws zs hs a → (k : ℕ)
-      → (position_in (comparison_answer a) ≡ some k) ↔ RowsPartAt rs' qs' (length zs) k
+  pub parts_with_sweeps : (ts vs us ws zs hs rs qs : List ℕ) (n m : ℕ) (rs' qs' : List ℕ) (a : Result (Option Parting) Refusal) → AtMost max_u16 vs
+      → AtMost max_u16 ws
+      → SmoothCall ts vs zs hs rs (Ok n) rs' → SmoothCall us ws zs hs qs (Ok m) qs' → CompareCall ts vs us ws zs hs a → (k : ℕ)
+      → (position_in (answer_of a) ≡ Some k) ↔ RowsPartAt rs' qs' (length zs) k
   -- and the higher tank is the one whose value field is greater there, 65,536 of a missing value above all others
   pub higher_with_sweeps : (ts vs us ws zs hs rs qs : List ℕ) (n m : ℕ) (rs' qs' : List ℕ) (k : ℕ) (t : Tank) → AtMost max_u16 vs → AtMost max_u16 ws
-      → SmoothCall ts vs zs hs rs (Passes n) rs' → SmoothCall us ws zs hs qs (Passes m) qs' → CompareCall ts vs us ws zs hs (Apart k t)
+      → SmoothCall ts vs zs hs rs (Ok n) rs' → SmoothCall us ws zs hs qs (Ok m) qs'
+      → CompareCall ts vs us ws zs hs (Ok (Some (record { position = k; higher = t })))
       → (t ≡ First) ↔ (value_field qs' k < value_field rs' k)
   -- for fixed marks "no higher" is an order up to equal curves: reflexive, transitive, total, and both ways exactly if all values agree
-  pub reflexive : (ts vs zs hs : List ℕ) (a : Comparison) → AtMost max_u16 vs → CompareCall ts vs ts vs zs hs a
-      → refusal (comparison_answer a) ≡ none → NoHigher (comparison_answer a)
-  pub transitive : (ts vs us ws xs ys zs hs : List ℕ) (a b c : Comparison) → AtMost max_u16 vs → AtMost max_u16 ws → AtMost max_u16 ys
-      → CompareCall ts vs us ws zs hs a → CompareCall us ws xs ys zs hs b → CompareCall ts vs xs ys zs hs c → NoHigher (comparison_answer a)
-      → NoHigher (comparison_answer b) → NoHigher (comparison_answer c)
-  pub total : (ts vs us ws zs hs : List ℕ) (a b : Comparison) → AtMost max_u16 vs → AtMost max_u16 ws → CompareCall ts vs us ws zs hs a
-      → CompareCall us ws ts vs zs hs b → refusal (comparison_answer a) ≡ none → NoHigher (comparison_answer a) ⊎ NoHigher (comparison_answer b)
-  pub both_ways : (ts vs us ws zs hs : List ℕ) (a b : Comparison) → AtMost max_u16 vs → AtMost max_u16 ws → CompareCall ts vs us ws zs hs a
-      → CompareCall us ws ts vs zs hs b → refusal (comparison_answer a) ≡ none
-      → (NoHigher (comparison_answer a) × NoHigher (comparison_answer b)) ↔ SameValues ts vs us ws zs hs
+  pub reflexive : (ts vs zs hs : List ℕ) (a : Result (Option Parting) Refusal) → AtMost max_u16 vs → CompareCall ts vs ts vs zs hs a
+      → refusal (answer_of a) ≡ None → NoHigher (answer_of a)
+  pub transitive : (ts vs us ws xs ys zs hs : List ℕ) (a b c : Result (Option Parting) Refusal) → AtMost max_u16 vs → AtMost max_u16 ws → AtMost max_u16 ys
+      → CompareCall ts vs us ws zs hs a → CompareCall us ws xs ys zs hs b → CompareCall ts vs xs ys zs hs c → NoHigher (answer_of a)
+      → NoHigher (answer_of b) → NoHigher (answer_of c)
+  pub total : (ts vs us ws zs hs : List ℕ) (a b : Result (Option Parting) Refusal) → AtMost max_u16 vs → AtMost max_u16 ws → CompareCall ts vs us ws zs hs a
+      → CompareCall us ws ts vs zs hs b → refusal (answer_of a) ≡ None → NoHigher (answer_of a) ⊎ NoHigher (answer_of b)
+  pub both_ways : (ts vs us ws zs hs : List ℕ) (a b : Result (Option Parting) Refusal) → AtMost max_u16 vs → AtMost max_u16 ws → CompareCall ts vs us ws zs hs a
+      → CompareCall us ws ts vs zs hs b → refusal (answer_of a) ≡ None
+      → (NoHigher (answer_of a) × NoHigher (answer_of b)) ↔ SameValues ts vs us ws zs hs
   -- such tanks are there: one reading, and none
-  pub some_accepted : (a : Comparison) → CompareCall (50 ∷ []) (9 ∷ []) [] [] (50 ∷ []) (1 ∷ []) a → refusal (comparison_answer a) ≡ none
+  pub some_accepted : (a : Result (Option Parting) Refusal) → CompareCall (50 ∷ []) (9 ∷ []) [] [] (50 ∷ []) (1 ∷ []) a → refusal (answer_of a) ≡ None
   -- accepted tanks that are exchanged are accepted, with the exchanged answer
-  pub mirrored : (ts vs us ws zs hs : List ℕ) (a b : Comparison) → AtMost max_u16 vs → AtMost max_u16 ws → CompareCall ts vs us ws zs hs a
-      → CompareCall us ws ts vs zs hs b → refusal (comparison_answer a) ≡ none → comparison_answer b ≡ exchanged (comparison_answer a)
+  pub mirrored : (ts vs us ws zs hs : List ℕ) (a b : Result (Option Parting) Refusal) → AtMost max_u16 vs → AtMost max_u16 ws → CompareCall ts vs us ws zs hs a
+      → CompareCall us ws ts vs zs hs b → refusal (answer_of a) ≡ None → answer_of b ≡ exchanged (answer_of a)

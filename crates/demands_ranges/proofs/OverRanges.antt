@@ -1,17 +1,18 @@
 -- The call's contract with the laws of its meaning: answer and rows are those of the meaning, and the plain sweep's are those of its own.
 use Prim.Native.Nat.{ℕ, zero, suc, ◌+◌, ◌*◌, ◌≤◌, ◌<◌, zero-le}
+use Rattle.std.specs.Prelude.{Result, Ok, Err}
+use Rattle.meanings.specs.declared.Refusal.{Refusal}
+use Rattle.meanings.specs.Calls.{answer_of}
 use mathlib.Core.Path.{◌≡◌, refl, sym, ap, subst, ◌∙◌}
 use mathlib.Core.Bool.{Bool, true, false, true≢false, ◌||◌}
 use mathlib.Core.List.{List, [], ◌∷◌}
-use mathlib.Core.Option.{Option, none, some}
+use Rattle.std.specs.Prelude.{Option, None, Some}
 use native.Mathlib.Nat.{le_refl, add-zero}
 use native.Mathlib.Omega.{arith}
 use borrow.Author.Tests.{ltb-true, lt-ltb, le-ltb}
 use lib.ListN.{length, get_or, take, drop, replicate, length-replicate}
 use lib.Seq.{get_or-take, get_or-drop}
 use Rattle.meanings.specs.declared.Estimate.{Estimate}
-use Rattle.meanings.specs.declared.Smoothing.{Smoothing}
-use Rattle.meanings.specs.declared.Smoothing.TheVariants.{Passes}
 use Rattle.meanings.specs.Limits.{full, max_u16, max_bandwidth, row_width}
 use Rattle.meanings.specs.Lists.{AtMost, lowest}
 use Rattle.meanings.specs.Moves.{moves}
@@ -20,7 +21,7 @@ use Rattle.meanings.specs.Reports as reports
 use Rattle.meanings.specs.Estimate.{missing, estimate, rows}
 use Rattle.meanings.specs.Running.{fresh, passes}
 use Rattle.meanings.specs.Claim.{refusal}
-use Rattle.meanings.specs.Calls.{smoothing_answer, smooth, smooth_refusal, smooth_rows}
+use Rattle.meanings.specs.Calls.{smooth, smooth_refusal, smooth_rows}
 use Rattle.meanings.specs.Codes.{detail_unit, answered}
 use Rattle.meanings.specs.PublishedRow.{PublishedRow}
 use Rattle.meanings.proofs.Checks.{same_limits, given_accepted, differ_false, differ_same}
@@ -123,7 +124,7 @@ room zs = replicate (row_width * length zs) 0
 
 -- ---- an accepted call
 module _ (ts ls us zs hs rs : List ℕ) (n : ℕ) (q : smooth_ranges full ts ls us zs hs rs ≡ given n) where
-  pub free : range_refusal full ts ls us zs hs rs ≡ none
+  pub free : range_refusal full ts ls us zs hs rs ≡ None
   unfolding smooth_ranges
   free = (given_accepted (range_refusal full ts ls us zs hs rs) (passes ts ls fresh (moves zs hs)) n q).0
 
@@ -221,9 +222,9 @@ module _ (ts ls us zs hs rs : List ℕ) (n : ℕ) (q : smooth_ranges full ts ls 
           exported_high_ends_reached = λ rs₀ c rs'' fits x k l. plain_row_is us high rs₀ fits rs'' x.ensured.1 k l ∙ sym (high_is k l);
         }
       where
-        opened : (b : Smoothing) → smoothing_answer b ≡ given n → b ≡ Passes n
-        opened (Passes m) e = ap Passes (let s : m ≡ n = cc in s)
-        opened (Smoothing.Refused r) e = let z : ◌≡◌ {A = ℕ} 0 1 = cc in absurd (omega arith)
+        opened : (b : Result ℕ Refusal) → answer_of b ≡ given n → b ≡ Ok n
+        opened (Ok m) e = ap Ok (let s : m ≡ n = cc in s)
+        opened (Err r) e = let z : ◌≡◌ {A = ℕ} 0 1 = cc in absurd (omega arith)
 
 -- ---- refusals
 module _ (ts ls us zs hs rs : List ℕ) where
@@ -231,7 +232,7 @@ module _ (ts ls us zs hs rs : List ℕ) where
   unfolding smooth_ranges
   exactly = decided_exactly (passes ts ls fresh (moves zs hs)) (finds ts ls us zs hs (length rs)) refl
 
-  stays : (rs' : List ℕ) → rs' ≡ smooth_ranges_rows full ts ls us zs hs rs → (e : Fault) → refusal (smooth_ranges full ts ls us zs hs rs) ≡ some e
+  stays : (rs' : List ℕ) → rs' ≡ smooth_ranges_rows full ts ls us zs hs rs → (e : Fault) → refusal (smooth_ranges full ts ls us zs hs rs) ≡ Some e
       → rs' ≡ rs
   unfolding smooth_ranges smooth_ranges_rows
   stays rs' r e q =
@@ -243,7 +244,7 @@ module _ (ts ls us zs hs rs : List ℕ) where
       exported_refusal (λ n. n) (smooth_ranges full ts ls us zs hs rs) c _ q (first_numbered (range_conditions ts ls us zs hs (length rs)) refl) exactly
 
   -- an accepted answer of the exported call
-  pub code_given : (c : ℕ) → c ≡ answered (λ n. n) (smooth_ranges full ts ls us zs hs rs) → code_refusal c ≡ none
+  pub code_given : (c : ℕ) → c ≡ answered (λ n. n) (smooth_ranges full ts ls us zs hs rs) → code_refusal c ≡ None
       → (n : ℕ) × ((smooth_ranges full ts ls us zs hs rs ≡ given n) × (c ≡ detail_unit * n))
   code_given c q e =
       let g = accepted_given (smooth_ranges full ts ls us zs hs rs) (sym (coded c q) ∙ e) in
@@ -251,7 +252,7 @@ module _ (ts ls us zs hs rs : List ℕ) where
 
 -- ---- ranges of one value each
 module _ (ts vs zs hs rs rs₀ : List ℕ) (seven : length rs ≡ range_row_width * length zs) (five : length rs₀ ≡ row_width * length zs) where
-  none_crossed : lowest (crossed vs vs) (length vs) ≡ none
+  none_crossed : lowest (crossed vs vs) (length vs) ≡ None
   none_crossed = none_lowest (crossed vs vs) (length vs) (λ k l. le-ltb (get_or vs k 0) (get_or vs k 0) (le_refl _))
 
   same_refusal : range_refusal full ts vs vs zs hs rs ≡ smooth_refusal full ts vs zs hs rs₀
@@ -323,7 +324,7 @@ one_between_high (suc i) l = absurd (omega arith)
 
 accepted_one : refusal
     (smooth_ranges full (5 ∷ []) (0 ∷ []) (2 ∷ []) (5 ∷ []) (1 ∷ []) (7 ∷ 7 ∷ 7 ∷ 7 ∷ 7 ∷ 7 ∷ 7 ∷ []))
-    ≡ none
+    ≡ None
 unfolding smooth_ranges
 accepted_one = refl
 

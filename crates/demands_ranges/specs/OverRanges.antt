@@ -1,17 +1,17 @@
 -- What is promised of the sweep over ranges, of the call as a caller has it and of the call for C and Rust. SPECIFICATION, "Ranges".
 -- ts are minutes, ls and us the lowest and the highest values, vs values, zs marks, hs half widths, rs rows; a list at exit has a prime.
 use Rattle.std.specs.Prelude.{ℕ, ◌*◌, ◌≤◌, ◌<◌, ◌≡◌, ◌↔◌, List, [], ◌∷◌, map, length, get_or}
-use Rattle.std.proofs.Math.Option.{none}
+use Rattle.std.specs.Prelude.{Result, Ok}
+use Rattle.meanings.specs.declared.Refusal.{Refusal}
+use Rattle.meanings.specs.Calls.{answer_of}
+use Rattle.std.specs.Prelude.{None}
 use contract.Lifetimes.{Lfts}
 use borrow.Fn.Kinds.{Dens}
 use Rattle.meanings.specs.declared.Estimate.{Estimate}
-use Rattle.meanings.specs.declared.Smoothing.{Smoothing}
-use Rattle.meanings.specs.declared.Smoothing.TheVariants.{Passes}
 use Rattle.meanings.specs.Limits.{full, max_u16, row_width}
 use Rattle.meanings.specs.Lists.{AtMost}
 use Rattle.meanings.specs.Moves.{moves}
 use Rattle.meanings.specs.Claim.{refusal}
-use Rattle.meanings.specs.Calls.{smoothing_answer}
 use Rattle.meanings.specs.Codes.{detail_unit}
 use Rattle.meanings.specs.Estimate.{missing, estimate}
 use Rattle.meanings.specs.PublishedRow.{PublishedRow}
@@ -34,7 +34,7 @@ use Rattle.demands.specs.Conditions.{Conditions, no_more, condition, FirstFault,
 use Rattle.demands.specs.Demands.{RefusedAndStays, log_passes}
 
 -- calls that were made
-pub record RangesCall (ts ls us zs hs rs : List ℕ) (a : Smoothing) (rs' : List ℕ) : Type 0 where
+pub record RangesCall (ts ls us zs hs rs : List ℕ) (a : Result ℕ Refusal) (rs' : List ℕ) : Type 0 where
   pub lifetimes : Lfts 6
   pub minutes_at : Place
   pub lows_at : Place
@@ -108,18 +108,18 @@ pub record SweptRanges (ts ls us zs hs : List ℕ) (n : ℕ) (rs' : List ℕ) : 
   pub high_among : (k : ℕ) → k < length zs → ¬ ((stored_range_row rs' k).value.high ≡ missing)
       → Among ts us (get_or zs k 0) (get_or hs k 0) (high_row (stored_range_row rs' k))
   -- with any values in the ranges the plain sweep with room for its rows accepts, makes as many passes, and its rows lie within
-  pub plain_within : (vs rs : List ℕ) (b : Smoothing) (rs'' : List ℕ) → Choice ls us vs → length rs ≡ row_width * length zs
-      → SmoothCall ts vs zs hs rs b rs'' → (b ≡ Passes n) × RowsWithin rs'' rs' (length zs)
+  pub plain_within : (vs rs : List ℕ) (b : Result ℕ Refusal) (rs'' : List ℕ) → Choice ls us vs → length rs ≡ row_width * length zs
+      → SmoothCall ts vs zs hs rs b rs'' → (b ≡ Ok n) × RowsWithin rs'' rs' (length zs)
   pub exported_plain_within : (vs rs : List ℕ) (c : ℕ) (rs'' : List ℕ) → Choice ls us vs → length rs ≡ row_width * length zs
       → ExportedSmooth ts vs zs hs rs c rs'' → (c ≡ detail_unit * n) × RowsWithin rs'' rs' (length zs)
   -- the lowest values are such, and reach the lower ends of all rows at once; the highest reach the upper ends
   pub lows_are_chosen : Choice ls us ls
-  pub low_ends_reached : (rs : List ℕ) (b : Smoothing) (rs'' : List ℕ) → length rs ≡ row_width * length zs → SmoothCall ts ls zs hs rs b rs'' → (k : ℕ)
+  pub low_ends_reached : (rs : List ℕ) (b : Result ℕ Refusal) (rs'' : List ℕ) → length rs ≡ row_width * length zs → SmoothCall ts ls zs hs rs b rs'' → (k : ℕ)
       → k < length zs → stored_row rs'' k ≡ low_row (stored_range_row rs' k)
   pub exported_low_ends_reached : (rs : List ℕ) (c : ℕ) (rs'' : List ℕ) → length rs ≡ row_width * length zs → ExportedSmooth ts ls zs hs rs c rs'' → (k : ℕ)
       → k < length zs → stored_row rs'' k ≡ low_row (stored_range_row rs' k)
   pub highs_are_chosen : Choice ls us us
-  pub high_ends_reached : (rs : List ℕ) (b : Smoothing) (rs'' : List ℕ) → length rs ≡ row_width * length zs → SmoothCall ts us zs hs rs b rs'' → (k : ℕ)
+  pub high_ends_reached : (rs : List ℕ) (b : Result ℕ Refusal) (rs'' : List ℕ) → length rs ≡ row_width * length zs → SmoothCall ts us zs hs rs b rs'' → (k : ℕ)
       → k < length zs → stored_row rs'' k ≡ high_row (stored_range_row rs' k)
   pub exported_high_ends_reached : (rs : List ℕ) (c : ℕ) (rs'' : List ℕ) → length rs ≡ row_width * length zs → ExportedSmooth ts us zs hs rs c rs'' → (k : ℕ)
       → k < length zs → stored_row rs'' k ≡ high_row (stored_range_row rs' k)
@@ -131,15 +131,15 @@ pub record OverRanges : Type 2 where
   pub exported_ends : {M : Type 1} → exported_ranges_code.statement M
   pub exported_asks_nothing : (κs : Lfts 6) (a : Dens κs exported_ranges_kinds.ps) → exported_ranges.Asked κs a
   -- refused exactly for the first report whose condition holds; then the rows stay
-  pub refused : (ts ls us zs hs rs : List ℕ) (a : Smoothing) (rs' : List ℕ) → RangesCall ts ls us zs hs rs a rs'
-      → RefusedAndStays (refusal (smoothing_answer a)) (FirstFault (range_conditions ts ls us zs hs (length rs))) (rs' ≡ rs)
+  pub refused : (ts ls us zs hs rs : List ℕ) (a : Result ℕ Refusal) (rs' : List ℕ) → RangesCall ts ls us zs hs rs a rs'
+      → RefusedAndStays (refusal (answer_of a)) (FirstFault (range_conditions ts ls us zs hs (length rs))) (rs' ≡ rs)
   pub exported_refused : (ts ls us zs hs rs : List ℕ) (c : ℕ) (rs' : List ℕ) → ExportedRanges ts ls us zs hs rs c rs'
       → RefusedAndStays (code_refusal c) (FirstFault (range_conditions ts ls us zs hs (length rs))) (rs' ≡ rs)
   -- accepted, the rows are filled in; lists have 16 bits as their types say
   pub swept : (ts ls us zs hs rs : List ℕ) (n : ℕ) (rs' : List ℕ) → AtMost max_u16 ts → AtMost max_u16 us
-      → RangesCall ts ls us zs hs rs (Passes n) rs' → SweptRanges ts ls us zs hs n rs'
+      → RangesCall ts ls us zs hs rs (Ok n) rs' → SweptRanges ts ls us zs hs n rs'
   pub exported_swept : (ts ls us zs hs rs : List ℕ) (c : ℕ) (rs' : List ℕ) → AtMost max_u16 ts → AtMost max_u16 us
-      → ExportedRanges ts ls us zs hs rs c rs' → code_refusal c ≡ none → (n : ℕ) × ((c ≡ detail_unit * n) × SweptRanges ts ls us zs hs n rs')
+      → ExportedRanges ts ls us zs hs rs c rs' → code_refusal c ≡ None → (n : ℕ) × ((c ≡ detail_unit * n) × SweptRanges ts ls us zs hs n rs')
   -- whatever the minutes are, in any order, and however many: with values in their ranges a row lies within, weight 0 is weight 0 in all, and with
   -- highs of 16 bits a value is missing in all or in none
   pub row_within : (ts ls us vs : List ℕ) (z h : ℕ) → Choice ls us vs → LiesWithin (estimate ts vs z h) (range_estimate ts ls us z h)
@@ -148,28 +148,28 @@ pub record OverRanges : Type 2 where
       → MissingTogether (estimate ts vs z h) (range_estimate ts ls us z h)
   -- ranges of one value each: with room for the rows both sweeps answer alike, refused or accepted, and each row is the plain one with its sum twice
   -- and its value twice
-  pub answered_alike : (ts vs zs hs rs : List ℕ) (a : Smoothing) (rs' rs₀ : List ℕ) (b : Smoothing) (rs₀' : List ℕ)
+  pub answered_alike : (ts vs zs hs rs : List ℕ) (a : Result ℕ Refusal) (rs' rs₀ : List ℕ) (b : Result ℕ Refusal) (rs₀' : List ℕ)
       → length rs ≡ range_row_width * length zs → length rs₀ ≡ row_width * length zs → RangesCall ts vs vs zs hs rs a rs'
-      → SmoothCall ts vs zs hs rs₀ b rs₀' → smoothing_answer a ≡ smoothing_answer b
-  pub rows_doubled : (ts vs zs hs rs : List ℕ) (n : ℕ) (rs' rs₀ : List ℕ) (b : Smoothing) (rs₀' : List ℕ) → length rs₀ ≡ row_width * length zs
-      → RangesCall ts vs vs zs hs rs (Passes n) rs' → SmoothCall ts vs zs hs rs₀ b rs₀' → (k : ℕ) → k < length zs
+      → SmoothCall ts vs zs hs rs₀ b rs₀' → answer_of a ≡ answer_of b
+  pub rows_doubled : (ts vs zs hs rs : List ℕ) (n : ℕ) (rs' rs₀ : List ℕ) (b : Result ℕ Refusal) (rs₀' : List ℕ) → length rs₀ ≡ row_width * length zs
+      → RangesCall ts vs vs zs hs rs (Ok n) rs' → SmoothCall ts vs zs hs rs₀ b rs₀' → (k : ℕ) → k < length zs
       → stored_range_row rs' k ≡ twice (stored_row rs₀' k)
   pub exported_alike : (ts vs zs hs rs : List ℕ) (c : ℕ) (rs' rs₀ : List ℕ) (d : ℕ) (rs₀' : List ℕ) → length rs ≡ range_row_width * length zs
       → length rs₀ ≡ row_width * length zs → ExportedRanges ts vs vs zs hs rs c rs' → ExportedSmooth ts vs zs hs rs₀ d rs₀' → c ≡ d
   pub exported_rows_doubled : (ts vs zs hs rs : List ℕ) (c : ℕ) (rs' rs₀ : List ℕ) (d : ℕ) (rs₀' : List ℕ) → length rs₀ ≡ row_width * length zs
-      → ExportedRanges ts vs vs zs hs rs c rs' → code_refusal c ≡ none → ExportedSmooth ts vs zs hs rs₀ d rs₀' → (k : ℕ) → k < length zs
+      → ExportedRanges ts vs vs zs hs rs c rs' → code_refusal c ≡ None → ExportedSmooth ts vs zs hs rs₀ d rs₀' → (k : ℕ) → k < length zs
       → stored_range_row rs' k ≡ twice (stored_row rs₀' k)
   -- readings of equal minute may change places, each low with its high: where both calls are accepted, passes and rows are the same
   pub rearranged_alike : (ts ls us ls₀ us₀ zs hs rs : List ℕ) (n : ℕ) (rs' rs₀ : List ℕ) (m : ℕ) (rs₀' : List ℕ) → AtMost max_u16 ts → AtMost max_u16 us
-      → AtMost max_u16 us₀ → Rearranged ts ls ls₀ → Rearranged ts us us₀ → RangesCall ts ls us zs hs rs (Passes n) rs'
-      → RangesCall ts ls₀ us₀ zs hs rs₀ (Passes m) rs₀' → (n ≡ m) × ((k : ℕ) → k < length zs → stored_range_row rs' k ≡ stored_range_row rs₀' k)
+      → AtMost max_u16 us₀ → Rearranged ts ls ls₀ → Rearranged ts us us₀ → RangesCall ts ls us zs hs rs (Ok n) rs'
+      → RangesCall ts ls₀ us₀ zs hs rs₀ (Ok m) rs₀' → (n ≡ m) × ((k : ℕ) → k < length zs → stored_range_row rs' k ≡ stored_range_row rs₀' k)
   pub exported_rearranged_alike : (ts ls us ls₀ us₀ zs hs rs : List ℕ) (c : ℕ) (rs' rs₀ : List ℕ) (d : ℕ) (rs₀' : List ℕ) → AtMost max_u16 ts
       → AtMost max_u16 us → AtMost max_u16 us₀ → Rearranged ts ls ls₀ → Rearranged ts us us₀ → ExportedRanges ts ls us zs hs rs c rs'
-      → code_refusal c ≡ none → ExportedRanges ts ls₀ us₀ zs hs rs₀ d rs₀' → code_refusal d ≡ none
+      → code_refusal c ≡ None → ExportedRanges ts ls₀ us₀ zs hs rs₀ d rs₀' → code_refusal d ≡ None
       → (c ≡ d) × ((k : ℕ) → k < length zs → stored_range_row rs' k ≡ stored_range_row rs₀' k)
   -- some ranges are accepted, and some values between their ends are neither: one reading from 0 to 2, its value 1
-  pub some_accepted : (a : Smoothing) (rs' : List ℕ)
-      → RangesCall (5 ∷ []) (0 ∷ []) (2 ∷ []) (5 ∷ []) (1 ∷ []) (7 ∷ 7 ∷ 7 ∷ 7 ∷ 7 ∷ 7 ∷ 7 ∷ []) a rs' → refusal (smoothing_answer a) ≡ none
+  pub some_accepted : (a : Result ℕ Refusal) (rs' : List ℕ)
+      → RangesCall (5 ∷ []) (0 ∷ []) (2 ∷ []) (5 ∷ []) (1 ∷ []) (7 ∷ 7 ∷ 7 ∷ 7 ∷ 7 ∷ 7 ∷ 7 ∷ []) a rs' → refusal (answer_of a) ≡ None
   pub some_between : Choice (0 ∷ []) (2 ∷ []) (1 ∷ [])
   -- worked cases, accepted ones and each report
   pub cases : map (λ (c : RangeCase). range_result c) range_cases ≡ map (λ (c : RangeCase). c.expected) range_cases

@@ -1,18 +1,20 @@
 -- The reader's contract with the laws of its meaning: its answer and lists are those of the meaning, which by the second reading is what the bytes are
 -- printed from, and by the front that both readers share is the plain reader's but for sheets of ranges.
 use Prim.Native.Nat.{ℕ, ◌*◌, ◌<◌}
+use Rattle.std.specs.Prelude.{Result, Ok, Err}
+use Rattle.meanings.specs.declared.Counts.{Counts}
+use Rattle.meanings_ranges.specs.declared.RangeCounts.{RangeCounts}
+use Rattle.meanings.specs.declared.Refusal.{Refusal}
+use Rattle.meanings.specs.Calls.{answer_of}
 use mathlib.Core.Path.{◌≡◌, refl, sym, ap, subst, ◌∙◌}
 use mathlib.Core.Bool.{Bool, true, false, true≢false, not, ◌||◌}
 use mathlib.Core.Logic.{◌⊎◌, inl, inr}
 use mathlib.Core.List.{List, [], ◌∷◌, ◌++◌}
-use mathlib.Core.Option.{Option, none, some}
+use Rattle.std.specs.Prelude.{Option, None, Some}
 use native.Mathlib.Omega.{arith}
 use lib.Dec.{eqb}
 use lib.ListN.{length, get_or, take, drop}
 use lib.Seq.{take-append_seam}
-use Rattle.meanings.specs.declared.Parsing.{Parsing}
-use Rattle.meanings.specs.declared.Smoothing.{Smoothing}
-use Rattle.meanings.specs.declared.Smoothing.TheVariants.{Passes}
 use Rattle.meanings.specs.Limits.{full, row_width}
 use Rattle.meanings.specs.Moves.{moves}
 use Rattle.meanings.specs.Reports.{Fault, Answer, given, refused, Check, at, first_of, differ}
@@ -22,7 +24,7 @@ use Rattle.meanings.specs.SheetForm.{without_endings, Each}
 use Rattle.meanings.specs.Claim.{refusal}
 use Rattle.meanings.specs.Output.{program}
 use Rattle.meanings.specs.Sheet.{Outcome, or_next, read_sheet}
-use Rattle.meanings.specs.Calls.{smoothing_answer, counts, read, read_minutes, read_values, read_evaluation_points, read_bandwidths}
+use Rattle.meanings.specs.Calls.{counts, read, read_minutes, read_values, read_evaluation_points, read_bandwidths}
 use Rattle.meanings.specs.Codes.{answered, no_detail}
 use Rattle.meanings.specs.Lists.{pick}
 use Rattle.meanings.proofs.Checks.{differ_false, differ_same}
@@ -32,12 +34,10 @@ use Rattle.laws_sheet.proofs.Printed.{printed_is_read}
 use Rattle.text.specs.Table.{stored_row}
 use Rattle.meanings_ranges.specs.declared.Kind.{Kind}
 use Rattle.meanings_ranges.specs.declared.Kind.TheVariants.{Plain, Ranges}
-use Rattle.meanings_ranges.specs.declared.RangeParsing.{RangeParsing}
-use Rattle.meanings_ranges.specs.declared.RangeParsing.TheVariants.{Used}
 use Rattle.meanings_ranges.specs.Ranges.{range_row_width, smooth_ranges}
 use Rattle.meanings_ranges.specs.RangeSheet.{RangeInjection, RangeContents, read_either}
 use Rattle.meanings_ranges.specs.EitherKind.{doubled_contents, doubled}
-use Rattle.meanings_ranges.specs.RangeCalls.{RangeCounts, range_parsing_answer, read_range_checks, range_counts, range_front, minutes_of, lows_of, highs_of}
+use Rattle.meanings_ranges.specs.RangeCalls.{read_range_checks, range_counts, range_front, minutes_of, lows_of, highs_of}
 use Rattle.meanings_ranges.specs.RangeCalls.{points_of, bandwidths_of}
 use Rattle.meanings_ranges.specs.RangeCalls as calls
 use Rattle.meanings_ranges.specs.RangeOutput.{plain_contents, either_program}
@@ -66,7 +66,7 @@ use Rattle.demands_sheet_ranges.specs.BothKinds.{BothKinds}
 -- ---- the five lists
 module _ (ts ls us zs hs : List ℕ) where
   -- lists of their lengths are not refused
-  roomy_free : Roomy ts ls us zs hs → first_of (read_range_checks full (length ts) (length ls) (length us) (length zs) (length hs)) ≡ none
+  roomy_free : Roomy ts ls us zs hs → first_of (read_range_checks full (length ts) (length ls) (length us) (length zs) (length hs)) ≡ None
   roomy_free r =
       rw (
         differ_same (length ts) full.samples r.minutes,
@@ -126,14 +126,14 @@ module _ (s ts ls us zs hs : List ℕ) where
   given_either c = by (first_of (read_range_checks full (length ts) (length ls) (length us) (length zs) (length hs)))
     where
       by : (o : Option Fault) → or_next o (read_either full s) ≡ given c → read_either full s ≡ given c
-      by none q = q
-      by (some e) q = let z : ◌≡◌ {A = ℕ} 0 1 = cc in absurd (omega arith)
+      by None q = q
+      by (Some e) q = let z : ◌≡◌ {A = ℕ} 0 1 = cc in absurd (omega arith)
 
 counts_refused : (o : Answer RangeContents) → refusal (range_counts o) ≡ refusal o
 counts_refused (given c) = refl
 counts_refused (refused e) = refl
 
-front_stays : (o : Answer RangeContents) (part : RangeContents → List ℕ) (xs : List ℕ) (e : Fault) → refusal o ≡ some e → range_front o part xs ≡ xs
+front_stays : (o : Answer RangeContents) (part : RangeContents → List ℕ) (xs : List ℕ) (e : Fault) → refusal o ≡ Some e → range_front o part xs ≡ xs
 front_stays (given c) part xs e q = let z : ◌≡◌ {A = ℕ} 0 1 = cc in absurd (omega arith)
 front_stays (refused f) part xs e q = refl
 
@@ -160,19 +160,19 @@ module _ {ks : List Check} {cs : Conditions} (found_all : FindAll ks cs) (s : Li
       (absent (first_of ks) refl (read_either full s) refl) one
     where
       found : (f : Option Fault) → first_of ks ≡ f → (o : Answer RangeContents) → read_either full s ≡ o → (n p : ℕ)
-          → refusal (or_next f o) ≡ some (record { number = n; place = p }) → FirstOrElse cs (EitherRefused full s) n p
-      found none q (given c) r n p e = let z : ◌≡◌ {A = ℕ} 0 1 = cc in absurd (omega arith)
-      found none q (refused g) r n p e =
+          → refusal (or_next f o) ≡ Some (record { number = n; place = p }) → FirstOrElse cs (EitherRefused full s) n p
+      found None q (given c) r n p e = let z : ◌≡◌ {A = ℕ} 0 1 = cc in absurd (omega arith)
+      found None q (refused g) r n p e =
           let same : g ≡ record { number = n; place = p } = cc in
           inr (none_found ks cs found_all.each q, read_is_refused_form full s n p (r ∙ ap refused same))
-      found (some g) q o r n p e = inl (first_found ks cs found_all.each n p (q ∙ e))
+      found (Some g) q o r n p e = inl (first_found ks cs found_all.each n p (q ∙ e))
 
-      absent : (f : Option Fault) → first_of ks ≡ f → (o : Answer RangeContents) → read_either full s ≡ o → refusal (or_next f o) ≡ none → (n p : ℕ)
+      absent : (f : Option Fault) → first_of ks ≡ f → (o : Answer RangeContents) → read_either full s ≡ o → refusal (or_next f o) ≡ None → (n p : ℕ)
           → ¬ FirstOrElse cs (EitherRefused full s) n p
-      absent none q (given c) r e n p (inl a) = none_or_first cs n p (none_found ks cs found_all.each q) a
-      absent none q (given c) r e n p (inr b) = never_both full s c n p (read_is_form full s c r) b.1
-      absent none q (refused g) r e n p a = let z : ◌≡◌ {A = ℕ} 0 1 = cc in omega arith
-      absent (some g) q o r e n p a = let z : ◌≡◌ {A = ℕ} 0 1 = cc in omega arith
+      absent None q (given c) r e n p (inl a) = none_or_first cs n p (none_found ks cs found_all.each q) a
+      absent None q (given c) r e n p (inr b) = never_both full s c n p (read_is_form full s c r) b.1
+      absent None q (refused g) r e n p a = let z : ◌≡◌ {A = ℕ} 0 1 = cc in omega arith
+      absent (Some g) q o r e n p a = let z : ◌≡◌ {A = ℕ} 0 1 = cc in omega arith
 
       one : (n p m q : ℕ) → FirstOrElse cs (EitherRefused full s) n p → FirstOrElse cs (EitherRefused full s) m q → (n ≡ m) × (p ≡ q)
       one n p m q (inl a) (inl b) = one_first cs n p m q a b
@@ -266,35 +266,37 @@ module _ (s ts ls us zs hs : List ℕ) (n m : ℕ) (ts' ls' us' zs' hs' : List �
         rw (minutes_taken, lows_taken, highs_taken, points_taken, bandwidths_taken)
         (accepted_sheet_has_passes s c r rs (seven ∙ ap (λ (i : ℕ). range_row_width * i) (sym filled.marks)))
 
-    answer_swept : (rs : List ℕ) (a : Smoothing) (rs' : List ℕ) → length rs ≡ range_row_width * m
-        → RangesCall (take n ts') (take n ls') (take n us') (take m zs') (take m hs') rs a rs' → (q : ℕ) × (a ≡ Passes q)
+    answer_swept : (rs : List ℕ) (a : Result ℕ Refusal) (rs' : List ℕ) → length rs ≡ range_row_width * m
+        → RangesCall (take n ts') (take n ls') (take n us') (take m zs') (take m hs') rs a rs' → (q : ℕ) × (a ≡ Ok q)
     answer_swept rs a rs' seven x = opened a (x.ensured.0 ∙ swept rs seven)
       where
-        opened : (a : Smoothing) {p : ℕ} → smoothing_answer a ≡ given p → (q : ℕ) × (a ≡ Passes q)
-        opened (Passes q) e = (q, refl)
-        opened (Smoothing.Refused r) e = let z : ◌≡◌ {A = ℕ} 0 1 = cc in absurd (omega arith)
+        opened : (a : Result ℕ Refusal) {p : ℕ} → answer_of a ≡ given p → (q : ℕ) × (a ≡ Ok q)
+        opened (Ok q) e = (q, refl)
+        opened (Err r) e = let z : ◌≡◌ {A = ℕ} 0 1 = cc in absurd (omega arith)
 
     -- where lows are highs the rows stand doubled
-    doubled_rows : (rs : List ℕ) (a : Smoothing) (rs' rs₀ : List ℕ) (b : Smoothing) (rs₀' : List ℕ) → take n ls' ≡ take n us'
+    doubled_rows : (rs : List ℕ) (a : Result ℕ Refusal) (rs' rs₀ : List ℕ) (b : Result ℕ Refusal) (rs₀' : List ℕ) → take n ls' ≡ take n us'
         → length rs ≡ range_row_width * m → length rs₀ ≡ row_width * m
         → RangesCall (take n ts') (take n ls') (take n us') (take m zs') (take m hs') rs a rs'
         → SmoothCall (take n ts') (take n ls') (take m zs') (take m hs') rs₀ b rs₀' → (i : ℕ) → i < m
         → stored_range_row rs' i ≡ twice (stored_row rs₀' i)
     doubled_rows rs a rs' rs₀ b rs₀' e seven five x d i l =
         let o = answer_swept rs a rs' seven x in
-        let passed = subst (λ (a : Smoothing). RangesCall (take n ts') (take n ls') (take n us') (take m zs') (take m hs') rs a rs') o.1 x in
-        let same = subst (λ (v : List ℕ). RangesCall (take n ts') (take n ls') v (take m zs') (take m hs') rs (Passes o.0) rs') (sym e) passed in
+        let passed = subst (λ (a : Result ℕ Refusal). RangesCall (take n ts') (take n ls') (take n us') (take m zs') (take m hs') rs a rs') o.1 x in
+        let same = subst (λ (v : List ℕ). RangesCall (take n ts') (take n ls') v (take m zs') (take m hs') rs (Ok o.0) rs') (sym e) passed in
         over_ranges.rows_doubled (take n ts') (take n ls') (take m zs') (take m hs') rs o.0 rs' rs₀ b rs₀'
         (five ∙ ap (λ (i : ℕ). row_width * i) (sym points_count)) same d i (rw points_count l)
 
 -- ---- an accepted call
-taken : (s ts ls us zs hs : List ℕ) (n m : ℕ) (k : Kind) (ts' ls' us' zs' hs' : List ℕ) → ReadRangesCall s ts ls us zs hs (Used n m k) ts' ls' us' zs' hs'
+taken : (s ts ls us zs hs : List ℕ) (n m : ℕ) (k : Kind) (ts' ls' us' zs' hs' : List ℕ)
+    → ReadRangesCall s ts ls us zs hs (Ok (record { samples = n; points = m; kind = k })) ts' ls' us' zs' hs'
     → (c : RangeContents) × ((read_either full s ≡ given c) × ((c.kind ≡ k) × FilledIn c n m ts ls us zs hs ts' ls' us' zs' hs'))
 taken s ts ls us zs hs n m k ts' ls' us' zs' hs' x =
     by (calls.read_ranges full s ts ls us zs hs) refl x.ensured.0 x.ensured.1.0 x.ensured.1.1.0 x.ensured.1.1.1.0
     x.ensured.1.1.1.1.0 x.ensured.1.1.1.1.1
   where
-    by : (o : Answer RangeContents) → calls.read_ranges full s ts ls us zs hs ≡ o → range_parsing_answer (Used n m k) ≡ range_counts o
+    by : (o : Answer RangeContents) → calls.read_ranges full s ts ls us zs hs ≡ o
+        → answer_of (Ok (record { samples = n; points = m; kind = k })) ≡ range_counts o
         → ts' ≡ range_front o minutes_of ts → ls' ≡ range_front o lows_of ls → us' ≡ range_front o highs_of us → zs' ≡ range_front o points_of zs
         → hs' ≡ range_front o bandwidths_of hs
         → (c : RangeContents) × ((read_either full s ≡ given c) × ((c.kind ≡ k) × FilledIn c n m ts ls us zs hs ts' ls' us' zs' hs'))
@@ -309,13 +311,13 @@ taken s ts ls us zs hs n m k ts' ls' us' zs' hs' x =
 
 -- and one of the exported call
 exported_taken : (s ts ls us zs hs ns : List ℕ) (a : ℕ) (ts' ls' us' zs' hs' ns' : List ℕ)
-    → ExportedReadRanges s ts ls us zs hs ns a ts' ls' us' zs' hs' ns' → code_refusal a ≡ none
+    → ExportedReadRanges s ts ls us zs hs ns a ts' ls' us' zs' hs' ns' → code_refusal a ≡ None
     → (c : RangeContents)
     × ((read_either full s ≡ given c) × ((a ≡ 0) × ((ns' ≡ length c.minutes ∷ length c.points ∷ kind_number c.kind ∷ [])
     × FilledIn c (length c.minutes) (length c.points) ts ls us zs hs ts' ls' us' zs' hs')))
 exported_taken s ts ls us zs hs ns a ts' ls' us' zs' hs' ns' x e =
     let o = sized 3 ns (calls.read_ranges full s ts ls us zs hs) in
-    let accepted : refusal o ≡ none = sym (counts_refused o) ∙ sym (exported_coded s ts ls us zs hs ns a x.ensured.0) ∙ e in
+    let accepted : refusal o ≡ None = sym (counts_refused o) ∙ sym (exported_coded s ts ls us zs hs ns a x.ensured.0) ∙ e in
     let g = accepted_given o accepted in
     let c = g.0 in
     let q : o ≡ given c = g.1 in
@@ -354,7 +356,8 @@ plain_reads s ts ls us vs zs hs room even =
       differ_same (length hs) full.points room.bandwidths,
     )
 
-module _ (s ts ls us vs zs hs : List ℕ) (a : RangeParsing) (b : Parsing) (ts' ls' us' zs' hs' ts'' vs'' zs'' hs'' : List ℕ) (room : Roomy ts ls us zs hs)
+module _ (s ts ls us vs zs hs : List ℕ) (a : Result RangeCounts Refusal) (b : Result Counts Refusal) (ts' ls' us' zs' hs' ts'' vs'' zs'' hs'' : List ℕ)
+    (room : Roomy ts ls us zs hs)
     (even : length vs ≡ full.samples) (x : ReadRangesCall s ts ls us zs hs a ts' ls' us' zs' hs') (y : ReadCall s ts vs zs hs b ts'' vs'' zs'' hs'') where
   plain_outcome : read full s ts vs zs hs ≡ read_sheet full s
   plain_outcome = plain_reads s ts ls us vs zs hs room even
@@ -366,8 +369,8 @@ module _ (s ts ls us vs zs hs : List ℕ) (a : RangeParsing) (b : Parsing) (ts' 
       by : (o : Outcome) → read_sheet full s ≡ o → calls.read_ranges full s ts ls us zs hs ≡ doubled o → read full s ts vs zs hs ≡ o
           → ReadAlike a b ts' ls' us' zs' hs' ts'' vs'' zs'' hs''
       by (refused f) q h g =
-          let answer_is : range_parsing_answer a ≡ refused f = x.ensured.0 ∙ ap range_counts h in
-          let never : (n m : ℕ) (k : Kind) → ¬ (a ≡ Used n m k) = λ n m k u. never_used n m k u answer_is in
+          let answer_is : answer_of a ≡ refused f = x.ensured.0 ∙ ap range_counts h in
+          let never : (n m : ℕ) (k : Kind) → ¬ (a ≡ Ok (record { samples = n; points = m; kind = k })) = λ n m k u. never_used n m k u answer_is in
           record {
             answers = answer_is ∙ sym (ap plain_counts (y.ensured.0 ∙ ap counts g));
             minutes = x.ensured.1.0 ∙ ap (λ (o : Answer RangeContents). range_front o minutes_of ts) h
@@ -380,10 +383,12 @@ module _ (s ts ls us vs zs hs : List ℕ) (a : RangeParsing) (b : Parsing) (ts' 
             highs = λ n m k u. absurd (never n m k u);
           }
         where
-          never_used : (n m : ℕ) (k : Kind) → a ≡ Used n m k → range_parsing_answer a ≡ refused f → ⊥
-          never_used n m k u w = let q : range_parsing_answer (Used n m k) ≡ refused f = rw u at w in let z : ◌≡◌ {A = ℕ} 0 1 = cc in omega arith
+          never_used : (n m : ℕ) (k : Kind) → a ≡ Ok (record { samples = n; points = m; kind = k }) → answer_of a ≡ refused f → ⊥
+          never_used n m k u w =
+              let q : answer_of (Ok (record { samples = n; points = m; kind = k })) ≡ refused f = rw u at w in
+              let z : ◌≡◌ {A = ℕ} 0 1 = cc in omega arith
       by (given c) q h g =
-          let answer_is : range_parsing_answer a ≡ range_counts (given (doubled_contents c)) = x.ensured.0 ∙ ap range_counts h in
+          let answer_is : answer_of a ≡ range_counts (given (doubled_contents c)) = x.ensured.0 ∙ ap range_counts h in
           let values : vs'' ≡ c.values ++ drop (length c.values) vs = y.ensured.1.1.0 ∙ ap (λ (o : Outcome). read_values o vs) g in
           record {
             answers = answer_is ∙ sym (ap plain_counts (y.ensured.0 ∙ ap counts g));
@@ -403,10 +408,10 @@ module _ (s ts ls us vs zs hs : List ℕ) (a : RangeParsing) (b : Parsing) (ts' 
                 ∙ sym (front_taken c.values _ vs'' n values l);
           }
         where
-          values_count : (n m : ℕ) (k : Kind) → a ≡ Used n m k → range_parsing_answer a ≡ range_counts (given (doubled_contents c))
+          values_count : (n m : ℕ) (k : Kind) → a ≡ Ok (record { samples = n; points = m; kind = k }) → answer_of a ≡ range_counts (given (doubled_contents c))
               → length c.values ≡ n
           values_count n m k u w =
-              let r : range_parsing_answer (Used n m k) ≡ range_counts (given (doubled_contents c)) = rw u at w in
+              let r : answer_of (Ok (record { samples = n; points = m; kind = k })) ≡ range_counts (given (doubled_contents c)) = rw u at w in
               let same : ◌≡◌ {A = RangeCounts} (record { samples = n; points = m; kind = k })
               (record { samples = length c.minutes; points = length c.points; kind = Plain }) = cc in
               let fit = accepted_ranges full s (doubled_contents c) (e ∙ ap doubled q) in
@@ -422,7 +427,7 @@ module _ (s ts ls us vs zs hs : List ℕ) (a : RangeParsing) (b : Parsing) (ts' 
 -- the plain sheet of a sheet whose ranges are one value each
 module _ (s : List ℕ) (c : RangeContents) (i : IsRangeSheet full s c) (ts ls us vs zs hs : List ℕ) (n m : ℕ) (k : Kind) (ts' ls' us' zs' hs' : List ℕ)
     (room : Roomy ts ls us zs hs) (even : length vs ≡ full.samples) (ends : Each EqualEnds (without_endings i.range_lines))
-    (x : ReadRangesCall s ts ls us zs hs (Used n m k) ts' ls' us' zs' hs') where
+    (x : ReadRangesCall s ts ls us zs hs (Ok (record { samples = n; points = m; kind = k })) ts' ls' us' zs' hs') where
   filled_so : FilledIn c n m ts ls us zs hs ts' ls' us' zs' hs'
   filled_so =
       let t = taken s ts ls us zs hs n m k ts' ls' us' zs' hs' x in
@@ -430,7 +435,7 @@ module _ (s : List ℕ) (c : RangeContents) (i : IsRangeSheet full s c) (ts ls u
       let same : t.0 ≡ c = cc in
       subst (λ (c : RangeContents). FilledIn c n m ts ls us zs hs ts' ls' us' zs' hs') same t.1.1.1
 
-  read_as_plain : (b : Parsing) (ts'' vs'' zs'' hs'' : List ℕ) → ReadCall (low_sheet i.front i.range_lines) ts vs zs hs b ts'' vs'' zs'' hs''
+  read_as_plain : (b : Result Counts Refusal) (ts'' vs'' zs'' hs'' : List ℕ) → ReadCall (low_sheet i.front i.range_lines) ts vs zs hs b ts'' vs'' zs'' hs''
       → ReadAsPlain n m b ts' ls' us' zs' hs' ts'' vs'' zs'' hs''
   read_as_plain b ts'' vs'' zs'' hs'' y =
       let f = filled_so in
@@ -470,7 +475,7 @@ both_kinds = record {
   exported_asks_nothing = λ κs a. tt;
   refused = λ s ts ls us zs hs a ts' ls' us' zs' hs' x.
       let o = calls.read_ranges full s ts ls us zs hs in
-      let same : refusal (range_parsing_answer a) ≡ refusal o = ap refusal x.ensured.0 ∙ counts_refused o in
+      let same : refusal (answer_of a) ≡ refusal o = ap refusal x.ensured.0 ∙ counts_refused o in
       record {
         exactly = rw same (read_exactly s ts ls us zs hs);
         stays = λ e q.

@@ -2,26 +2,24 @@
 -- ranges. SPECIFICATION, "Ranges". s is a sheet, ts minutes, ls and us the lowest and the highest values, vs values, zs marks, hs half widths, rs rows;
 -- a list at exit has a prime. Which sheets are accepted and refused stands in RangeForm.antt of crates/laws_range_form.
 use Rattle.std.specs.Prelude.{ℕ, ◌*◌, ◌<◌, ◌≡◌, ◌⊎◌, List, [], ◌∷◌, map, ◌++◌, length, take, drop}
-use Rattle.std.proofs.Math.Option.{none, some}
+use Rattle.std.specs.Prelude.{Result, Ok}
+use Rattle.meanings.specs.declared.Counts.{Counts}
+use Rattle.meanings_ranges.specs.declared.RangeCounts.{RangeCounts}
+use Rattle.meanings.specs.declared.Refusal.{Refusal}
+use Rattle.meanings.specs.Calls.{answer_of}
+use Rattle.std.specs.Prelude.{None, Some}
 use contract.Lifetimes.{Lfts}
 use borrow.Fn.Kinds.{Dens}
-use Rattle.meanings.specs.declared.Parsing.{Parsing}
-use Rattle.meanings.specs.declared.Smoothing.{Smoothing}
-use Rattle.meanings.specs.declared.Smoothing.TheVariants.{Passes}
 use Rattle.meanings.specs.Limits.{full, row_width}
 use Rattle.meanings.specs.Reports.{Answer, given, refused}
 use Rattle.meanings.specs.SheetForm.{without_endings, empty_front, Each}
 use Rattle.meanings.specs.Output.{program}
 use Rattle.meanings.specs.Claim.{refusal}
-use Rattle.meanings.specs.Calls.{Counts, parsing_answer}
 use Rattle.text.specs.Table.{stored_row}
 use Rattle.meanings_ranges.specs.declared.Kind.{Kind}
 use Rattle.meanings_ranges.specs.declared.Kind.TheVariants.{Plain}
-use Rattle.meanings_ranges.specs.declared.RangeParsing.{RangeParsing}
-use Rattle.meanings_ranges.specs.declared.RangeParsing.TheVariants.{Used}
 use Rattle.meanings_ranges.specs.Ranges.{range_row_width}
 use Rattle.meanings_ranges.specs.RangeSheet.{RangeContents}
-use Rattle.meanings_ranges.specs.RangeCalls.{RangeCounts, range_parsing_answer}
 use Rattle.meanings_ranges.specs.RangeOutput.{either_program}
 use Rattle.meanings_ranges.specs.SheetCases.{SheetCase, sheet_result, sheet_cases}
 use Rattle.laws_range_form.specs.RangeForm.{NamesRanges, IsRangeSheet, EitherSheet, EitherRefused, low_sheet, EqualEnds}
@@ -38,7 +36,7 @@ use Rattle.demands.specs.Demands.{RefusedAndStays}
 use Rattle.demands_ranges.specs.OverRanges.{RangesCall, ExportedRanges, stored_range_row, twice}
 
 -- a call that was made
-pub record ReadRangesCall (s ts ls us zs hs : List ℕ) (a : RangeParsing) (ts' ls' us' zs' hs' : List ℕ) : Type 0 where
+pub record ReadRangesCall (s ts ls us zs hs : List ℕ) (a : Result RangeCounts Refusal) (ts' ls' us' zs' hs' : List ℕ) : Type 0 where
   pub lifetimes : Lfts 6
   pub sheet_at : Place
   pub minutes_at : Place
@@ -107,23 +105,23 @@ plain_counts (given c) = given (record { samples = c.samples; points = c.points;
 plain_counts (refused e) = refused e
 
 -- both readers have said the same: accepted or refused alike, the kind plain, and each value as low and as high
-pub record ReadAlike (a : RangeParsing) (b : Parsing) (ts' ls' us' zs' hs' ts'' vs'' zs'' hs'' : List ℕ) : Type 0 where
-  pub answers : range_parsing_answer a ≡ plain_counts (parsing_answer b)
+pub record ReadAlike (a : Result RangeCounts Refusal) (b : Result Counts Refusal) (ts' ls' us' zs' hs' ts'' vs'' zs'' hs'' : List ℕ) : Type 0 where
+  pub answers : answer_of a ≡ plain_counts (answer_of b)
   pub minutes : ts' ≡ ts''
   pub points : zs' ≡ zs''
   pub bandwidths : hs' ≡ hs''
-  pub lows : (n m : ℕ) (k : Kind) → a ≡ Used n m k → take n ls' ≡ take n vs''
-  pub highs : (n m : ℕ) (k : Kind) → a ≡ Used n m k → take n us' ≡ take n vs''
+  pub lows : (n m : ℕ) (k : Kind) → a ≡ Ok (record { samples = n; points = m; kind = k }) → take n ls' ≡ take n vs''
+  pub highs : (n m : ℕ) (k : Kind) → a ≡ Ok (record { samples = n; points = m; kind = k }) → take n us' ≡ take n vs''
 
 -- the sheet is one of ranges, and the reader of plain sheets refuses its second header line
-pub record RefusedThere (s : List ℕ) (b : Parsing) : Type 0 where
+pub record RefusedThere (s : List ℕ) (b : Result Counts Refusal) : Type 0 where
   pub names : NamesRanges full s
-  pub with_two : refusal (parsing_answer b)
-      ≡ some (record { number = 2; place = length (empty_front names.header_ending names.point_lines names.empty_line_ending) })
+  pub with_two : refusal (answer_of b)
+      ≡ Some (record { number = 2; place = length (empty_front names.header_ending names.point_lines names.empty_line_ending) })
 
 -- the reader of plain sheets has read the same n readings and m marks from another sheet, its values both lows and highs
-pub record ReadAsPlain (n m : ℕ) (b : Parsing) (ts' ls' us' zs' hs' ts'' vs'' zs'' hs'' : List ℕ) : Type 0 where
-  pub answer : parsing_answer b ≡ given (record { samples = n; points = m })
+pub record ReadAsPlain (n m : ℕ) (b : Result Counts Refusal) (ts' ls' us' zs' hs' ts'' vs'' zs'' hs'' : List ℕ) : Type 0 where
+  pub answer : answer_of b ≡ given (record { samples = n; points = m })
   pub minutes : ts'' ≡ ts'
   pub lows : take n vs'' ≡ take n ls'
   pub highs : take n vs'' ≡ take n us'
@@ -137,8 +135,9 @@ pub record BothKinds : Type 2 where
   pub exported_ends : {M : Type 1} → exported_read_code.statement M
   pub exported_asks_nothing : (κs : Lfts 7) (a : Dens κs exported_read_kinds.ps) → exported_read.Asked κs a
   -- refused exactly for its lists' lengths, else as the sheet is; then all five lists stay
-  pub refused : (s ts ls us zs hs : List ℕ) (a : RangeParsing) (ts' ls' us' zs' hs' : List ℕ) → ReadRangesCall s ts ls us zs hs a ts' ls' us' zs' hs'
-      → RefusedAndStays (refusal (range_parsing_answer a)) (FirstOrElse (read_range_conditions ts ls us zs hs) (EitherRefused full s))
+  pub refused : (s ts ls us zs hs : List ℕ) (a : Result RangeCounts Refusal) (ts' ls' us' zs' hs' : List ℕ)
+      → ReadRangesCall s ts ls us zs hs a ts' ls' us' zs' hs'
+      → RefusedAndStays (refusal (answer_of a)) (FirstOrElse (read_range_conditions ts ls us zs hs) (EitherRefused full s))
       ((ts' ≡ ts) × (ls' ≡ ls) × (us' ≡ us) × (zs' ≡ zs) × (hs' ≡ hs))
   -- the exported call looks first at its list for three counts
   pub exported_refused : (s ts ls us zs hs ns : List ℕ) (a : ℕ) (ts' ls' us' zs' hs' ns' : List ℕ)
@@ -147,40 +146,42 @@ pub record BothKinds : Type 2 where
       ((ts' ≡ ts) × (ls' ≡ ls) × (us' ≡ us) × (zs' ≡ zs) × (hs' ≡ hs) × (ns' ≡ ns))
   -- accepted, the bytes are a sheet of just these lists and this kind
   pub accepted : (s ts ls us zs hs : List ℕ) (n m : ℕ) (k : Kind) (ts' ls' us' zs' hs' : List ℕ)
-      → ReadRangesCall s ts ls us zs hs (Used n m k) ts' ls' us' zs' hs'
+      → ReadRangesCall s ts ls us zs hs (Ok (record { samples = n; points = m; kind = k })) ts' ls' us' zs' hs'
       → (c : RangeContents) × (EitherSheet full s c × ((c.kind ≡ k) × FilledIn c n m ts ls us zs hs ts' ls' us' zs' hs'))
   -- the exported call tells kept readings, marks and the kind, 0 for a plain sheet and 1 for one with ranges
   pub exported_accepted : (s ts ls us zs hs ns : List ℕ) (a : ℕ) (ts' ls' us' zs' hs' ns' : List ℕ)
-      → ExportedReadRanges s ts ls us zs hs ns a ts' ls' us' zs' hs' ns' → code_refusal a ≡ none
+      → ExportedReadRanges s ts ls us zs hs ns a ts' ls' us' zs' hs' ns' → code_refusal a ≡ None
       → (c : RangeContents)
       × (EitherSheet full s c × ((a ≡ 0) × ((ns' ≡ length c.minutes ∷ length c.points ∷ kind_number c.kind ∷ [])
       × FilledIn c (length c.minutes) (length c.points) ts ls us zs hs ts' ls' us' zs' hs')))
   -- of every list of bytes both readers say the same, or it is a sheet of ranges, and the reader of plain sheets refuses it there with 2
-  pub both_readers : (s ts ls us vs zs hs : List ℕ) (a : RangeParsing) (b : Parsing) (ts' ls' us' zs' hs' ts'' vs'' zs'' hs'' : List ℕ)
+  pub both_readers : (s ts ls us vs zs hs : List ℕ) (a : Result RangeCounts Refusal) (b : Result Counts Refusal)
+      (ts' ls' us' zs' hs' ts'' vs'' zs'' hs'' : List ℕ)
       → Roomy ts ls us zs hs → length vs ≡ full.samples → ReadRangesCall s ts ls us zs hs a ts' ls' us' zs' hs' → ReadCall s ts vs zs hs b ts'' vs'' zs'' hs''
       → (¬ NamesRanges full s × ReadAlike a b ts' ls' us' zs' hs' ts'' vs'' zs'' hs'') ⊎ RefusedThere s b
   -- and what is written for bytes that are no sheet of ranges is what was written
   pub same_text : (s : List ℕ) → ¬ NamesRanges full s → either_program s ≡ program s
   -- what the reader accepts the sweep over ranges accepts, with room for its rows; that of the exported call too
-  pub accepted_is_swept : (s ts ls us zs hs : List ℕ) (n m : ℕ) (k : Kind) (ts' ls' us' zs' hs' rs : List ℕ) (a : Smoothing) (rs' : List ℕ)
-      → ReadRangesCall s ts ls us zs hs (Used n m k) ts' ls' us' zs' hs' → length rs ≡ range_row_width * m
-      → RangesCall (take n ts') (take n ls') (take n us') (take m zs') (take m hs') rs a rs' → (q : ℕ) × (a ≡ Passes q)
+  pub accepted_is_swept : (s ts ls us zs hs : List ℕ) (n m : ℕ) (k : Kind) (ts' ls' us' zs' hs' rs : List ℕ) (a : Result ℕ Refusal) (rs' : List ℕ)
+      → ReadRangesCall s ts ls us zs hs (Ok (record { samples = n; points = m; kind = k })) ts' ls' us' zs' hs' → length rs ≡ range_row_width * m
+      → RangesCall (take n ts') (take n ls') (take n us') (take m zs') (take m hs') rs a rs' → (q : ℕ) × (a ≡ Ok q)
   pub exported_accepted_is_swept : (s ts ls us zs hs ns : List ℕ) (n m k : ℕ) (a : ℕ) (ts' ls' us' zs' hs' rs : List ℕ) (b : ℕ) (rs' : List ℕ)
-      → ExportedReadRanges s ts ls us zs hs ns a ts' ls' us' zs' hs' (n ∷ m ∷ k ∷ []) → code_refusal a ≡ none → length rs ≡ range_row_width * m
-      → ExportedRanges (take n ts') (take n ls') (take n us') (take m zs') (take m hs') rs b rs' → code_refusal b ≡ none
+      → ExportedReadRanges s ts ls us zs hs ns a ts' ls' us' zs' hs' (n ∷ m ∷ k ∷ []) → code_refusal a ≡ None → length rs ≡ range_row_width * m
+      → ExportedRanges (take n ts') (take n ls') (take n us') (take m zs') (take m hs') rs b rs' → code_refusal b ≡ None
   -- a plain sheet's lows are its highs; and wherever a sheet's are, each row is the plain one with its sum twice and its value twice
   pub plain_ends_equal : (s ts ls us zs hs : List ℕ) (n m : ℕ) (ts' ls' us' zs' hs' : List ℕ)
-      → ReadRangesCall s ts ls us zs hs (Used n m Plain) ts' ls' us' zs' hs' → take n ls' ≡ take n us'
-  pub rows_doubled : (s ts ls us zs hs : List ℕ) (n m : ℕ) (k : Kind) (ts' ls' us' zs' hs' rs : List ℕ) (a : Smoothing) (rs' rs₀ : List ℕ)
-      (b : Smoothing) (rs₀' : List ℕ) → ReadRangesCall s ts ls us zs hs (Used n m k) ts' ls' us' zs' hs' → take n ls' ≡ take n us'
+      → ReadRangesCall s ts ls us zs hs (Ok (record { samples = n; points = m; kind = Plain })) ts' ls' us' zs' hs' → take n ls' ≡ take n us'
+  pub rows_doubled : (s ts ls us zs hs : List ℕ) (n m : ℕ) (k : Kind) (ts' ls' us' zs' hs' rs : List ℕ) (a : Result ℕ Refusal) (rs' rs₀ : List ℕ)
+      (b : Result ℕ Refusal) (rs₀' : List ℕ) → ReadRangesCall s ts ls us zs hs (Ok (record { samples = n; points = m; kind = k })) ts' ls' us' zs' hs'
+      → take n ls' ≡ take n us'
       → length rs ≡ range_row_width * m → length rs₀ ≡ row_width * m
       → RangesCall (take n ts') (take n ls') (take n us') (take m zs') (take m hs') rs a rs'
       → SmoothCall (take n ts') (take n ls') (take m zs') (take m hs') rs₀ b rs₀' → (i : ℕ) → i < m
       → stored_range_row rs' i ≡ twice (stored_row rs₀' i)
   -- a sheet with ranges of one value each is read as the plain sheet of the same lines with these values is
   pub equal_ends_as_plain : (s : List ℕ) (c : RangeContents) (i : IsRangeSheet full s c) (ts ls us vs zs hs : List ℕ) (n m : ℕ) (k : Kind)
-      (ts' ls' us' zs' hs' : List ℕ) (b : Parsing) (ts'' vs'' zs'' hs'' : List ℕ) → Roomy ts ls us zs hs → length vs ≡ full.samples
-      → Each EqualEnds (without_endings i.range_lines) → ReadRangesCall s ts ls us zs hs (Used n m k) ts' ls' us' zs' hs'
+      (ts' ls' us' zs' hs' : List ℕ) (b : Result Counts Refusal) (ts'' vs'' zs'' hs'' : List ℕ) → Roomy ts ls us zs hs → length vs ≡ full.samples
+      → Each EqualEnds (without_endings i.range_lines) → ReadRangesCall s ts ls us zs hs (Ok (record { samples = n; points = m; kind = k })) ts' ls' us' zs' hs'
       → ReadCall (low_sheet i.front i.range_lines) ts vs zs hs b ts'' vs'' zs'' hs'' → ReadAsPlain n m b ts' ls' us' zs' hs' ts'' vs'' zs'' hs''
   -- worked cases
   pub cases : map (λ (c : SheetCase). sheet_result c) sheet_cases ≡ map (λ (c : SheetCase). c.expected) sheet_cases

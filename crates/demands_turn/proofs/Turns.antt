@@ -1,10 +1,11 @@
 -- What is promised of the turn follows from the contracts of the calls, which leave what the meanings leave, and from the laws of motions.
 use Prim.Native.Nat.{ℕ, ◌+◌}
+use Rattle.std.specs.Prelude.{Result}
+use Rattle.meanings.specs.declared.Refusal.{Refusal}
 use mathlib.Core.Path.{◌≡◌, refl, sym, ap, ◌∙◌}
 use mathlib.Core.List.{List}
-use mathlib.Core.Option.{Option, none, some}
+use Rattle.std.specs.Prelude.{Option, None, Some}
 use lib.ListN.{length}
-use Rattle.meanings.specs.declared.Advance.{Advance}
 use Rattle.meanings.specs.declared.RunningSums.{RunningSums}
 use Rattle.meanings.specs.declared.Turning.{Turning}
 use Rattle.meanings.specs.Calls.{evaluate}
@@ -39,7 +40,8 @@ use Rattle.demands_turn.specs.Turns.{TurnCall, ExportedTurn, turn_conditions, Mo
 
 -- ---- the calls leave what the meanings leave
 module _ (ts vs : List ℕ) where
-  step_left : (r : RunningSums) (m : Move) (a : Advance) → AdvanceCall r ts vs m.point m.bandwidth a → held r a ≡ after_motion ts vs r (step m)
+  step_left : (r : RunningSums) (m : Move) (a : Result RunningSums Refusal) → AdvanceCall r ts vs m.point m.bandwidth a
+      → held r a ≡ after_motion ts vs r (step m)
   step_left r m a c = held_is_next_record r a ∙ ap (next_record r) c.ensured
 
   turn_left : (r : RunningSums) (m : Move) (t : Turning) → TurnCall r ts vs m.point m.bandwidth t → t.running ≡ after_motion ts vs r (turn m)
@@ -57,8 +59,8 @@ unfolding turn_answer turn_record
 next_is_turn_record ts vs r z h = by (turn_refusal ts vs r h)
   where
     by : (f : Option Fault) → next_record r (unless f (turned ts vs r z h)) ≡ accepted_or f (turned ts vs r z h) r
-    by none = refl
-    by (some e) = refl
+    by None = refl
+    by (Some e) = refl
 
 turn_refusal_is : (ts vs : List ℕ) (r : RunningSums) (z h : ℕ) → refusal (turn_answer ts vs r z h) ≡ turn_refusal ts vs r h
 unfolding turn_answer
@@ -117,7 +119,7 @@ module _ (ts vs : List ℕ) (minutes : AtMost max_u16 ts) (values : AtMost max_u
   direct : (r : RunningSums) (ms : List Motion) → r ≡ after_motions ts vs fresh ms → Direct ts vs r
   direct r ms e = rw e (motions_direct ts vs minutes values ms fresh (fresh_direct ts vs minutes values))
 
-  module _ (r r' : RunningSums) (z h : ℕ) (d : Direct ts vs r) (e : r' ≡ turn_record ts vs r z h) (accepted : turn_refusal ts vs r h ≡ none) where
+  module _ (r r' : RunningSums) (z h : ℕ) (d : Direct ts vs r) (e : r' ≡ turn_record ts vs r z h) (accepted : turn_refusal ts vs r h ≡ None) where
     lands : OnWindow ts vs z h r' × AlikeButPasses r' (moved ts vs fresh z h)
     lands = rw e (turn_on_window ts vs minutes values r z h d accepted, (turn_as_from_fresh ts vs minutes values r z h d accepted).0)
 
@@ -125,8 +127,8 @@ module _ (ts vs : List ℕ) (minutes : AtMost max_u16 ts) (values : AtMost max_u
     gives_row = rw e (turn_gives_row ts vs minutes values r z h d accepted)
 
   behind : (r r' r'' : RunningSums) (m : Move) (ns : List Move) → Direct ts vs r → r' ≡ turn_record ts vs r m.point m.bandwidth
-      → turn_refusal ts vs r m.bandwidth ≡ none → r'' ≡ after ts vs r' ns → NoEdgeBackAfter ts vs (some m) ns
-      → r''.sums ≡ window_direct ts vs (accepted_after ts vs (some m) ns)
+      → turn_refusal ts vs r m.bandwidth ≡ None → r'' ≡ after ts vs r' ns → NoEdgeBackAfter ts vs (Some m) ns
+      → r''.sums ≡ window_direct ts vs (accepted_after ts vs (Some m) ns)
   behind r r' r'' m ns d e accepted q n = rw (q, e) (sums_behind_turn ts vs minutes values r m ns d accepted n)
 
 -- ---- no check looks at the passes, so records that differ in them alone get the same report

@@ -1,16 +1,15 @@
 -- What is promised of the turn, of the calls as a caller has them: of the call by value, which lends a record of its own to the call on a lent one,
 -- and of the call for C and Rust. SPECIFICATION, "The turn".
 use Rattle.std.specs.Prelude.{ℕ, ◌+◌, ◌≡◌, List, [], ◌∷◌, length}
-use Rattle.std.proofs.Math.Option.{none, some}
+use Rattle.std.specs.Prelude.{Result, Ok}
+use Rattle.meanings.specs.declared.Refusal.{Refusal}
+use Rattle.meanings.specs.Calls.{answer_of}
+use Rattle.std.specs.Prelude.{None, Some}
 use contract.Lifetimes.{Lfts}
 use borrow.Fn.Kinds.{Dens}
-use Rattle.meanings.specs.declared.Advance.{Advance}
 use Rattle.meanings.specs.declared.Estimate.{Estimate}
-use Rattle.meanings.specs.declared.Evaluation.{Evaluation}
-use Rattle.meanings.specs.declared.Evaluation.TheVariants.{Row}
 use Rattle.meanings.specs.declared.RunningSums.{RunningSums}
 use Rattle.meanings.specs.declared.Turning.{Turning}
-use Rattle.meanings.specs.Calls.{advance_answer}
 use Rattle.meanings.specs.Claim.{NoEdgeBackAfter, accepted_after, window_direct, log_after_steps, refusal}
 use Rattle.meanings.specs.EventLog.{insertion_count, eviction_count}
 use Rattle.meanings.specs.Limits.{full, max_u16, row_width}
@@ -58,7 +57,7 @@ turn_conditions ts vs left right h = series_conditions full ts vs (record_condit
 -- calls of the step and the turn over the same readings, each with the record held after the one before: from the record r to r'
 pub data Motions (ts vs : List ℕ) : RunningSums → List Motion → RunningSums → Type 0 where
   no_motion : {r : RunningSums} → Motions ts vs r [] r
-  one_step : {r r' : RunningSums} {ms : List Motion} (m : Move) (a : Advance) → AdvanceCall r ts vs m.point m.bandwidth a
+  one_step : {r r' : RunningSums} {ms : List Motion} (m : Move) (a : Result RunningSums Refusal) → AdvanceCall r ts vs m.point m.bandwidth a
       → Motions ts vs (held r a) ms r' → Motions ts vs r (step m ∷ ms) r'
   one_turn : {r r' : RunningSums} {ms : List Motion} (m : Move) (t : Turning) → TurnCall r ts vs m.point m.bandwidth t
       → Motions ts vs t.running ms r' → Motions ts vs r (turn m ∷ ms) r'
@@ -99,24 +98,24 @@ pub record Turns : Type 2 where
       → Direct ts vs (record_of xs)
   -- an accepted turn of such a record stands on its window with the sums over it, as a fresh record does that is moved there; passes aside
   pub turn_lands : (ts vs : List ℕ) (r : RunningSums) (ms : List Motion) (z h : ℕ) (t : Turning) → AtMost max_u16 ts → AtMost max_u16 vs
-      → Motions ts vs fresh ms r → TurnCall r ts vs z h t → verdict_fault t.verdict ≡ none
+      → Motions ts vs fresh ms r → TurnCall r ts vs z h t → verdict_fault t.verdict ≡ None
       → OnWindow ts vs z h t.running × AlikeButPasses t.running (moved ts vs fresh z h)
   pub exported_turn_lands : (ts vs xs : List ℕ) (ms : List Motion) (z h c : ℕ) (xs' : List ℕ) → AtMost max_u16 ts → AtMost max_u16 vs
-      → ExportedMotions ts vs zeros ms xs → ExportedTurn xs ts vs z h c xs' → code_refusal c ≡ none
+      → ExportedMotions ts vs zeros ms xs → ExportedTurn xs ts vs z h c xs' → code_refusal c ≡ None
       → OnWindow ts vs z h (record_of xs') × AlikeButPasses (record_of xs') (moved ts vs fresh z h)
   -- and its row at that mark is the row of the question there
-  pub turn_row : (ts vs : List ℕ) (r : RunningSums) (ms : List Motion) (z h : ℕ) (t : Turning) (a : Evaluation) (e : Estimate) → AtMost max_u16 ts
-      → AtMost max_u16 vs → Motions ts vs fresh ms r → TurnCall r ts vs z h t → verdict_fault t.verdict ≡ none → EvaluateCall ts vs z h a
-      → RecordRowCall t.running z h e → a ≡ Row e
+  pub turn_row : (ts vs : List ℕ) (r : RunningSums) (ms : List Motion) (z h : ℕ) (t : Turning) (a : Result Estimate Refusal) (e : Estimate) → AtMost max_u16 ts
+      → AtMost max_u16 vs → Motions ts vs fresh ms r → TurnCall r ts vs z h t → verdict_fault t.verdict ≡ None → EvaluateCall ts vs z h a
+      → RecordRowCall t.running z h e → a ≡ Ok e
   pub exported_turn_row : (ts vs xs : List ℕ) (ms : List Motion) (z h c₀ : ℕ) (xs' row₁ : List ℕ) (c₁ : ℕ) (row₁' row : List ℕ) (c : ℕ) (row' : List ℕ)
-      → AtMost max_u16 ts → AtMost max_u16 vs → ExportedMotions ts vs zeros ms xs → ExportedTurn xs ts vs z h c₀ xs' → code_refusal c₀ ≡ none
+      → AtMost max_u16 ts → AtMost max_u16 vs → ExportedMotions ts vs zeros ms xs → ExportedTurn xs ts vs z h c₀ xs' → code_refusal c₀ ≡ None
       → length row₁ ≡ row_width → length row ≡ row_width → ExportedEvaluate ts vs z h row₁ c₁ row₁' → ExportedRecordRow xs' z h row c row'
       → (c₁ ≡ 0) × (c ≡ 0) × (row' ≡ row₁')
   -- an accepted turn of the nine numbers answers 0
-  pub exported_turn_accepted : (xs ts vs : List ℕ) (z h c : ℕ) (xs' : List ℕ) → ExportedTurn xs ts vs z h c xs' → code_refusal c ≡ none → c ≡ 0
+  pub exported_turn_accepted : (xs ts vs : List ℕ) (z h c : ℕ) (xs' : List ℕ) → ExportedTurn xs ts vs z h c xs' → code_refusal c ≡ None → c ≡ 0
   -- passes influence nothing else: on records that differ in them alone the same call answers the same report, and leaves records that differ so
-  pub step_ignores_passes : (r s : RunningSums) (ts vs : List ℕ) (z h : ℕ) (a b : Advance) → AlikeButPasses r s → AdvanceCall r ts vs z h a
-      → AdvanceCall s ts vs z h b → (refusal (advance_answer a) ≡ refusal (advance_answer b)) × AlikeButPasses (held r a) (held s b)
+  pub step_ignores_passes : (r s : RunningSums) (ts vs : List ℕ) (z h : ℕ) (a b : Result RunningSums Refusal) → AlikeButPasses r s → AdvanceCall r ts vs z h a
+      → AdvanceCall s ts vs z h b → (refusal (answer_of a) ≡ refusal (answer_of b)) × AlikeButPasses (held r a) (held s b)
   pub turn_ignores_passes : (r s : RunningSums) (ts vs : List ℕ) (z h : ℕ) (t u : Turning) → AlikeButPasses r s → TurnCall r ts vs z h t
       → TurnCall s ts vs z h u → (verdict_fault t.verdict ≡ verdict_fault u.verdict) × AlikeButPasses t.running u.running
   pub exported_step_ignores_passes : (xs ys ts vs : List ℕ) (z h c d : ℕ) (xs' ys' : List ℕ) → length xs ≡ record_length → length ys ≡ record_length
@@ -127,12 +126,12 @@ pub record Turns : Type 2 where
       → (c ≡ d) × AlikeButPasses (record_of xs') (record_of ys')
   -- so steps behind an accepted turn, with no edge back from it on, keep demand 3's sums
   pub steps_behind_turn : (ts vs : List ℕ) (r r' : RunningSums) (ms : List Motion) (m : Move) (t : Turning) (ns : List Move) → AtMost max_u16 ts
-      → AtMost max_u16 vs → Motions ts vs fresh ms r → TurnCall r ts vs m.point m.bandwidth t → verdict_fault t.verdict ≡ none
-      → Steps ts vs t.running ns r' → NoEdgeBackAfter ts vs (some m) ns → r'.sums ≡ window_direct ts vs (accepted_after ts vs (some m) ns)
+      → AtMost max_u16 vs → Motions ts vs fresh ms r → TurnCall r ts vs m.point m.bandwidth t → verdict_fault t.verdict ≡ None
+      → Steps ts vs t.running ns r' → NoEdgeBackAfter ts vs (Some m) ns → r'.sums ≡ window_direct ts vs (accepted_after ts vs (Some m) ns)
   pub exported_steps_behind_turn : (ts vs xs xs' xs'' : List ℕ) (ms : List Motion) (m : Move) (c : ℕ) (ns : List Move) → AtMost max_u16 ts
-      → AtMost max_u16 vs → ExportedMotions ts vs zeros ms xs → ExportedTurn xs ts vs m.point m.bandwidth c xs' → code_refusal c ≡ none
-      → ExportedSteps ts vs xs' ns xs'' → NoEdgeBackAfter ts vs (some m) ns
-      → (record_of xs'').sums ≡ window_direct ts vs (accepted_after ts vs (some m) ns)
+      → AtMost max_u16 vs → ExportedMotions ts vs zeros ms xs → ExportedTurn xs ts vs m.point m.bandwidth c xs' → code_refusal c ≡ None
+      → ExportedSteps ts vs xs' ns xs'' → NoEdgeBackAfter ts vs (Some m) ns
+      → (record_of xs'').sums ≡ window_direct ts vs (accepted_after ts vs (Some m) ns)
   -- steps alone from fresh count each edge's way once: right plus left, the positions passed, at most two for each reading
   pub steps_count_once : (ts vs : List ℕ) (r : RunningSums) (ms : List Move) → Steps ts vs fresh ms r
       → CountedOnce ts r × (r.passes ≡ passes ts vs fresh ms)

@@ -7,7 +7,7 @@ use Rattle.meanings.specs.declared.PowerSums.{PowerSums}
 use Rattle.meanings.specs.declared.RunningSums.{RunningSums}
 use Rattle.meanings.specs.Lists.{distance}
 use Rattle.meanings.specs.Running.{six, sum_at, plus, minus, power_sum, new_left, new_sums, new_passes, moved_to, moved}
-use Rattle.arithmetic.proofs.Wrapping.{plus_plus}
+use Rattle.arithmetic.specs.Wrapping.{plus_plus}
 use Rattle.estimator.specs.Rows.{RunJoined, FoundFrom}
 use Rattle.estimator.proofs.Searches.{right_is_new, left_is_new}
 

@@ -1,6 +1,6 @@
 -- The searches by a least minute are the meaning's searches: over the right edge is at least z + h + 1, and not under the left edge is at
--- least z − h, or 0 where that is negative. For ordered minutes they find the row's edges.
-use Prim.Native.Nat.{ℕ, ◌+◌, ◌-◌, ◌≤◌, zero-le}
+-- least z − h, or 0 where that is negative.
+use Prim.Native.Nat.{ℕ, ◌+◌, ◌-◌, ◌≤◌}
 use mathlib.Core.Path.{◌≡◌, refl, ap, ◌∙◌, fun_ext}
 use mathlib.Core.Bool.{Bool, true, false}
 use mathlib.Core.List.{List}
@@ -10,11 +10,11 @@ use borrow.Author.Tests.{leb-true, leb-false, le-leb, lt-leb}
 use lib.Dec.{leb}
 use lib.ListN.{length, get_or}
 use Rattle.meanings.specs.Lists.{first, Ordered}
-use Rattle.meanings.specs.Estimate.{right_of}
 use Rattle.meanings.specs.Running.{new_right, new_left}
 use Rattle.meanings.proofs.Checks.{AdvanceAccepted}
 use Rattle.meanings.proofs.Search.{first_is_first}
-use Rattle.meanings.proofs.Steps.{right_found, left_found}
+use Rattle.arithmetic_values.specs.Positions.{FirstAtLeast}
+use Rattle.arithmetic_values.proofs.Edges.{stands_at_right, stands_at_left}
 use Rattle.estimator.specs.Rows.{Within, RunWithin, FoundFrom, IsSpan}
 
 not_under : (z h t : ℕ) → leb (z - h) t ≡ leb z (t + h)
@@ -27,9 +27,6 @@ not_under z h t = by (leb z (t + h)) refl
 -- whatever is searched for, what is found lies where the search went
 found_within : {ts : List ℕ} {a b m r : ℕ} → FoundFrom ts a b m r → a ≤ b → (a ≤ r) × (r ≤ b)
 found_within {ts} {a} {b} {m} f l = let w = first_is_first (λ i. leb m (get_or ts i 0)) a (b - a) in omega (arith, f.found, w.from, w.upto)
-
-pub found_from_start : {ts : List ℕ} {m r : ℕ} → FoundFrom ts 0 (length ts) m r → Within ts 0 r
-found_from_start f = record { ordered = zero-le; inside = (found_within f zero-le).1 }
 
 pub run_within : {ts vs : List ℕ} {a b : ℕ} → length ts ≡ length vs → a ≤ b → b ≤ length ts → RunWithin ts vs a b
 run_within e l m = record { minutes = record { ordered = l; inside = m }; values = record { ordered = l; inside = omega arith } }
@@ -44,16 +41,10 @@ module _ {ts : List ℕ} (z h : ℕ) where
       ∙ ap (λ (m : ℕ). first (λ i. leb m (get_or ts i 0)) a (r - a)) e
       ∙ ap (λ (p : ℕ → Bool). first p a (r - a)) (fun_ext (λ i. not_under z h (get_or ts i 0)))
 
--- from the start both searches find the row's edges
-pub span_found : {ts : List ℕ} {z h right low left : ℕ} → Ordered ts → FoundFrom ts 0 (length ts) (z + h + 1) right → low ≡ z - h
-    → FoundFrom ts 0 right low left → IsSpan ts z h (record { left = left; right = right })
-span_found {ts} {z} {h} {right} o f e g = record {
-  left_is = left_is_new z h e g ∙ ap (λ (r : ℕ). new_left ts 0 r z h) here ∙ left_found ts z h o 0 zero-le;
-  right_is = here;
-}
-  where
-    here : right ≡ right_of ts z h
-    here = right_is_new z h f ∙ right_found ts z h o 0 zero-le
+-- among ordered minutes the library's search finds the row's edges
+pub span_found : {ts : List ℕ} {z h right low left : ℕ} → Ordered ts → FirstAtLeast ts (z + h + 1) right → low ≡ z - h → FirstAtLeast ts low left
+    → IsSpan ts z h (record { left = left; right = right })
+span_found {ts} {z} {h} o f e g = record { left_is = stands_at_left z h o e g; right_is = stands_at_right z h o f }
 
 -- a step's runs lie within the readings, whatever record came in
 module _ {ts vs : List ℕ} {l₀ r₀ h m right : ℕ} (a : AdvanceAccepted ts vs l₀ r₀ h) (f : FoundFrom ts r₀ (length ts) m right) where

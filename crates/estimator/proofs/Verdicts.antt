@@ -1,6 +1,7 @@
 -- What a check of the code finds is what the call is refused for; where it finds nothing the lists are accepted, and
 -- what the code then makes is the call's answer.
 use Prim.Native.Nat.{ℕ, ◌+◌, ◌-◌, ◌*◌, ◌^◌, ◌≤◌, ◌<◌}
+use Rattle.std.specs.Prelude.{Result, Ok, Err}
 use mathlib.Core.Path.{◌≡◌, sym, ap, ◌∙◌}
 use mathlib.Core.List.{List, []}
 use native.Mathlib.Omega.{arith}
@@ -9,8 +10,6 @@ use Rattle.meanings.specs.declared.Estimate.{Estimate}
 use Rattle.meanings.specs.declared.Limits.{Limits}
 use Rattle.meanings.specs.declared.Refusal.{Refusal}
 use Rattle.meanings.specs.declared.RunningSums.{RunningSums}
-use Rattle.meanings.specs.declared.Verdict.{Verdict}
-use Rattle.meanings.specs.declared.Verdict.TheVariants.{Fit, Faulty}
 use Rattle.meanings.specs.Limits.{full}
 use Rattle.meanings.specs.Lists.{Ordered}
 use Rattle.meanings.specs.Reports.{Check, given, refused, fault_of, verdict_fault, first_of, evaluate_checks, advance_checks}
@@ -23,41 +22,37 @@ use Rattle.estimator.specs.declared.point.Span.{Span}
 use Rattle.estimator.specs.Rows.{Judged, IsSpan}
 
 -- the call's refusal, by what the check found
-found : (checks : Limits → List Check) {L : Limits} {v w : Verdict} → L ≡ full → verdict_fault v ≡ first_of (checks L) → v ≡ w
+found : (checks : Limits → List Check) {L : Limits} {v w : Result Unit Refusal} → L ≡ full → verdict_fault v ≡ first_of (checks L) → v ≡ w
     → first_of (checks full) ≡ verdict_fault w
 found checks l f q = sym (ap verdict_fault (sym q) ∙ f ∙ ap (λ (M : Limits). first_of (checks M)) l)
 
-pub judged_so : (ts vs : List ℕ) (h : ℕ) {L : Limits} {v : Verdict} → L ≡ full → verdict_fault v ≡ first_of (evaluate_checks L ts vs h)
-    → Judged ts vs h v
-judged_so ts vs h l f = record { refusal = f ∙ ap (λ (M : Limits). first_of (evaluate_checks M ts vs h)) l }
-
-module _ {ts vs : List ℕ} {h : ℕ} {v : Verdict} (j : Judged ts vs h v) where
-  refusal_is : {w : Verdict} → v ≡ w → first_of (evaluate_checks full ts vs h) ≡ verdict_fault w
+module _ {ts vs : List ℕ} {h : ℕ} {v : Result Unit Refusal} (j : Judged ts vs h v) where
+  refusal_is : {w : Result Unit Refusal} → v ≡ w → first_of (evaluate_checks full ts vs h) ≡ verdict_fault w
   refusal_is q = sym (ap verdict_fault (sym q) ∙ j.refusal)
 
-  pub evaluate_accepted : v ≡ Fit → EvaluateAccepted ts vs h
+  pub evaluate_accepted : {unit : Unit {0}} → v ≡ Ok unit → EvaluateAccepted ts vs h
   evaluate_accepted q = evaluate_accepts full (same_limits full) ts vs h (refusal_is q)
 
-  pub accepted_ordered : v ≡ Fit → Ordered ts
+  pub accepted_ordered : {unit : Unit {0}} → v ≡ Ok unit → Ordered ts
   accepted_ordered q = (evaluate_accepted q).ordered
 
-  pub evaluate_refused : (z : ℕ) {e : Refusal} → v ≡ Faulty e → refused (fault_of e) ≡ evaluate full ts vs z h
+  pub evaluate_refused : (z : ℕ) {e : Refusal} → v ≡ Err e → refused (fault_of e) ≡ evaluate full ts vs z h
   unfolding evaluate
   evaluate_refused z q = rw (refusal_is q)
 
-  pub evaluate_given : (z : ℕ) {r : Estimate} → v ≡ Fit → r ≡ estimate ts vs z h → given r ≡ evaluate full ts vs z h
+  pub evaluate_given : (z : ℕ) {r : Estimate} → {unit : Unit {0}} → v ≡ Ok unit → r ≡ estimate ts vs z h → given r ≡ evaluate full ts vs z h
   unfolding evaluate
   evaluate_given z q e = rw (refusal_is q) (ap given e)
 
-  pub window_refused : (z : ℕ) {e : Refusal} → v ≡ Faulty e → [] ≡ window full ts vs z h
+  pub window_refused : (z : ℕ) {e : Refusal} → v ≡ Err e → [] ≡ window full ts vs z h
   unfolding window
   window_refused z q = rw (refusal_is q)
 
-  pub start_refused : (z p : ℕ) {e : Refusal} → v ≡ Faulty e → 0 * 2 + p ≡ p + window_start full ts vs z h * 2
+  pub start_refused : (z p : ℕ) {e : Refusal} → v ≡ Err e → 0 * 2 + p ≡ p + window_start full ts vs z h * 2
   unfolding window_start
   start_refused z p q = rw (refusal_is q) (omega arith)
 
-  module _ (q : v ≡ Fit) {z : ℕ} {s : Span} (i : IsSpan ts z h s) where
+  module _ {unit : Unit {0}} (q : v ≡ Ok unit) {z : ℕ} {s : Span} (i : IsSpan ts z h s) where
     pub span_ordered : s.left ≤ s.right
     span_ordered = omega (arith, i.left_is, i.right_is, left_at_most_right ts z h)
 
@@ -75,18 +70,18 @@ module _ {ts vs : List ℕ} {h : ℕ} {v : Verdict} (j : Judged ts vs h v) where
     unfolding window_start
     start_given p = rw (refusal_is q, i.left_is) (omega arith)
 
-module _ (ts vs : List ℕ) (r : RunningSums) (h : ℕ) {L : Limits} {v : Verdict} (l : L ≡ full)
+module _ (ts vs : List ℕ) (r : RunningSums) (h : ℕ) {L : Limits} {v : Result Unit Refusal} (l : L ≡ full)
     (f : verdict_fault v ≡ first_of (advance_checks L ts vs r.left r.right h)) where
-  of_advance : {w : Verdict} → v ≡ w → first_of (advance_checks full ts vs r.left r.right h) ≡ verdict_fault w
+  of_advance : {w : Result Unit Refusal} → v ≡ w → first_of (advance_checks full ts vs r.left r.right h) ≡ verdict_fault w
   of_advance = found (λ M. advance_checks M ts vs r.left r.right h) l f
 
-  pub step_accepted : v ≡ Fit → AdvanceAccepted ts vs r.left r.right h
+  pub step_accepted : {unit : Unit {0}} → v ≡ Ok unit → AdvanceAccepted ts vs r.left r.right h
   step_accepted q = advance_accepts full (same_limits full) ts vs r.left r.right h (of_advance q)
 
-  pub advance_refused : (z : ℕ) {e : Refusal} → v ≡ Faulty e → refused (fault_of e) ≡ advance ts vs r z h
+  pub advance_refused : (z : ℕ) {e : Refusal} → v ≡ Err e → refused (fault_of e) ≡ advance ts vs r z h
   unfolding advance
   advance_refused z q = rw (of_advance q)
 
-  pub advance_given : (z : ℕ) {r' : RunningSums} → v ≡ Fit → r' ≡ moved ts vs r z h → given r' ≡ advance ts vs r z h
+  pub advance_given : (z : ℕ) {r' : RunningSums} → {unit : Unit {0}} → v ≡ Ok unit → r' ≡ moved ts vs r z h → given r' ≡ advance ts vs r z h
   unfolding advance
   advance_given z q e = rw (of_advance q) (ap given e)

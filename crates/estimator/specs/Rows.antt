@@ -1,7 +1,8 @@
 -- What the estimator's own functions ask and say: verdicts, searches, spans and six sums.
 use Rattle.std.specs.Prelude.{ℕ, ◌-◌, ◌≤◌, ◌≡◌, List, leb, length, get_or}
+use Rattle.std.specs.Prelude.{Result}
+use Rattle.meanings.specs.declared.Refusal.{Refusal}
 use Rattle.meanings.specs.declared.PowerSums.{PowerSums}
-use Rattle.meanings.specs.declared.Verdict.{Verdict}
 use Rattle.meanings.specs.Limits.{full}
 use Rattle.meanings.specs.Lists.{first}
 use Rattle.meanings.specs.Reports.{verdict_fault}
@@ -11,7 +12,7 @@ use Rattle.meanings.specs.Estimate.{left_of, right_of}
 use Rattle.estimator.specs.declared.point.Span.{Span}
 
 -- v is what the question at one mark is refused for
-pub record Judged (ts vs : List ℕ) (h : ℕ) (v : Verdict) : Type 0 where
+pub record Judged (ts vs : List ℕ) (h : ℕ) (v : Result Unit Refusal) : Type 0 where
   pub refusal : verdict_fault v ≡ evaluate_refusal full ts vs h
 
 -- positions from a up to b of one list, or of two

@@ -6,12 +6,10 @@ pub(crate) fn first_from(minutes: &[u16], from: usize, to: usize, bound: u64) ->
     requires { Within minutes.now from to }
     ensures { FoundFrom minutes.now from to bound result }
 {
-    let mut i = from;
-    while i < to {
+    for i in from..to {
         if bound <= minutes[i] as u64 {
             return i;
         }
-        i += 1;
     }
     to
 }

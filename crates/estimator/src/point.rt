@@ -5,10 +5,9 @@ ghost use Rattle.meanings.specs.Estimate.{estimate};
 ghost use Rattle.meanings.proofs.Checks.{EvaluateAccepted};
 ghost use Rattle.estimator.specs.Rows.{IsSpan};
 
-use crate::edges::first_from;
-use crate::sums::with_run;
-use arithmetic::zero_sums;
-use arithmetic_values::lowest_minute;
+use crate::sums::run_changed;
+use arithmetic::{Plus, zero_sums};
+use arithmetic_values::{first_at_least, lowest_minute};
 use meanings::{Estimate, RunningSums};
 use row::record_row;
 
@@ -24,9 +23,8 @@ pub(crate) fn span_at(minutes: &[u16], point: u16, bandwidth: u32) -> Span
     ensures { IsSpan minutes.now point bandwidth result }
 {
     let over = point as u64 + bandwidth as u64 + 1;
-    let right = first_from(minutes, 0, minutes.len(), over);
-    let low = lowest_minute(point, bandwidth);
-    let left = first_from(minutes, 0, right, low);
+    let right = first_at_least(minutes, over);
+    let left = first_at_least(minutes, lowest_minute(point, bandwidth));
     Span { left, right }
 }
 
@@ -35,7 +33,7 @@ pub(crate) fn estimate_at(minutes: &[u16], values: &[u16], point: u16, bandwidth
     ensures { result ≡ estimate minutes.now values.now point bandwidth }
 {
     let span = span_at(minutes, point, bandwidth);
-    let sums = with_run(zero_sums(), minutes, values, span.left, span.right);
+    let sums = run_changed::<Plus>(zero_sums(), minutes, values, span.left, span.right);
     let window = RunningSums {
         left: span.left,
         right: span.right,

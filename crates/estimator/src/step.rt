@@ -1,11 +1,12 @@
 // One step of a running record: the right edge moves on, then the left one, up to the new right.
+// Beside `stepping_fused`: a step that two calls share the compiler keeps out of the sweep's loop, 269,137 instructions for 211,372 (docs/FIGURES.md).
 ghost use Rattle.std.specs.Prelude.{◌≡◌};
 ghost use Rattle.meanings.specs.Running.{moved as moved_meaning};
 ghost use Rattle.meanings.proofs.Checks.{AdvanceAccepted};
 
 use crate::edges::first_from;
-use crate::sums::{with_run, without_run};
-use arithmetic::plus_travel;
+use crate::sums::run_changed;
+use arithmetic::{Minus, Plus, plus_travel};
 use arithmetic_values::lowest_minute;
 use meanings::RunningSums;
 
@@ -23,9 +24,8 @@ pub(crate) fn moved(
     let right = first_from(minutes, running.right, minutes.len(), over);
     let low = lowest_minute(point, bandwidth);
     let left = first_from(minutes, running.left, right, low);
-    let sums = running.sums;
-    let taken = with_run(sums, minutes, values, running.right, right);
-    let sums = without_run(taken, minutes, values, running.left, left);
+    let taken = run_changed::<Plus>(running.sums, minutes, values, running.right, right);
+    let sums = run_changed::<Minus>(taken, minutes, values, running.left, left);
     let passes = plus_travel(running.passes, running.left, left);
     let passes = plus_travel(passes, running.right, right);
     RunningSums {

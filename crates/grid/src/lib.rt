@@ -2,13 +2,14 @@
 #![tactic(auto)]
 
 ghost use Rattle.std.specs.Prelude.{◌≡◌, ◌+◌, ◌-◌, ◌*◌, ◌≤◌, ◌<◌, length, get_or, replicate};
+ghost use Rattle.meanings.specs.Calls.{answer_of};
 ghost use Rattle.meanings.specs.Limits.{full as full_limits, max_u16};
 ghost use Rattle.meanings.specs.Grid.{presets, grid};
-ghost use Rattle.meanings.specs.Calls.{filling_answer, fill, fill_points, fill_bandwidths};
+ghost use Rattle.meanings.specs.Calls.{fill, fill_points, fill_bandwidths};
 
 use checks::full;
 use checks_grid::fill_fault;
-use meanings::{Filling, Verdict};
+use meanings::Refusal;
 
 // The bandwidth presets, by position.
 const PRESETS: [u32; 12] = [30, 45, 60, 90, 120, 180, 240, 360, 480, 720, 1080, 1440];
@@ -22,14 +23,13 @@ pub(crate) fn preset_bandwidth(preset: u32) -> u32
 }
 
 // Stores mark k as first + k × spacing, for every k.
+#[tactic(auto, using(crate::proofs::Fills::point_fits, crate::proofs::Fills::points_go_on, crate::proofs::Fills::points_end))]
 pub(crate) fn put_points(points: &mut [u16], first: u16, spacing: u16)
     requires { (length points.old ≤ 512) × (first + (length points.old - 1) * spacing ≤ max_u16) }
     ensures { points.new ≡ grid first spacing (length points.old) }
 {
-    let mut k = 0;
-    while k < points.len() {
-        points[k] = (first as usize + k * spacing as usize) as u16;
-        k += 1;
+    for (k, point) in points.iter_mut().enumerate() {
+        *point = (first as usize + k * spacing as usize) as u16;
     }
 }
 
@@ -37,38 +37,31 @@ pub(crate) fn put_points(points: &mut [u16], first: u16, spacing: u16)
 pub(crate) fn put_bandwidths(bandwidths: &mut [u32], bandwidth: u32)
     ensures { bandwidths.new ≡ replicate (length bandwidths.old) bandwidth }
 {
-    let mut k = 0;
-    while k < bandwidths.len() {
-        bandwidths[k] = bandwidth;
-        k += 1;
-    }
+    bandwidths.fill(bandwidth);
 }
 
 // The mark filler.
+#[tactic(auto, unfolding(meanings::specs::Calls::fill, meanings::specs::Calls::fill_points, meanings::specs::Calls::fill_bandwidths))]
 pub fn fill_grid(
     first: u16,
     spacing: u16,
     preset: u32,
     points: &mut [u16],
     bandwidths: &mut [u32],
-) -> Filling
-    ensures result_value { filling_answer result ≡ fill full_limits first spacing preset points.old bandwidths.old }
+) -> Result<(), Refusal>
+    ensures result_value { answer_of result ≡ fill full_limits first spacing preset points.old bandwidths.old }
     ensures points_after { points.new ≡ fill_points full_limits first spacing preset points.old bandwidths.old }
     ensures bandwidths_after { bandwidths.new ≡ fill_bandwidths full_limits first spacing preset points.old bandwidths.old }
 {
-    match fill_fault(
+    fill_fault(
         first,
         spacing,
         preset,
         points.len(),
         bandwidths.len(),
         full(),
-    ) {
-        Verdict::Faulty(refusal) => Filling::Refused(refusal),
-        Verdict::Fit => {
-            put_points(points, first, spacing);
-            put_bandwidths(bandwidths, preset_bandwidth(preset));
-            Filling::Filled
-        }
-    }
+    )?;
+    put_points(points, first, spacing);
+    put_bandwidths(bandwidths, preset_bandwidth(preset));
+    Ok(())
 }

@@ -4,7 +4,7 @@ use Prim.Native.Nat.{ℕ, ◌*◌, ◌≤◌, ◌<◌}
 use mathlib.Core.Path.{◌≡◌}
 use mathlib.Core.Bool.{Bool, false, ◌||◌}
 use mathlib.Core.List.{List, ◌++◌}
-use mathlib.Core.Option.{none}
+use Rattle.std.specs.Prelude.{None}
 use native.Mathlib.Omega.{arith}
 use borrow.Author.Tests.{ltb-false, eqb-false}
 use lib.Dec.{ltb, eqb}
@@ -17,7 +17,7 @@ use Rattle.meanings_boxes.specs.Boxes.{axis_bandwidth_checks, box_checks}
 use Rattle.laws_boxes.specs.Accepted.{BoxesAccepted}
 
 -- 9: each half width is from 1 to the direction's greatest
-pub bandwidths_within : (most : ℕ) (hs : List ℕ) → first_of (bandwidth_list_checks most hs) ≡ none → (k : ℕ) → k < length hs
+pub bandwidths_within : (most : ℕ) (hs : List ℕ) → first_of (bandwidth_list_checks most hs) ≡ None → (k : ℕ) → k < length hs
     → (0 < get_or hs k 0) × (get_or hs k 0 ≤ most)
 bandwidths_within most hs e k l =
     let f = lowest_none (outside_at most hs) (length hs) (none_holds (bandwidth_list_checks most hs) e).0 k l in
@@ -40,9 +40,9 @@ seven_false a b c d e f g q =
 
 module _ (A B : Axis) (vs : List ℕ) (b c s : ℕ) where
   -- the five parts of the checks
-  none_of_parts : first_of (box_checks A B vs b c s) ≡ none
-      → (first_of (box_size_checks box_limits A B vs b c s) ≡ none) × (first_of (point_order_checks A.points) ≡ none)
-      × (first_of (second_order_checks B.points) ≡ none) × (first_of (axis_bandwidth_checks A) ≡ none) × (first_of (axis_bandwidth_checks B) ≡ none)
+  none_of_parts : first_of (box_checks A B vs b c s) ≡ None
+      → (first_of (box_size_checks box_limits A B vs b c s) ≡ None) × (first_of (point_order_checks A.points) ≡ None)
+      × (first_of (second_order_checks B.points) ≡ None) × (first_of (axis_bandwidth_checks A) ≡ None) × (first_of (axis_bandwidth_checks B) ≡ None)
   none_of_parts e =
       let p = none_of_both (box_size_checks box_limits A B vs b c s)
       (point_order_checks A.points ++ second_order_checks B.points ++ axis_bandwidth_checks A ++ axis_bandwidth_checks B) e in
@@ -51,7 +51,7 @@ module _ (A B : Axis) (vs : List ℕ) (b c s : ℕ) where
       let t = none_of_both (axis_bandwidth_checks A) (axis_bandwidth_checks B) r.1 in
       (p.0, q.0, r.0, t.0, t.1)
 
-  pub boxes_accept : first_of (box_checks A B vs b c s) ≡ none → BoxesAccepted A B vs b c s
+  pub boxes_accept : first_of (box_checks A B vs b c s) ≡ None → BoxesAccepted A B vs b c s
   boxes_accept e =
       let p = none_of_parts e in
       let n = none_holds (box_size_checks box_limits A B vs b c s) p.0 in

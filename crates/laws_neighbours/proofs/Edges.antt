@@ -4,7 +4,7 @@ use Prim.Native.Nat.{ℕ, zero, suc, ◌+◌, ◌-◌, ◌≤◌, ◌<◌}
 use mathlib.Core.Path.{◌≡◌, refl, sym, ap, ◌∙◌}
 use mathlib.Core.Bool.{false}
 use mathlib.Core.List.{List, [], ◌∷◌, ◌++◌}
-use mathlib.Core.Option.{Option, none, some}
+use Rattle.std.specs.Prelude.{Option, None, Some}
 use native.Mathlib.Decide.{dec_lt}
 use native.Mathlib.Nat.{le_of_suc-le-suc, not-suc-le-zero}
 use native.Mathlib.Omega.{arith}
@@ -98,7 +98,7 @@ module _ (ts zs : List ℕ) (k : ℕ) (low : 1 ≤ k) (high : k ≤ length ts) w
       rw (bandwidth_at ts zs k i l, ne_eqb h 0 (λ e. omega arith), le-ltb max_bandwidth h (omega arith))
 
   -- reports 9 and 10 find nothing
-  pub windows_fit : AtMost max_u16 ts → AtMost max_u16 zs → Ordered zs → first_of (windows_checks zs (neighbour_bandwidths ts zs k)) ≡ none
+  pub windows_fit : AtMost max_u16 ts → AtMost max_u16 zs → Ordered zs → first_of (windows_checks zs (neighbour_bandwidths ts zs k)) ≡ None
   windows_fit minutes points o =
       let hs = neighbour_bandwidths ts zs k in
       rw (
@@ -113,21 +113,21 @@ HasNone n [] = Unit
 HasNone n (c ∷ cs) = ¬ (c.number ≡ n) × HasNone n cs
 
 abbrev number_or : ℕ → Option Fault → ℕ
-number_or n none = n
-number_or n (some f) = f.number
+number_or n None = n
+number_or n (Some f) = f.number
 
-fault_numbered : (n : ℕ) (cs : List Check) → HasNone n cs → (e : Fault) → first_of cs ≡ some e → ¬ (e.number ≡ n)
+fault_numbered : (n : ℕ) (cs : List Check) → HasNone n cs → (e : Fault) → first_of cs ≡ Some e → ¬ (e.number ≡ n)
 unfolding HasNone
 fault_numbered n [] h e q m = let z : ◌≡◌ {A = ℕ} 0 1 = cc in omega arith
 fault_numbered n (c ∷ cs) h e q m = by c.place q (fault_numbered n cs h.1 e)
   where
-    by : (p : Option ℕ) → fault_or c.number p (first_of cs) ≡ some e → (first_of cs ≡ some e → ¬ (e.number ≡ n)) → ⊥
-    by none r later = later r m
-    by (some p) r later = h.0 (ap (number_or c.number) r ∙ m)
+    by : (p : Option ℕ) → fault_or c.number p (first_of cs) ≡ Some e → (first_of cs ≡ Some e → ¬ (e.number ≡ n)) → ⊥
+    by None r later = later r m
+    by (Some p) r later = h.0 (ap (number_or c.number) r ∙ m)
 
-refused_fault : {A : Type 0} (f : Option Fault) (a : A) (e : Fault) → unless f a ≡ refused e → f ≡ some e
-refused_fault none a e q = let z : ◌≡◌ {A = ℕ} 0 1 = cc in absurd (omega arith)
-refused_fault (some f) a e q = cc
+refused_fault : {A : Type 0} (f : Option Fault) (a : A) (e : Fault) → unless f a ≡ refused e → f ≡ Some e
+refused_fault None a e q = let z : ◌≡◌ {A = ℕ} 0 1 = cc in absurd (omega arith)
+refused_fault (Some f) a e q = cc
 
 -- the sweep with these half widths is refused for lengths and order alone
 module _ (L : Limits) (ts vs zs rs : List ℕ) (k : ℕ) (minutes : AtMost max_u16 ts) (points : AtMost max_u16 zs) (low : 1 ≤ k) (high : k ≤ length ts)
@@ -140,19 +140,19 @@ module _ (L : Limits) (ts vs zs rs : List ℕ) (k : ℕ) (minutes : AtMost max_u
   unfolding smooth sizes
   not_numbered n s r e q = by (first_of sizes) refl (first_of (order_checks ts zs)) refl
     where
-      all : first_of (sizes ++ order_checks ts zs ++ windows_checks zs (neighbour_bandwidths ts zs k)) ≡ some e
+      all : first_of (sizes ++ order_checks ts zs ++ windows_checks zs (neighbour_bandwidths ts zs k)) ≡ Some e
       all = refused_fault _ (passes ts vs fresh (moves zs (neighbour_bandwidths ts zs k))) e q
 
       windows : List Check
       windows = windows_checks zs (neighbour_bandwidths ts zs k)
 
       by : (f : Option Fault) → first_of sizes ≡ f → (g : Option Fault) → first_of (order_checks ts zs) ≡ g → ¬ (e.number ≡ n)
-      by (some f) u g v = fault_numbered n sizes s e (u ∙ sym (first_of_front sizes (order_checks ts zs ++ windows) f u) ∙ all)
-      by none u (some g) v =
+      by (Some f) u g v = fault_numbered n sizes s e (u ∙ sym (first_of_front sizes (order_checks ts zs ++ windows) f u) ∙ all)
+      by None u (Some g) v =
           fault_numbered n (order_checks ts zs) r e
           (v ∙ sym (first_of_front (order_checks ts zs) windows g v) ∙ sym (first_of_rest sizes (order_checks ts zs ++ windows) u) ∙ all)
-      by none u none v =
-          let w : none ≡ some e =
+      by None u None v =
+          let w : None ≡ Some e =
           sym (windows_fit ts zs k low high minutes points o)
           ∙ sym (first_of_rest (order_checks ts zs) windows v)
           ∙ sym (first_of_rest sizes (order_checks ts zs ++ windows) u)

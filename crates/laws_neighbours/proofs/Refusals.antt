@@ -4,7 +4,7 @@ use Prim.Native.Nat.{ℕ, ◌*◌, ◌≤◌, ◌<◌}
 use mathlib.Core.Path.{◌≡◌, refl, ◌∙◌}
 use mathlib.Core.Bool.{Bool, true, false}
 use mathlib.Core.List.{List, ◌++◌}
-use mathlib.Core.Option.{none}
+use Rattle.std.specs.Prelude.{None}
 use native.Mathlib.Omega.{arith}
 use borrow.Author.Tests.{ltb-false, eqb-false, ne_eqb, le-ltb}
 use lib.Dec.{ltb, eqb}
@@ -53,15 +53,15 @@ pub record NeighboursAccepted (ts vs zs : List ℕ) (k : ℕ) (hs : List ℕ) (r
 
 module _ (L : Limits) (ts vs zs : List ℕ) (k : ℕ) (hs : List ℕ) where
   -- the three parts of the checks
-  none_of_parts : (rows : ℕ) → first_of (neighbours_checks L ts vs zs k hs rows) ≡ none
-      → (first_of (curve_size_checks L ts vs zs hs (uneven_rows row_width rows (length zs))) ≡ none)
-      × (first_of (order_checks ts zs) ≡ none) × (first_of (too_few_checks (length ts) k) ≡ none)
+  none_of_parts : (rows : ℕ) → first_of (neighbours_checks L ts vs zs k hs rows) ≡ None
+      → (first_of (curve_size_checks L ts vs zs hs (uneven_rows row_width rows (length zs))) ≡ None)
+      × (first_of (order_checks ts zs) ≡ None) × (first_of (too_few_checks (length ts) k) ≡ None)
   none_of_parts rows e =
       let a = none_of_both (curve_size_checks L ts vs zs hs (uneven_rows row_width rows (length zs))) (order_checks ts zs ++ too_few_checks (length ts) k) e in
       let b = none_of_both (order_checks ts zs) (too_few_checks (length ts) k) a.1 in
       (a.0, b.0, b.1)
 
-  pub neighbours_accepts : LimitsWithin L full → (rows : ℕ) → first_of (neighbours_checks L ts vs zs k hs rows) ≡ none
+  pub neighbours_accepts : LimitsWithin L full → (rows : ℕ) → first_of (neighbours_checks L ts vs zs k hs rows) ≡ None
       → NeighboursAccepted ts vs zs k hs rows
   neighbours_accepts w rows e =
       let a = none_of_parts rows e in
@@ -82,8 +82,8 @@ module _ (L : Limits) (ts vs zs : List ℕ) (k : ℕ) (hs : List ℕ) where
       }
 
   -- a sweep with the new half widths accepts what the call accepts
-  pub sweep_accepts : (rs : List ℕ) → AtMost max_u16 ts → AtMost max_u16 zs → neighbours_refusal L ts vs zs k hs rs ≡ none
-      → smooth_refusal L ts vs zs (neighbour_bandwidths ts zs k) rs ≡ none
+  pub sweep_accepts : (rs : List ℕ) → AtMost max_u16 ts → AtMost max_u16 zs → neighbours_refusal L ts vs zs k hs rs ≡ None
+      → smooth_refusal L ts vs zs (neighbour_bandwidths ts zs k) rs ≡ None
   sweep_accepts rs minutes points e =
       let a = none_of_parts (length rs) e in
       let nb = neighbour_bandwidths ts zs k in
@@ -92,7 +92,7 @@ module _ (L : Limits) (ts vs zs : List ℕ) (k : ℕ) (hs : List ℕ) where
       let o = none_of_both (sample_order_checks ts) (point_order_checks zs) a.1 in
       let t = enough (length ts) k (at_none 0 _ (none_holds (too_few_checks (length ts) k) a.2).0) in
       let same : length nb ≡ length hs = bandwidths_length ts zs k ∙ s.even_points in
-      let sizes : first_of (curve_size_checks L ts vs zs nb more) ≡ none = rw same a.0 in
+      let sizes : first_of (curve_size_checks L ts vs zs nb more) ≡ None = rw same a.0 in
       let windows = windows_fit ts zs k t.0 t.1 minutes points (no_decrease_ordered zs (none_holds (point_order_checks zs) o.1).0) in
       first_of_rest (curve_size_checks L ts vs zs nb more) (order_checks ts zs ++ windows_checks zs nb) sizes
       ∙ first_of_rest (order_checks ts zs) (windows_checks zs nb) a.1
@@ -100,8 +100,8 @@ module _ (L : Limits) (ts vs zs : List ℕ) (k : ℕ) (hs : List ℕ) where
 
 -- lists that pass 8, 6, 7, 4, 5
 module _ (L : Limits) (ts vs zs : List ℕ) (k : ℕ) (hs rs : List ℕ)
-    (fit : first_of (curve_size_checks L ts vs zs hs (uneven_rows row_width (length rs) (length zs))) ≡ none)
-    (order : first_of (order_checks ts zs) ≡ none) where
+    (fit : first_of (curve_size_checks L ts vs zs hs (uneven_rows row_width (length rs) (length zs))) ≡ None)
+    (order : first_of (order_checks ts zs) ≡ None) where
   decided : neighbours_refusal L ts vs zs k hs rs ≡ first_of (too_few_checks (length ts) k)
   decided =
       first_of_rest (curve_size_checks L ts vs zs hs (uneven_rows row_width (length rs) (length zs)))

@@ -4,7 +4,7 @@ use Prim.Native.Nat.{ℕ, zero, suc, ◌+◌, ◌≤◌, ◌<◌}
 use mathlib.Core.Path.{◌≡◌, refl, ap, ◌∙◌}
 use mathlib.Core.Bool.{Bool, true, false}
 use mathlib.Core.List.{List, [], ◌∷◌, ◌++◌}
-use mathlib.Core.Option.{Option, none, some}
+use Rattle.std.specs.Prelude.{Option, None, Some}
 use native.Mathlib.Nat.{le_of_suc-le-suc, not-suc-le-zero, eq-or-lt_of_le}
 use mathlib.Core.Logic.{◌⊎◌, inl, inr}
 use native.Mathlib.Omega.{arith}
@@ -55,7 +55,7 @@ unfolding weight_of
 near_weighs ts z h o i l near =
     let all = total_is_over_run (λ j. kernel z h (get_or ts j 0)) ts z h o (λ j. outside_is_zero z h (get_or ts j 0)) in
     let one = term_at_most_total (λ j. kernel z h (get_or ts j 0)) (length ts) i l in
-    let some = (weighs_near z h (get_or ts i 0)).1 near in
+    let Some = (weighs_near z h (get_or ts i 0)).1 near in
     omega arith
 
 kth_weighs : (ts : List ℕ) (z k d : ℕ) → Ordered ts → 1 ≤ k → Kth ts z k d → 0 < weight_of ts z (d + 1)
@@ -120,5 +120,5 @@ module _ (ts vs vs' : List ℕ) (r : Rearranged ts vs vs') where
 
       by : (f : Option Fault) → neighbours_refusal L ts vs zs k hs rs ≡ f
           → accepted_or f (rows ts vs zs nb (length zs)) rs ≡ accepted_or f (rows ts vs' zs nb (length zs)) rs
-      by (some e) q = refl
-      by none q = same_rows (neighbours_accepts L ts vs zs k hs w (length rs) q).ordered zs nb (length zs)
+      by (Some e) q = refl
+      by None q = same_rows (neighbours_accepts L ts vs zs k hs w (length rs) q).ordered zs nb (length zs)

@@ -3,7 +3,7 @@ use Prim.Native.Nat.{ℕ, zero, suc, ◌*◌, ◌<◌}
 use mathlib.Core.Path.{◌≡◌, refl}
 use mathlib.Core.Bool.{false}
 use mathlib.Core.List.{List}
-use mathlib.Core.Option.{none}
+use Rattle.std.specs.Prelude.{None}
 use native.Mathlib.Omega.{arith}
 use borrow.Author.Tests.{le-ltb, ne_eqb}
 use lib.ListN.{length, get_or}
@@ -19,7 +19,7 @@ use Rattle.meanings.proofs.Checks.{differ_same}
 use Rattle.meanings.proofs.Search.{none_lowest}
 use Rattle.laws_output.proofs.AcceptedSheet.{AcceptedContents, accepted_contents}
 
-ordered_no_decrease : (xs : List ℕ) → Ordered xs → lowest (decreases xs) (length xs) ≡ none
+ordered_no_decrease : (xs : List ℕ) → Ordered xs → lowest (decreases xs) (length xs) ≡ None
 ordered_no_decrease xs o = none_lowest (decreases xs) (length xs) at
   where
     at : (k : ℕ) → k < length xs → decreases xs k ≡ false
@@ -27,7 +27,7 @@ ordered_no_decrease xs o = none_lowest (decreases xs) (length xs) at
     at (suc k) l = le-ltb (get_or xs (suc k) 0) (get_or xs k 0) (o k (suc k) (omega arith) l)
 
 no_bad_bandwidth : (c : Contents) → AcceptedContents c
-    → lowest (λ k. bad_bandwidth (get_or c.bandwidths k 0)) (length c.bandwidths) ≡ none
+    → lowest (λ k. bad_bandwidth (get_or c.bandwidths k 0)) (length c.bandwidths) ≡ None
 no_bad_bandwidth c a = none_lowest (λ k. bad_bandwidth (get_or c.bandwidths k 0)) (length c.bandwidths) at
   where
     at : (k : ℕ) → k < length c.bandwidths → bad_bandwidth (get_or c.bandwidths k 0) ≡ false
@@ -35,7 +35,7 @@ no_bad_bandwidth c a = none_lowest (λ k. bad_bandwidth (get_or c.bandwidths k 0
         let low = a.bandwidth_low k l in
         rw (ne_eqb (get_or c.bandwidths k 0) 0 (λ e. omega arith), le-ltb max_bandwidth (get_or c.bandwidths k 0) (a.bandwidth_high k l))
 
-no_edge_decreases : (c : Contents) → AcceptedContents c → lowest (edge_decreases c.points c.bandwidths) (length c.points) ≡ none
+no_edge_decreases : (c : Contents) → AcceptedContents c → lowest (edge_decreases c.points c.bandwidths) (length c.points) ≡ None
 no_edge_decreases c a = none_lowest (edge_decreases c.points c.bandwidths) (length c.points) at
   where
     at : (k : ℕ) → k < length c.points → edge_decreases c.points c.bandwidths k ≡ false
@@ -43,7 +43,7 @@ no_edge_decreases c a = none_lowest (edge_decreases c.points c.bandwidths) (leng
     at (suc k) l = rw (le-ltb _ _ (a.left_edges k l), le-ltb _ _ (a.right_edges k l))
 
 contents_are_swept : (c : Contents) → AcceptedContents c → (rs : List ℕ) → length rs ≡ row_width * length c.points
-    → smooth_refusal full c.minutes c.values c.points c.bandwidths rs ≡ none
+    → smooth_refusal full c.minutes c.values c.points c.bandwidths rs ≡ None
 contents_are_swept c a rs five =
     rw (
       differ_same _ _ a.even_samples,
@@ -59,7 +59,7 @@ contents_are_swept c a rs five =
     )
 
 module _ (s : List ℕ) (c : Contents) (e : read_sheet full s ≡ given c) (rs : List ℕ) (five : length rs ≡ row_width * length c.points) where
-  pub accepted_sheet_is_swept : smooth_refusal full c.minutes c.values c.points c.bandwidths rs ≡ none
+  pub accepted_sheet_is_swept : smooth_refusal full c.minutes c.values c.points c.bandwidths rs ≡ None
   accepted_sheet_is_swept = contents_are_swept c (accepted_contents s c e) rs five
 
   -- the sweep answers with its passes

@@ -1,11 +1,12 @@
 -- For fixed marks, "no higher" is the order of the two tanks' values by their first difference. So it is an order up to equal curves, and to
 -- exchange the tanks is to exchange the answer.
 use Prim.Native.Nat.{ℕ, ◌*◌, ◌<◌, zero-le}
+use Rattle.meanings_pair.specs.declared.Parting.{Parting}
 use mathlib.Core.Path.{◌≡◌, refl, sym, ap, ◌∙◌}
 use mathlib.Core.Logic.{◌⊎◌, inl, inr, ◌↔◌}
 use mathlib.Core.Bool.{true, false}
 use mathlib.Core.List.{List}
-use mathlib.Core.Option.{Option, none, some}
+use Rattle.std.specs.Prelude.{Option, None, Some}
 use native.Mathlib.Omega.{arith}
 use borrow.Author.Tests.{le-ltb, ne_eqb}
 use lib.ListN.{length, get_or, drop}
@@ -22,7 +23,7 @@ use Rattle.meanings.proofs.SmoothSteps.{none_of_three}
 use Rattle.meanings.proofs.SmoothRows.{row_at_point}
 use Rattle.meanings_pair.specs.declared.Tank.{Tank}
 use Rattle.meanings_pair.specs.declared.Tank.TheVariants.{First, Second}
-use Rattle.meanings_pair.specs.Comparison.{Parting, of_tank, unlike, unlike_at, parting_at, parted, tank_in, second_checks, compare_refusal, compare}
+use Rattle.meanings_pair.specs.Comparison.{of_tank, unlike, unlike_at, parting_at, parted, tank_in, second_checks, compare_refusal, compare}
 use Rattle.meanings_pair.specs.Order.{NoHigher, exchanged, SameValues, position_in, value_field, RowsPartAt}
 use Rattle.meanings_pair.proofs.Accepted.{PairAccepted, none_earned, pair_accepts}
 use Rattle.laws_pair.proofs.Ranks.{Ranked, row_ranked, first_by_number, second_by_number}
@@ -35,11 +36,11 @@ values_at ts vs zs hs k = (estimate ts vs (get_or zs k 0) (get_or hs k 0)).value
 
 -- a tank fit for the marks
 abbrev pub FitTank : Limits → List ℕ → List ℕ → List ℕ → List ℕ → Type 0
-FitTank L ts vs zs hs = first_of (curve_checks L ts vs zs hs false) ≡ none
+FitTank L ts vs zs hs = first_of (curve_checks L ts vs zs hs false) ≡ None
 
 module _ (L : Limits) (zs hs : List ℕ) where
   -- marks that are fit with one tank are fit with another whose own lists earn nothing
-  pub fit_by_own_lists : (ts vs us ws : List ℕ) → FitTank L ts vs zs hs → first_of (series_checks L us ws) ≡ none → FitTank L us ws zs hs
+  pub fit_by_own_lists : (ts vs us ws : List ℕ) → FitTank L ts vs zs hs → first_of (series_checks L us ws) ≡ None → FitTank L us ws zs hs
   fit_by_own_lists ts vs us ws f s =
       let a = none_of_three L ts vs zs hs false f in
       let z = curve_sizes_accept L ts vs zs hs false a.0 in
@@ -61,7 +62,7 @@ module _ (L : Limits) (zs hs : List ℕ) where
       )
 
   -- its own lists earn nothing where it is fit
-  pub own_lists_fit : (us ws : List ℕ) → FitTank L us ws zs hs → first_of (series_checks L us ws) ≡ none
+  pub own_lists_fit : (us ws : List ℕ) → FitTank L us ws zs hs → first_of (series_checks L us ws) ≡ None
   own_lists_fit us ws f =
       let a = none_of_three L us ws zs hs false f in
       let z = curve_sizes_accept L us ws zs hs false a.0 in
@@ -69,35 +70,35 @@ module _ (L : Limits) (zs hs : List ℕ) where
       rw (differ_same _ _ z.even, le-ltb _ _ z.few, ordered)
 
   -- the comparison refuses nothing exactly if both tanks are fit
-  pub both_fit : (ts vs us ws : List ℕ) → compare_refusal L ts vs us ws zs hs ≡ none → FitTank L ts vs zs hs × FitTank L us ws zs hs
+  pub both_fit : (ts vs us ws : List ℕ) → compare_refusal L ts vs us ws zs hs ≡ None → FitTank L ts vs zs hs × FitTank L us ws zs hs
   both_fit ts vs us ws e =
       let b = none_of_both (curve_checks L ts vs zs hs false) (second_checks L us ws) e in
       (b.0, fit_by_own_lists ts vs us ws b.0 (none_earned L us ws b.1))
 
-  pub fit_compared : (ts vs us ws : List ℕ) → FitTank L ts vs zs hs → FitTank L us ws zs hs → compare_refusal L ts vs us ws zs hs ≡ none
+  pub fit_compared : (ts vs us ws : List ℕ) → FitTank L ts vs zs hs → FitTank L us ws zs hs → compare_refusal L ts vs us ws zs hs ≡ None
   fit_compared ts vs us ws f g =
       first_of_rest (curve_checks L ts vs zs hs false) (second_checks L us ws) f ∙ rw (own_lists_fit us ws g)
 
 -- a tank that a sweep accepts is fit for its marks
-pub fit_by_sweep : (L : Limits) (ts vs zs hs : List ℕ) (rows : ℕ) → first_of (smooth_checks L ts vs zs hs rows) ≡ none → FitTank L ts vs zs hs
+pub fit_by_sweep : (L : Limits) (ts vs zs hs : List ℕ) (rows : ℕ) → first_of (smooth_checks L ts vs zs hs rows) ≡ None → FitTank L ts vs zs hs
 fit_by_sweep L ts vs zs hs rows e =
     rw (← (curve_sizes_accept L ts vs zs hs (uneven_rows row_width rows (length zs))
     (none_of_three L ts vs zs hs (uneven_rows row_width rows (length zs)) e).0).no_more) e
 
 -- what the answer is: alike with equal values, or a first difference and which way it goes
 pub data Outcome (L : Limits) (ts vs us ws zs hs : List ℕ) : Type 0 where
-  alike : compare L ts vs us ws zs hs ≡ given none → AgreeBelow (values_at ts vs zs hs) (values_at us ws zs hs) (length zs)
+  alike : compare L ts vs us ws zs hs ≡ given None → AgreeBelow (values_at ts vs zs hs) (values_at us ws zs hs) (length zs)
       → Outcome L ts vs us ws zs hs
-  second_higher : (k : ℕ) → compare L ts vs us ws zs hs ≡ given (some (record { position = k; higher = Second })) → k < length zs
+  second_higher : (k : ℕ) → compare L ts vs us ws zs hs ≡ given (Some (record { position = k; higher = Second })) → k < length zs
       → AgreeBelow (values_at ts vs zs hs) (values_at us ws zs hs) k → values_at ts vs zs hs k < values_at us ws zs hs k
       → Outcome L ts vs us ws zs hs
-  first_higher : (k : ℕ) → compare L ts vs us ws zs hs ≡ given (some (record { position = k; higher = First })) → k < length zs
+  first_higher : (k : ℕ) → compare L ts vs us ws zs hs ≡ given (Some (record { position = k; higher = First })) → k < length zs
       → AgreeBelow (values_at ts vs zs hs) (values_at us ws zs hs) k → values_at us ws zs hs k < values_at ts vs zs hs k
       → Outcome L ts vs us ws zs hs
 
 -- rows of fit tanks whose values have 16 bits
 module _ (L : Limits) (within : LimitsWithin L full) (ts vs us ws zs hs : List ℕ) (v : AtMost max_u16 vs) (w : AtMost max_u16 ws)
-    (fit : compare_refusal L ts vs us ws zs hs ≡ none) where
+    (fit : compare_refusal L ts vs us ws zs hs ≡ None) where
   accepted : PairAccepted ts vs us ws zs hs
   accepted = pair_accepts L within ts vs us ws zs hs fit
 
@@ -128,7 +129,7 @@ module _ (L : Limits) (within : LimitsWithin L full) (ts vs us ws zs hs : List �
   fit_answer q = rw (fit, q)
 
   -- equal values are alike
-  pub alike_by_values : AgreeBelow (values_at ts vs zs hs) (values_at us ws zs hs) (length zs) → compare L ts vs us ws zs hs ≡ given none
+  pub alike_by_values : AgreeBelow (values_at ts vs zs hs) (values_at us ws zs hs) (length zs) → compare L ts vs us ws zs hs ≡ given None
   unfolding unlike_at unlike
   alike_by_values same =
       fit_answer (none_lowest (unlike_at ts vs us ws zs hs) (length zs) (λ j l. differ_same _ _ (same j l)))
@@ -136,32 +137,32 @@ module _ (L : Limits) (within : LimitsWithin L full) (ts vs us ws zs hs : List �
   -- the first difference is the parting, and the greater number is the higher tank's
   module _ (k : ℕ) (l : k < length zs) (same : AgreeBelow (values_at ts vs zs hs) (values_at us ws zs hs) k) where
     apart_by_values : ¬ (values_at ts vs zs hs k ≡ values_at us ws zs hs k)
-        → compare L ts vs us ws zs hs ≡ given (parting_at ts vs us ws zs hs (some k))
+        → compare L ts vs us ws zs hs ≡ given (parting_at ts vs us ws zs hs (Some k))
     unfolding unlike_at unlike
     apart_by_values other =
         fit_answer
         (lowest_at (unlike_at ts vs us ws zs hs) (length zs) k l (differ_true _ _ other) (λ j m. differ_same _ _ (same j m)))
 
     pub second_by_values : values_at ts vs zs hs k < values_at us ws zs hs k
-        → compare L ts vs us ws zs hs ≡ given (some (record { position = k; higher = Second }))
+        → compare L ts vs us ws zs hs ≡ given (Some (record { position = k; higher = Second }))
     second_by_values b =
         apart_by_values (λ e. omega arith)
-        ∙ ap (λ (t : Tank). given (some (record { position = k; higher = t })))
+        ∙ ap (λ (t : Tank). given (Some (record { position = k; higher = t })))
         (second_by_number _ _ (first_ranked k l) (second_ranked k l) b)
 
     pub first_by_values : values_at us ws zs hs k < values_at ts vs zs hs k
-        → compare L ts vs us ws zs hs ≡ given (some (record { position = k; higher = First }))
+        → compare L ts vs us ws zs hs ≡ given (Some (record { position = k; higher = First }))
     first_by_values b =
         apart_by_values (λ e. omega arith)
-        ∙ ap (λ (t : Tank). given (some (record { position = k; higher = t })))
+        ∙ ap (λ (t : Tank). given (Some (record { position = k; higher = t })))
         (first_by_number _ _ (first_ranked k l) (second_ranked k l) b)
 
   pub outcome : Outcome L ts vs us ws zs hs
   outcome = by (lowest (unlike_at ts vs us ws zs hs) (length zs)) refl
     where
       by : (o : Option ℕ) → lowest (unlike_at ts vs us ws zs hs) (length zs) ≡ o → Outcome L ts vs us ws zs hs
-      by none q = alike (fit_answer q) (λ j l. same_there j (lowest_none (unlike_at ts vs us ws zs hs) (length zs) q j l))
-      by (some k) q =
+      by None q = alike (fit_answer q) (λ j l. same_there j (lowest_none (unlike_at ts vs us ws zs hs) (length zs) q j l))
+      by (Some k) q =
           let f = lowest_some (unlike_at ts vs us ws zs hs) (length zs) k q in
           at k f.0 (λ j l. same_there j (f.1.before j zero-le l)) (other_there k (f.1.there (omega (arith, f.0))))
         where
@@ -195,13 +196,13 @@ module _ (L : Limits) (ts vs us ws zs hs : List ℕ) where
           omega arith
 
 -- an answer that is no refusal was not refused
-no_higher_fits : (f : Option Fault) (o : Option Parting) → NoHigher (unless f o) → f ≡ none
-no_higher_fits none o n = refl
-no_higher_fits (some e) o n = absurd n
+no_higher_fits : (f : Option Fault) (o : Option Parting) → NoHigher (unless f o) → f ≡ None
+no_higher_fits None o n = refl
+no_higher_fits (Some e) o n = absurd n
 
 -- the order, of the answers, for fixed marks and values of 16 bits
 module _ (L : Limits) (within : LimitsWithin L full) (zs hs : List ℕ) where
-  pub no_higher_fit : (ts vs us ws : List ℕ) → NoHigher (compare L ts vs us ws zs hs) → compare_refusal L ts vs us ws zs hs ≡ none
+  pub no_higher_fit : (ts vs us ws : List ℕ) → NoHigher (compare L ts vs us ws zs hs) → compare_refusal L ts vs us ws zs hs ≡ None
   unfolding compare
   no_higher_fit ts vs us ws n = no_higher_fits (compare_refusal L ts vs us ws zs hs) (parted ts vs us ws zs hs) n
 
@@ -250,11 +251,11 @@ module _ (L : Limits) (within : LimitsWithin L full) (zs hs : List ℕ) where
       back = outcome L within us ws ts vs zs hs w v (fit_compared L zs hs us ws ts vs g f)
 
   -- where both tanks are fit, exchanged tanks are accepted, with the exchanged answer
-  pub exchanged_answer : (ts vs us ws : List ℕ) → AtMost max_u16 vs → AtMost max_u16 ws → compare_refusal L ts vs us ws zs hs ≡ none
-      → (compare_refusal L us ws ts vs zs hs ≡ none) × (compare L us ws ts vs zs hs ≡ exchanged (compare L ts vs us ws zs hs))
+  pub exchanged_answer : (ts vs us ws : List ℕ) → AtMost max_u16 vs → AtMost max_u16 ws → compare_refusal L ts vs us ws zs hs ≡ None
+      → (compare_refusal L us ws ts vs zs hs ≡ None) × (compare L us ws ts vs zs hs ≡ exchanged (compare L ts vs us ws zs hs))
   exchanged_answer ts vs us ws v w fit = (fit_back, by (outcome L within ts vs us ws zs hs v w fit))
     where
-      fit_back : compare_refusal L us ws ts vs zs hs ≡ none
+      fit_back : compare_refusal L us ws ts vs zs hs ≡ None
       fit_back = let b = both_fit L zs hs ts vs us ws fit in fit_compared L zs hs us ws ts vs b.1 b.0
 
       by : Outcome L ts vs us ws zs hs → compare L us ws ts vs zs hs ≡ exchanged (compare L ts vs us ws zs hs)
@@ -265,8 +266,8 @@ module _ (L : Limits) (within : LimitsWithin L full) (zs hs : List ℕ) where
           second_by_values L within us ws ts vs zs hs w v fit_back k l (λ j m. sym (s j m)) b ∙ sym (ap exchanged e)
 
 abbrev position_or_0 : Option ℕ → ℕ
-position_or_0 none = 0
-position_or_0 (some k) = k
+position_or_0 None = 0
+position_or_0 (Some k) = k
 
 -- by the rows of two sweeps: the tanks part at k exactly if the value fields agree before k and differ there
 row_value : (ts vs zs hs : List ℕ) (k : ℕ) → k < length zs → value_field (rows ts vs zs hs (length zs)) k ≡ values_at ts vs zs hs k
@@ -276,13 +277,13 @@ row_value ts vs zs hs k l =
     ∙ ap (λ (xs : List ℕ). get_or xs 4 0) (row_at_point ts vs zs hs (length zs) k l)
 
 pub parts_by_rows : (L : Limits) → LimitsWithin L full → (ts vs us ws zs hs : List ℕ) → AtMost max_u16 vs → AtMost max_u16 ws
-    → compare_refusal L ts vs us ws zs hs ≡ none → (k : ℕ)
-    → (position_in (compare L ts vs us ws zs hs) ≡ some k)
+    → compare_refusal L ts vs us ws zs hs ≡ None → (k : ℕ)
+    → (position_in (compare L ts vs us ws zs hs) ≡ Some k)
     ↔ RowsPartAt (rows ts vs zs hs (length zs)) (rows us ws zs hs (length zs)) (length zs) k
 parts_by_rows L within ts vs us ws zs hs v w fit k = (λ e. there (outcome L within ts vs us ws zs hs v w fit) e, back)
   where
     apart : (m : ℕ) → m < length zs → AgreeBelow (values_at ts vs zs hs) (values_at us ws zs hs) m
-        → ¬ (values_at ts vs zs hs m ≡ values_at us ws zs hs m) → some m ≡ some k
+        → ¬ (values_at ts vs zs hs m ≡ values_at us ws zs hs m) → Some m ≡ Some k
         → RowsPartAt (rows ts vs zs hs (length zs)) (rows us ws zs hs (length zs)) (length zs) k
     apart m l s n e =
         let q : m ≡ k = ap (λ (o : Option ℕ). position_or_0 o) e in
@@ -293,14 +294,14 @@ parts_by_rows L within ts vs us ws zs hs v w fit k = (λ e. there (outcome L wit
           there = λ d. n (sym (row_value ts vs zs hs m l) ∙ d ∙ row_value us ws zs hs m l);
         })
 
-    there : Outcome L ts vs us ws zs hs → position_in (compare L ts vs us ws zs hs) ≡ some k
+    there : Outcome L ts vs us ws zs hs → position_in (compare L ts vs us ws zs hs) ≡ Some k
         → RowsPartAt (rows ts vs zs hs (length zs)) (rows us ws zs hs (length zs)) (length zs) k
-    there (alike c s) e = let o : none ≡ some k = sym (ap position_in c) ∙ e in let z : ◌≡◌ {A = ℕ} 0 1 = cc in absurd (omega arith)
+    there (alike c s) e = let o : None ≡ Some k = sym (ap position_in c) ∙ e in let z : ◌≡◌ {A = ℕ} 0 1 = cc in absurd (omega arith)
     there (second_higher m c l s b) e = apart m l s (λ d. omega arith) (sym (ap position_in c) ∙ e)
     there (first_higher m c l s b) e = apart m l s (λ d. omega arith) (sym (ap position_in c) ∙ e)
 
     back : RowsPartAt (rows ts vs zs hs (length zs)) (rows us ws zs hs (length zs)) (length zs) k
-        → position_in (compare L ts vs us ws zs hs) ≡ some k
+        → position_in (compare L ts vs us ws zs hs) ≡ Some k
     back p =
         ap position_in
         (apart_by_values L within ts vs us ws zs hs v w fit k p.inside
@@ -309,14 +310,14 @@ parts_by_rows L within ts vs us ws zs hs v w fit k = (λ e. there (outcome L wit
 
 -- and there the greater number is the higher tank's, that of a missing value above all others
 pub higher_by_rows : (L : Limits) → LimitsWithin L full → (ts vs us ws zs hs : List ℕ) → AtMost max_u16 vs → AtMost max_u16 ws
-    → compare_refusal L ts vs us ws zs hs ≡ none → (k : ℕ) (t : Tank)
-    → compare L ts vs us ws zs hs ≡ given (some (record { position = k; higher = t }))
+    → compare_refusal L ts vs us ws zs hs ≡ None → (k : ℕ) (t : Tank)
+    → compare L ts vs us ws zs hs ≡ given (Some (record { position = k; higher = t }))
     → (t ≡ First) ↔ (value_field (rows us ws zs hs (length zs)) k < value_field (rows ts vs zs hs (length zs)) k)
 higher_by_rows L within ts vs us ws zs hs v w fit k t c = by (outcome L within ts vs us ws zs hs v w fit)
   where
     by : Outcome L ts vs us ws zs hs
         → (t ≡ First) ↔ (value_field (rows us ws zs hs (length zs)) k < value_field (rows ts vs zs hs (length zs)) k)
-    by (alike e s) = let o : none ≡ some k = sym (ap position_in e) ∙ ap position_in c in let z : ◌≡◌ {A = ℕ} 0 1 = cc in absurd (omega arith)
+    by (alike e s) = let o : None ≡ Some k = sym (ap position_in e) ∙ ap position_in c in let z : ◌≡◌ {A = ℕ} 0 1 = cc in absurd (omega arith)
     by (second_higher m e l s b) =
         let k_is : m ≡ k = ap (λ (a : Answer (Option Parting)). position_or_0 (position_in a)) (sym e ∙ c) in
         let t_is : Second ≡ t = ap tank_in (sym e ∙ c) in

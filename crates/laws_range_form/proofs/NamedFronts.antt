@@ -4,7 +4,7 @@ use Prim.Native.Nat.{ℕ, ◌+◌, ◌≤◌}
 use mathlib.Core.Path.{◌≡◌, refl, sym, ap, ◌∙◌}
 use mathlib.Core.Bool.{Bool, true, false}
 use mathlib.Core.List.{List, [], ◌∷◌, ◌++◌, append_assoc, append-nil, map-append}
-use mathlib.Core.Option.{none, some}
+use Rattle.std.specs.Prelude.{None, Some}
 use native.Mathlib.Nat.{zero-add}
 use native.Mathlib.Omega.{arith}
 use borrow.Author.Tests.{le-ltb, ne_eqb}
@@ -44,8 +44,8 @@ module _ {A : Type 0} (L : Limits) (next : Front → Answer A) where
   abbrev after_marks : ℕ → List EvaluationPoint → Lines → Answer A
   after_marks p ms ls = front_points L p (points_of ms) (bandwidths_of ms) ls next
 
-  one_point : (p : ℕ) (ms : List EvaluationPoint) (t : List ℕ) (d : LineEnding) (m : EvaluationPoint) (ls : Lines) → point_line t ≡ some m
-      → first_of (point_checks L p (points_of ms) (bandwidths_of ms) m) ≡ none
+  one_point : (p : ℕ) (ms : List EvaluationPoint) (t : List ℕ) (d : LineEnding) (m : EvaluationPoint) (ls : Lines) → point_line t ≡ Some m
+      → first_of (point_checks L p (points_of ms) (bandwidths_of ms) m) ≡ None
       → after_marks p ms (line t d ls) ≡ after_marks (next_place p t d) (ms ++ m ∷ []) ls
   one_point p ms [] d m ls e f = let z : ◌≡◌ {A = ℕ} 0 1 = cc in absurd (omega arith)
   one_point p ms (b ∷ t) d m ls e f =

@@ -3,7 +3,7 @@
 use Prim.Native.Nat.{ℕ}
 use mathlib.Core.Path.{◌≡◌, refl, sym, ap, ◌∙◌}
 use mathlib.Core.List.{List, [], ◌∷◌, ◌++◌, append_assoc, append-nil, map-append}
-use mathlib.Core.Option.{Option, none, some}
+use Rattle.std.specs.Prelude.{Option, None, Some}
 use native.Mathlib.Omega.{arith}
 use lib.ListN.{length}
 use Rattle.meanings.specs.declared.Limits.{Limits}
@@ -43,15 +43,15 @@ module _ (L : Limits) (s : List ℕ) (n : NamesRanges L s) where
       → RangeDecided L s n
   line_decided js b rest t i ls g q h k = by (range_line t) refl
     where
-      checked : (j : RangeInjection) → range_line t ≡ some j → (x : Option Fault)
+      checked : (j : RangeInjection) → range_line t ≡ Some j → (x : Option Fault)
           → first_of (reading_checks L 0 (minutes_of (without_endings js)) (length (minutes_of (kept_ranges (without_endings js)))) j) ≡ x → RangeDecided L s n
-      checked j y none c =
+      checked j y None c =
           let a = range_begins (b ∷ rest) t i ls j h y in
           let l : Ended RangeInjection = record { content = j; ending = i } in
           k l a.1.0 (rw (map-append (λ (l : Ended RangeInjection). l.content) js (l ∷ [])) (range_fits L 0 (without_endings js) j g a.0 c))
           (one_more n.behind js l a.1.0 (q ∙ ap (λ (r : List ℕ). print_ranges js ++ r) a.1.1.0))
           a.1.1.1
-      checked j y (some x) c =
+      checked j y (Some x) c =
           let a = range_begins (b ∷ rest) t i ls j h y in
           let l : Ended RangeInjection = record { content = j; ending = i } in
           faulted _ _
@@ -61,8 +61,8 @@ module _ (L : Limits) (s : List ℕ) (n : NamesRanges L s) where
           ) (fault_of_check L 0 (without_endings js) j x g.order c))
 
       by : (x : Option RangeInjection) → range_line t ≡ x → RangeDecided L s n
-      by none y = faulted _ _ (malformed_range js g b rest q (unread_no_range (b ∷ rest) t i ls h y))
-      by (some j) y =
+      by None y = faulted _ _ (malformed_range js g b rest q (unread_no_range (b ∷ rest) t i ls h y))
+      by (Some j) y =
           checked j y
           (first_of (reading_checks L 0 (minutes_of (without_endings js)) (length (minutes_of (kept_ranges (without_endings js)))) j)) refl
 

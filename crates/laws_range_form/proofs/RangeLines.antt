@@ -4,7 +4,7 @@ use Prim.Native.Nat.{ℕ, ◌<◌}
 use mathlib.Core.Path.{◌≡◌, refl, sym, ap, ◌∙◌}
 use mathlib.Core.Bool.{Bool, true, false}
 use mathlib.Core.List.{List, [], ◌∷◌, ◌++◌, append_assoc}
-use mathlib.Core.Option.{Option, none, some}
+use Rattle.std.specs.Prelude.{Option, None, Some}
 use native.Mathlib.Omega.{arith}
 use borrow.Author.Tests.{leb-true, le-leb}
 use lib.Dec.{leb, eqb}
@@ -35,7 +35,7 @@ free_in_range x j l c =
 range_text_plain : (j : RangeInjection) → Plain (range_text j)
 range_text_plain j = (free_in_range line_feed j (omega arith) refl, free_in_range carriage_return j (omega arith) refl)
 
-pub range_line_of_text : (j : RangeInjection) → RangeForm j → range_line (range_text j) ≡ some j
+pub range_line_of_text : (j : RangeInjection) → RangeForm j → range_line (range_text j) ≡ Some j
 range_line_of_text j f =
     rw (
       parts_before_comma (decimal j.minute) _ (decimal_free comma j.minute (omega arith)),
@@ -62,25 +62,25 @@ four_joined a b c d =
 abbrev with_fourth : Injection → ℕ → RangeInjection
 with_fourth i u = record { minute = i.minute; injection = i.injection; low = i.value; high = u }
 
-with_high_some : (o : Option Injection) (d : List ℕ) (j : RangeInjection) → with_high o (parsed d) ≡ some j
-    → (i : Injection) × ((u : ℕ) × ((o ≡ some i) × (d ≡ decimal u) × (j ≡ with_fourth i u) × (leb u max_u16 ≡ true)))
+with_high_some : (o : Option Injection) (d : List ℕ) (j : RangeInjection) → with_high o (parsed d) ≡ Some j
+    → (i : Injection) × ((u : ℕ) × ((o ≡ Some i) × (d ≡ decimal u) × (j ≡ with_fourth i u) × (leb u max_u16 ≡ true)))
 with_high_some o d j = by o (parsed d) refl
   where
-    by : (o : Option Injection) (x : Option ℕ) → parsed d ≡ x → with_high o x ≡ some j
-        → (i : Injection) × ((u : ℕ) × ((o ≡ some i) × (d ≡ decimal u) × (j ≡ with_fourth i u) × (leb u max_u16 ≡ true)))
-    by none x g e = let z : ◌≡◌ {A = ℕ} 0 1 = cc in absurd (omega arith)
-    by (some i) none g e = let z : ◌≡◌ {A = ℕ} 0 1 = cc in absurd (omega arith)
-    by (some i) (some u) g e = in_range (leb u max_u16) refl e
+    by : (o : Option Injection) (x : Option ℕ) → parsed d ≡ x → with_high o x ≡ Some j
+        → (i : Injection) × ((u : ℕ) × ((o ≡ Some i) × (d ≡ decimal u) × (j ≡ with_fourth i u) × (leb u max_u16 ≡ true)))
+    by None x g e = let z : ◌≡◌ {A = ℕ} 0 1 = cc in absurd (omega arith)
+    by (Some i) None g e = let z : ◌≡◌ {A = ℕ} 0 1 = cc in absurd (omega arith)
+    by (Some i) (Some u) g e = in_range (leb u max_u16) refl e
       where
-        in_range : (b : Bool) → leb u max_u16 ≡ b → pick b (some (with_fourth i u)) none ≡ some j
-            → (i' : Injection) × ((u : ℕ) × ((some i ≡ some i') × (d ≡ decimal u) × (j ≡ with_fourth i' u) × (leb u max_u16 ≡ true)))
+        in_range : (b : Bool) → leb u max_u16 ≡ b → pick b (Some (with_fourth i u)) None ≡ Some j
+            → (i' : Injection) × ((u : ℕ) × ((Some i ≡ Some i') × (d ≡ decimal u) × (j ≡ with_fourth i' u) × (leb u max_u16 ≡ true)))
         in_range true b e = let q : with_fourth i u ≡ j = cc in (i, (u, (refl, (parsed_decimal d u g).0, sym q, b)))
         in_range false b e = let z : ◌≡◌ {A = ℕ} 0 1 = cc in absurd (omega arith)
 
-pub range_line_text : (t : List ℕ) (j : RangeInjection) → range_line t ≡ some j → (t ≡ range_text j) × RangeForm j
+pub range_line_text : (t : List ℕ) (j : RangeInjection) → range_line t ≡ Some j → (t ≡ range_text j) × RangeForm j
 range_line_text t j e = by (parts t) refl e
   where
-    four : (a b c d : List ℕ) → parts t ≡ a ∷ b ∷ c ∷ d ∷ [] → with_high (ranged_sample (parsed a) (parsed b) (parsed c)) (parsed d) ≡ some j
+    four : (a b c d : List ℕ) → parts t ≡ a ∷ b ∷ c ∷ d ∷ [] → with_high (ranged_sample (parsed a) (parsed b) (parsed c)) (parsed d) ≡ Some j
         → (t ≡ range_text j) × RangeForm j
     four a b c d g e =
         let o = first_part t a b (c ∷ d ∷ []) g in
@@ -89,7 +89,7 @@ range_line_text t j e = by (parts t) refl e
         let i = w.0 in
         let u = w.1.0 in
         let three = a ++ comma ∷ (b ++ comma ∷ c) in
-        let read : sample_line three ≡ some i =
+        let read : sample_line three ≡ Some i =
         rw (parts_before_comma a (b ++ comma ∷ c) o.1.1, parts_before_comma b c l.1, parts_of_one c l.2) w.1.1.0 in
         let s = sample_line_text three i read in
         let form = s.1 in
@@ -109,7 +109,7 @@ range_line_text t j e = by (parts t) refl e
           },
         )
 
-    by : (ps : List (List ℕ)) → parts t ≡ ps → four_parts ps ≡ some j → (t ≡ range_text j) × RangeForm j
+    by : (ps : List (List ℕ)) → parts t ≡ ps → four_parts ps ≡ Some j → (t ≡ range_text j) × RangeForm j
     by [] g e = let z : ◌≡◌ {A = ℕ} 0 1 = cc in absurd (omega arith)
     by (a ∷ []) g e = let z : ◌≡◌ {A = ℕ} 0 1 = cc in absurd (omega arith)
     by (a ∷ b ∷ []) g e = let z : ◌≡◌ {A = ℕ} 0 1 = cc in absurd (omega arith)
@@ -129,7 +129,7 @@ no_range_begins s t e j f b =
     let p = sym e ∙ ap lines b.1 ∙ lines_of_range j b.0 in let z : ◌≡◌ {A = ℕ} 0 1 = cc in omega arith
 
 -- and none begins where the first line is none
-pub unread_no_range : (s t : List ℕ) (e : LineEnding) (ls : Lines) → lines s ≡ line t e ls → range_line t ≡ none → (j : Ended RangeInjection)
+pub unread_no_range : (s t : List ℕ) (e : LineEnding) (ls : Lines) → lines s ≡ line t e ls → range_line t ≡ None → (j : Ended RangeInjection)
     → RangeForm j.content → ¬ Begins (print_range j) s
 unread_no_range s t e ls g n j f b =
     let p = sym g ∙ ap lines b.1 ∙ lines_of_range j b.0 in
@@ -139,7 +139,7 @@ unread_no_range s t e ls g n j f b =
     omega arith
 
 -- a line that is read as a reading is the reading's line
-pub range_begins : (s t : List ℕ) (e : LineEnding) (ls : Lines) (j : RangeInjection) → lines s ≡ line t e ls → range_line t ≡ some j
+pub range_begins : (s t : List ℕ) (e : LineEnding) (ls : Lines) (j : RangeInjection) → lines s ≡ line t e ls → range_line t ≡ Some j
     → RangeForm j × ((r : List ℕ) × ((s ≡ print_range (record { content = j; ending = e }) ++ r) × (lines r ≡ ls)))
 range_begins s t e ls j g h =
     let i = first_line s t e ls g in

@@ -4,7 +4,7 @@ use Prim.Native.Nat.{ℕ, suc, ◌+◌, ◌≤◌}
 use mathlib.Core.Path.{◌≡◌, refl, sym, ap, ◌∙◌}
 use mathlib.Core.Bool.{Bool, true, false, ◌&&◌}
 use mathlib.Core.List.{List, [], ◌∷◌, ◌++◌, map, map-append}
-use mathlib.Core.Option.{none, some}
+use Rattle.std.specs.Prelude.{None, Some}
 use native.Mathlib.Omega.{arith}
 use borrow.Author.Tests.{ltb-true, ltb-false, lt-ltb, le-ltb, leb-true, leb-false, le-leb, lt-leb}
 use lib.Dec.{ltb, leb}
@@ -85,7 +85,7 @@ module _ (L : Limits) (p : ℕ) (js : List RangeInjection) (j : RangeInjection) 
   -- a line without a fault after the lines js
   pub range_checks_none : (ks : List RangeInjection) → Neighbours MinuteOrder (js ++ j ∷ ks) → NotCrossed j
       → length (kept_ranges (js ++ j ∷ ks)) ≤ L.samples
-      → first_of (reading_checks L p (minutes_of js) (length (minutes_of (kept_ranges js))) j) ≡ none
+      → first_of (reading_checks L p (minutes_of js) (length (minutes_of (kept_ranges js))) j) ≡ None
   range_checks_none ks n u few =
       rw (
         decreases_last (λ (j : RangeInjection). j.minute) js j
@@ -100,7 +100,7 @@ module _ (L : Limits) (p : ℕ) (js : List RangeInjection) (j : RangeInjection) 
       by false e = refl
 
   pub range_fits : FitRanges L js → RangeForm j
-      → first_of (reading_checks L p (minutes_of js) (length (minutes_of (kept_ranges js))) j) ≡ none → FitRanges L (js ++ j ∷ [])
+      → first_of (reading_checks L p (minutes_of js) (length (minutes_of (kept_ranges js))) j) ≡ None → FitRanges L (js ++ j ∷ [])
   range_fits f s e =
       let a = none_holds (reading_checks L p (minutes_of js) (length (minutes_of (kept_ranges js))) j) e in
       record {
@@ -121,7 +121,7 @@ module _ (L : Limits) (p : ℕ) (js : List RangeInjection) (j : RangeInjection) 
 
   -- the first check that holds is the line's fault
   pub fault_of_check : (f : Fault) → Neighbours MinuteOrder js
-      → first_of (reading_checks L p (minutes_of js) (length (minutes_of (kept_ranges js))) j) ≡ some f → RangeFault L js j f.number
+      → first_of (reading_checks L p (minutes_of js) (length (minutes_of (kept_ranges js))) j) ≡ Some f → RangeFault L js j f.number
   fault_of_check f n e =
       by (last_fails minute_falls js j) (ltb j.high j.low) (kept_range j && leb L.samples (length (kept_ranges js))) refl refl refl
       (rw (decreases_last (λ (j : RangeInjection). j.minute) js j, length-map (kept_ranges js) (λ (j : RangeInjection). j.minute)) at e)
@@ -131,7 +131,7 @@ module _ (L : Limits) (p : ℕ) (js : List RangeInjection) (j : RangeInjection) 
 
       by : (a b c : Bool) → last_fails minute_falls js j ≡ a → ltb j.high j.low ≡ b
           → (kept_range j && leb L.samples (length (kept_ranges js))) ≡ c
-          → first_of (check 4 (at p a) ∷ check 15 (at p b) ∷ check 6 (at p c) ∷ []) ≡ some f → RangeFault L js j f.number
+          → first_of (check 4 (at p a) ∷ check 15 (at p b) ∷ check 6 (at p c) ∷ []) ≡ Some f → RangeFault L js j f.number
       by true b c ea eb ec e =
           let q : f.number ≡ 4 = cc in
           let o = last_found minute_falls js j ea in
@@ -152,7 +152,7 @@ module _ (L : Limits) (p : ℕ) (js : List RangeInjection) (j : RangeInjection) 
 
   -- the line's fault is the first check that holds
   pub check_of_fault : {r : ℕ} → RangeFault L js j r
-      → first_of (reading_checks L p (minutes_of js) (length (minutes_of (kept_ranges js))) j) ≡ some (record { number = r; place = p })
+      → first_of (reading_checks L p (minutes_of js) (length (minutes_of (kept_ranges js))) j) ≡ Some (record { number = r; place = p })
   check_of_fault (RangeFault.out_of_order before a e l) =
       rw (decreases_last (λ (j : RangeInjection). j.minute) js j ∙ ap (λ (t : List RangeInjection). last_fails minute_falls t j) e
       ∙ last_is_tested minute_falls before a j ∙ lt-ltb j.minute a.minute l)

@@ -3,7 +3,7 @@
 use Prim.Native.Nat.{ℕ, ◌+◌, ◌≤◌}
 use mathlib.Core.Path.{◌≡◌, refl, ap, ◌∙◌}
 use mathlib.Core.List.{List, [], ◌∷◌, ◌++◌, append_assoc, append-nil}
-use mathlib.Core.Option.{Option, none, some}
+use Rattle.std.specs.Prelude.{Option, None, Some}
 use native.Mathlib.Omega.{arith}
 use lib.ListN.{length, length-append}
 use Rattle.meanings.specs.declared.Limits.{Limits}
@@ -27,8 +27,8 @@ module _ {A : Type 0} (L : Limits) (next : Readings → Answer A) where
   abbrev pub after_ranges : ℕ → List RangeInjection → Lines → Answer A
   after_ranges p js ls = read_readings L Ranges p (readings_of js) ls next
 
-  one_range : (p : ℕ) (js : List RangeInjection) (t : List ℕ) (d : LineEnding) (j : RangeInjection) (ls : Lines) → range_line t ≡ some j
-      → first_of (reading_checks L p (minutes_of js) (length (minutes_of (kept_ranges js))) j) ≡ none
+  one_range : (p : ℕ) (js : List RangeInjection) (t : List ℕ) (d : LineEnding) (j : RangeInjection) (ls : Lines) → range_line t ≡ Some j
+      → first_of (reading_checks L p (minutes_of js) (length (minutes_of (kept_ranges js))) j) ≡ None
       → after_ranges p js (line t d ls) ≡ after_ranges (next_place p t d) (js ++ j ∷ []) ls
   one_range p js t d j ls e f = step ∙ ap (λ (r : Readings). read_readings L Ranges (next_place p t d) r ls next) (readings_more js j)
     where
@@ -64,13 +64,13 @@ module _ {A : Type 0} (L : Limits) (next : Readings → Answer A) where
         where
           read : (x : Option RangeInjection) → range_line t ≡ x
               → with_reading L p (readings_of js) x (λ r. read_readings L Ranges (next_place p t d) r ls next) ≡ refused_at p 3
-          read none e = refl
-          read (some j) e =
+          read None e = refl
+          read (Some j) e =
               let o = range_begins (b ∷ rest) t d ls j g e in
               absurd (w (record { content = j; ending = d }) o.0 (o.1.0, o.1.1.0))
 
   pub faulty_range_refused : (p : ℕ) (js : List RangeInjection) (j : Ended RangeInjection) (r : List ℕ) (f : Fault) → RangeForm j.content
-      → first_of (reading_checks L p (minutes_of js) (length (minutes_of (kept_ranges js))) j.content) ≡ some f
+      → first_of (reading_checks L p (minutes_of js) (length (minutes_of (kept_ranges js))) j.content) ≡ Some f
       → after_ranges p js (lines (print_range j ++ r)) ≡ refused f
   faulty_range_refused p js j r f k e =
       ap (after_ranges p js) (lines_of_range j r) ∙ rw (range_line_of_text j.content k, e)

@@ -3,7 +3,7 @@
 use Prim.Native.Nat.{ℕ, ◌+◌, ◌/◌}
 use mathlib.Core.Path.{◌≡◌, ap}
 use mathlib.Core.List.{List, [], ◌∷◌}
-use mathlib.Core.Option.{Option, none, some}
+use Rattle.std.specs.Prelude.{Option, None, Some}
 use native.Mathlib.Omega.{arith}
 use lib.ListN.{get_or, replicate}
 use Rattle.meanings.specs.Lists.{distance}
@@ -25,8 +25,8 @@ kind_of_first (unended t) = Plain
 kind_of_first (line t e ls) = by (sample_line t)
   where
     by : {A : Type 0} → Option A → Kind
-    by none = Ranges
-    by (some j) = Plain
+    by None = Ranges
+    by (Some j) = Plain
 
 -- what a kind is as a number; a report has none
 number_of_kind : Kind → ℕ

@@ -4,7 +4,7 @@ use Prim.Native.Nat.{ℕ}
 use mathlib.Core.Path.{◌≡◌, refl, sym, ap, ◌∙◌}
 use mathlib.Core.Bool.{Bool, true, false}
 use mathlib.Core.List.{List, [], ◌∷◌, ◌++◌}
-use mathlib.Core.Option.{Option, none, some}
+use Rattle.std.specs.Prelude.{Option, None, Some}
 use native.Mathlib.Nat.{le_refl}
 use borrow.Author.Tests.{le-ltb}
 use lib.ListN.{length}
@@ -29,14 +29,14 @@ one_line : (L : Limits) (p : ℕ) (all ts vs : List ℕ) (o : Option Injection) 
     (next' : Readings → Answer RangeContents)
     → ((ms xs ys : List ℕ) → doubled (next ms xs ys) ≡ next' (twice ms xs ys))
     → doubled (with_sample L p all ts vs o next) ≡ with_reading L p (twice all ts vs) (standing_twice o) next'
-one_line L p all ts vs none next next' h = refl
-one_line L p all ts vs (some j) next next' h = rw (le-ltb j.value j.value (le_refl _)) (by (first_of (sample_checks L p all (length ts) j)))
+one_line L p all ts vs None next next' h = refl
+one_line L p all ts vs (Some j) next next' h = rw (le-ltb j.value j.value (le_refl _)) (by (first_of (sample_checks L p all (length ts) j)))
   where
     by : (o : Option Fault)
         → doubled (or_next o (next (all ++ j.minute ∷ []) (add_kept (kept j) j.minute ts) (add_kept (kept j) j.value vs)))
         ≡ or_next o (next' (twice (all ++ j.minute ∷ []) (add_kept (kept j) j.minute ts) (add_kept (kept j) j.value vs)))
-    by none = h _ _ _
-    by (some e) = refl
+    by None = h _ _ _
+    by (Some e) = refl
 
 plain_readings : (L : Limits) (f : Front) (p : ℕ) (all ts vs : List ℕ) (ls : Lines)
     → doubled (read_samples L f.points f.bandwidths p all ts vs ls)

@@ -3,7 +3,7 @@ use Prim.Native.Nat.{ℕ, zero, suc, ◌+◌, ◌≤◌, ◌<◌}
 use mathlib.Core.Path.{◌≡◌, refl, ◌∙◌}
 use mathlib.Core.Bool.{Bool, true, false}
 use mathlib.Core.List.{List, [], ◌∷◌, ◌++◌}
-use mathlib.Core.Option.{Option, none, some}
+use Rattle.std.specs.Prelude.{Option, None, Some}
 use native.Mathlib.Decide.{ℕ_discrete}
 use native.Mathlib.Omega.{arith}
 use borrow.Author.Tests.{leb-false, eqb-false}
@@ -70,7 +70,7 @@ no_marks L =
     }
 
 one_mark_more : (L : Limits) (p : ℕ) (zs hs : List ℕ) (m : EvaluationPoint) → FitMarks L zs hs → m.point ≤ max_u16
-    → first_of (point_checks L p zs hs m) ≡ none → FitMarks L (zs ++ m.point ∷ []) (hs ++ m.bandwidth ∷ [])
+    → first_of (point_checks L p zs hs m) ≡ None → FitMarks L (zs ++ m.point ∷ []) (hs ++ m.bandwidth ∷ [])
 one_mark_more L p zs hs m f s e =
     let c = none_holds (point_checks L p zs hs m) e in
     let z = one_longer zs m.point in
@@ -104,14 +104,14 @@ module _ (L : Limits) (f : Front) where
       → ((xs ys : List ℕ) → FitMarks L xs ys → next xs ys ≡ given f → FitFront L f) → with_point L p zs hs (point_line t) next ≡ given f → FitFront L f
   at_a_line p zs hs t next w go = by (point_line t) refl
     where
-      checked : (m : EvaluationPoint) → point_line t ≡ some m → (o : Option Fault) → first_of (point_checks L p zs hs m) ≡ o
+      checked : (m : EvaluationPoint) → point_line t ≡ Some m → (o : Option Fault) → first_of (point_checks L p zs hs m) ≡ o
           → or_next o (next (zs ++ m.point ∷ []) (hs ++ m.bandwidth ∷ [])) ≡ given f → FitFront L f
-      checked m e none k h = go _ _ (one_mark_more L p zs hs m w (point_line_text t m e).1.point_range k) h
-      checked m e (some x) k h = let z : ◌≡◌ {A = ℕ} 0 1 = cc in absurd (omega arith)
+      checked m e None k h = go _ _ (one_mark_more L p zs hs m w (point_line_text t m e).1.point_range k) h
+      checked m e (Some x) k h = let z : ◌≡◌ {A = ℕ} 0 1 = cc in absurd (omega arith)
 
       by : (o : Option EvaluationPoint) → point_line t ≡ o → with_point L p zs hs o next ≡ given f → FitFront L f
-      by none e h = let z : ◌≡◌ {A = ℕ} 0 1 = cc in absurd (omega arith)
-      by (some m) e h = checked m e (first_of (point_checks L p zs hs m)) refl h
+      by None e h = let z : ◌≡◌ {A = ℕ} 0 1 = cc in absurd (omega arith)
+      by (Some m) e h = checked m e (first_of (point_checks L p zs hs m)) refl h
 
   fit_points : (p : ℕ) (zs hs : List ℕ) (ls : Lines) → FitMarks L zs hs → front_points L p zs hs ls given ≡ given f → FitFront L f
   fit_points p zs hs end w h = let z : ◌≡◌ {A = ℕ} 0 1 = cc in absurd (omega arith)
@@ -122,7 +122,7 @@ module _ (L : Limits) (f : Front) where
           → pick b (refused_at p 7) (given (record { place = next_place p [] e; rest = ls; points = zs; bandwidths = hs })) ≡ given f → FitFront L f
       by true k h = let z : ◌≡◌ {A = ℕ} 0 1 = cc in absurd (omega arith)
       by false k h =
-          let some : length zs ≡ 0 → ⊥ = eqb-false (length zs) 0 k in
+          let Some : length zs ≡ 0 → ⊥ = eqb-false (length zs) 0 k in
           let q : ◌≡◌ {A = Front} (record { place = next_place p [] e; rest = ls; points = zs; bandwidths = hs }) f = cc in
           rw (← q) (record { marks = w; some_mark = omega arith })
   fit_points p zs hs (line (b ∷ t) e ls) w h =

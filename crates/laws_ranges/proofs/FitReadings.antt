@@ -4,7 +4,7 @@ use Prim.Native.Nat.{ℕ, zero, suc, ◌≤◌, ◌<◌}
 use mathlib.Core.Path.{◌≡◌, refl, sym, ◌∙◌}
 use mathlib.Core.Bool.{Bool, true, false, ◌&&◌}
 use mathlib.Core.List.{List, [], ◌∷◌, ◌++◌}
-use mathlib.Core.Option.{Option, none, some}
+use Rattle.std.specs.Prelude.{Option, None, Some}
 use native.Mathlib.Nat.{le_trans}
 use native.Mathlib.Omega.{arith}
 use borrow.Author.Tests.{leb-false, leb-true, ltb-false, le-ltb}
@@ -30,14 +30,14 @@ pub record SmallReading (j : RangeInjection) : Type 0 where
   pub low : j.low ≤ max_u16
   pub high : j.high ≤ max_u16
 
-ranged_is_small : (a b c : Option ℕ) (j : Injection) → ranged_sample a b c ≡ some j → (j.minute ≤ max_u16) × (j.value ≤ max_u16)
-ranged_is_small none b c j h = let z : ◌≡◌ {A = ℕ} 0 1 = cc in absurd (omega arith)
-ranged_is_small (some t) none c j h = let z : ◌≡◌ {A = ℕ} 0 1 = cc in absurd (omega arith)
-ranged_is_small (some t) (some i) none j h = let z : ◌≡◌ {A = ℕ} 0 1 = cc in absurd (omega arith)
-ranged_is_small (some t) (some i) (some v) j h = by (leb t max_u16) (leb 1 i) (leb i max_u16) (leb v max_u16) refl refl h
+ranged_is_small : (a b c : Option ℕ) (j : Injection) → ranged_sample a b c ≡ Some j → (j.minute ≤ max_u16) × (j.value ≤ max_u16)
+ranged_is_small None b c j h = let z : ◌≡◌ {A = ℕ} 0 1 = cc in absurd (omega arith)
+ranged_is_small (Some t) None c j h = let z : ◌≡◌ {A = ℕ} 0 1 = cc in absurd (omega arith)
+ranged_is_small (Some t) (Some i) None j h = let z : ◌≡◌ {A = ℕ} 0 1 = cc in absurd (omega arith)
+ranged_is_small (Some t) (Some i) (Some v) j h = by (leb t max_u16) (leb 1 i) (leb i max_u16) (leb v max_u16) refl refl h
   where
     by : (a b c d : Bool) → leb t max_u16 ≡ a → leb v max_u16 ≡ d
-        → pick (a && b && c && d) (some (record { minute = t; injection = i; value = v })) none ≡ some j → (j.minute ≤ max_u16) × (j.value ≤ max_u16)
+        → pick (a && b && c && d) (Some (record { minute = t; injection = i; value = v })) None ≡ Some j → (j.minute ≤ max_u16) × (j.value ≤ max_u16)
     by true true true true e f h =
         let q : ◌≡◌ {A = Injection} (record { minute = t; injection = i; value = v }) j = cc in
         rw (← q) (leb-true t max_u16 e, leb-true v max_u16 f)
@@ -46,22 +46,22 @@ ranged_is_small (some t) (some i) (some v) j h = by (leb t max_u16) (leb 1 i) (l
     by true false c d e f h = let z : ◌≡◌ {A = ℕ} 0 1 = cc in absurd (omega arith)
     by false b c d e f h = let z : ◌≡◌ {A = ℕ} 0 1 = cc in absurd (omega arith)
 
-with_high_is_small : (a b c d : Option ℕ) (j : RangeInjection) → with_high (ranged_sample a b c) d ≡ some j → SmallReading j
+with_high_is_small : (a b c d : Option ℕ) (j : RangeInjection) → with_high (ranged_sample a b c) d ≡ Some j → SmallReading j
 with_high_is_small a b c d j = by (ranged_sample a b c) refl d
   where
     high : (i : Injection) → (i.minute ≤ max_u16) × (i.value ≤ max_u16) → (u : ℕ) (k : Bool) → leb u max_u16 ≡ k
-        → pick k (some (record { minute = i.minute; injection = i.injection; low = i.value; high = u })) none ≡ some j → SmallReading j
+        → pick k (Some (record { minute = i.minute; injection = i.injection; low = i.value; high = u })) None ≡ Some j → SmallReading j
     high i s u true e h =
         let q : ◌≡◌ {A = RangeInjection} (record { minute = i.minute; injection = i.injection; low = i.value; high = u }) j = cc in
         rw (← q) (record { minute = s.0; low = s.1; high = leb-true u max_u16 e })
     high i s u false e h = let z : ◌≡◌ {A = ℕ} 0 1 = cc in absurd (omega arith)
 
-    by : (o : Option Injection) → ranged_sample a b c ≡ o → (d : Option ℕ) → with_high o d ≡ some j → SmallReading j
-    by none e d h = let z : ◌≡◌ {A = ℕ} 0 1 = cc in absurd (omega arith)
-    by (some i) e none h = let z : ◌≡◌ {A = ℕ} 0 1 = cc in absurd (omega arith)
-    by (some i) e (some u) h = high i (ranged_is_small a b c i e) u (leb u max_u16) refl h
+    by : (o : Option Injection) → ranged_sample a b c ≡ o → (d : Option ℕ) → with_high o d ≡ Some j → SmallReading j
+    by None e d h = let z : ◌≡◌ {A = ℕ} 0 1 = cc in absurd (omega arith)
+    by (Some i) e None h = let z : ◌≡◌ {A = ℕ} 0 1 = cc in absurd (omega arith)
+    by (Some i) e (Some u) h = high i (ranged_is_small a b c i e) u (leb u max_u16) refl h
 
-four_are_small : (ps : List (List ℕ)) (j : RangeInjection) → four_parts ps ≡ some j → SmallReading j
+four_are_small : (ps : List (List ℕ)) (j : RangeInjection) → four_parts ps ≡ Some j → SmallReading j
 four_are_small [] j h = let z : ◌≡◌ {A = ℕ} 0 1 = cc in absurd (omega arith)
 four_are_small (a ∷ []) j h = let z : ◌≡◌ {A = ℕ} 0 1 = cc in absurd (omega arith)
 four_are_small (a ∷ b ∷ []) j h = let z : ◌≡◌ {A = ℕ} 0 1 = cc in absurd (omega arith)
@@ -69,13 +69,13 @@ four_are_small (a ∷ b ∷ c ∷ []) j h = let z : ◌≡◌ {A = ℕ} 0 1 = cc
 four_are_small (a ∷ b ∷ c ∷ d ∷ []) j h = with_high_is_small (parsed a) (parsed b) (parsed c) (parsed d) j h
 four_are_small (a ∷ b ∷ c ∷ d ∷ e ∷ r) j h = let z : ◌≡◌ {A = ℕ} 0 1 = cc in absurd (omega arith)
 
-line_is_small : (k : Kind) (t : List ℕ) (j : RangeInjection) → reading_line k t ≡ some j → SmallReading j
+line_is_small : (k : Kind) (t : List ℕ) (j : RangeInjection) → reading_line k t ≡ Some j → SmallReading j
 line_is_small Ranges t j h = four_are_small (parts t) j h
 line_is_small Plain t j h = by (sample_line t) refl h
   where
-    by : (o : Option Injection) → sample_line t ≡ o → standing_twice o ≡ some j → SmallReading j
-    by none e h = let z : ◌≡◌ {A = ℕ} 0 1 = cc in absurd (omega arith)
-    by (some i) e h =
+    by : (o : Option Injection) → sample_line t ≡ o → standing_twice o ≡ Some j → SmallReading j
+    by None e h = let z : ◌≡◌ {A = ℕ} 0 1 = cc in absurd (omega arith)
+    by (Some i) e h =
         let f = (sample_line_text t i e).1 in
         let q : ◌≡◌ {A = RangeInjection} (record { minute = i.minute; injection = i.injection; low = i.value; high = i.value }) j = cc in
         rw (← q) (record { minute = f.minute_range; low = f.value_range; high = f.value_range })
@@ -124,7 +124,7 @@ rises_to xs x (suc k) e f =
     rw (before_last xs x k (omega arith), e, at_last xs x) (le-ltb x (get_or xs k 0) (f k (omega arith)))
 
 module _ (L : Limits) (p : ℕ) (r : Readings) (j : RangeInjection) (w : FitReadings L r) (s : SmallReading j)
-    (e : first_of (reading_checks L p r.all (length r.minutes) j) ≡ none) where
+    (e : first_of (reading_checks L p r.all (length r.minutes) j) ≡ None) where
   follows : decreases (r.all ++ j.minute ∷ []) (length r.all) ≡ false
   follows = at_none p _ (none_holds (reading_checks L p r.all (length r.minutes) j) e).0
 
@@ -209,14 +209,14 @@ module _ (L : Limits) (k : Kind) (x : Readings) where
       → ((y : Readings) → FitReadings L y → next y ≡ given x → FitReadings L x) → with_reading L p r (reading_line k t) next ≡ given x → FitReadings L x
   at_a_line p r t next w go = by (reading_line k t) refl
     where
-      checked : (j : RangeInjection) → reading_line k t ≡ some j → (o : Option Fault) → first_of (reading_checks L p r.all (length r.minutes) j) ≡ o
+      checked : (j : RangeInjection) → reading_line k t ≡ Some j → (o : Option Fault) → first_of (reading_checks L p r.all (length r.minutes) j) ≡ o
           → or_next o (next (with_line r j)) ≡ given x → FitReadings L x
-      checked j e none q h = go _ (one_line_more L p r j w (line_is_small k t j e) q) h
-      checked j e (some f) q h = let z : ◌≡◌ {A = ℕ} 0 1 = cc in absurd (omega arith)
+      checked j e None q h = go _ (one_line_more L p r j w (line_is_small k t j e) q) h
+      checked j e (Some f) q h = let z : ◌≡◌ {A = ℕ} 0 1 = cc in absurd (omega arith)
 
       by : (o : Option RangeInjection) → reading_line k t ≡ o → with_reading L p r o next ≡ given x → FitReadings L x
-      by none e h = let z : ◌≡◌ {A = ℕ} 0 1 = cc in absurd (omega arith)
-      by (some j) e h = checked j e (first_of (reading_checks L p r.all (length r.minutes) j)) refl h
+      by None e h = let z : ◌≡◌ {A = ℕ} 0 1 = cc in absurd (omega arith)
+      by (Some j) e h = checked j e (first_of (reading_checks L p r.all (length r.minutes) j)) refl h
 
   fit_lines : (p : ℕ) (r : Readings) (ls : Lines) → FitReadings L r → read_readings L k p r ls given ≡ given x → FitReadings L x
   fit_lines p r end w h = let q : ◌≡◌ {A = Readings} r x = cc in rw (← q) w

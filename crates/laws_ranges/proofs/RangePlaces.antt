@@ -4,7 +4,7 @@ use Prim.Native.Nat.{ℕ, suc, ◌+◌, ◌≤◌}
 use mathlib.Core.Path.{◌≡◌, refl, sym, ap, ◌∙◌}
 use mathlib.Core.Bool.{Bool, true, false, ◌&&◌}
 use mathlib.Core.List.{List, [], ◌∷◌, ◌++◌}
-use mathlib.Core.Option.{Option, none, some}
+use Rattle.std.specs.Prelude.{Option, None, Some}
 use native.Mathlib.Omega.{arith}
 use borrow.Author.Tests.{ltb-false}
 use lib.Dec.{ltb, leb, eqb}
@@ -66,14 +66,14 @@ at_place : (m p n : ℕ) (e : Fault) → p ≤ m → n ≤ 15 → ◌≡◌ {A =
 at_place m p n e l k q = rw (← q) (record { number_small = k; place_small = l })
 
 -- the checks of a reading line stand at its place
-line_fault : (L : Limits) (p : ℕ) (all : List ℕ) (n : ℕ) (j : RangeInjection) (m : ℕ) (e : Fault) → p ≤ m → first_of (reading_checks L p all n j) ≡ some e
+line_fault : (L : Limits) (p : ℕ) (all : List ℕ) (n : ℕ) (j : RangeInjection) (m : ℕ) (e : Fault) → p ≤ m → first_of (reading_checks L p all n j) ≡ Some e
     → SmallRefusal m e
 line_fault L p all n j m e l = by (decreases (all ++ j.minute ∷ []) (length all)) (ltb j.high j.low) (kept_range j && leb L.samples n)
   where
     by : (a b c : Bool)
         → first_of
         (record { number = 4; place = at p a } ∷ record { number = 15; place = at p b } ∷ record { number = 6; place = at p c } ∷ [])
-        ≡ some e → SmallRefusal m e
+        ≡ Some e → SmallRefusal m e
     by true b c h = at_place m p 4 e l (omega arith) (cc)
     by false true c h = at_place m p 15 e l (omega arith) (cc)
     by false false true h = at_place m p 6 e l (omega arith) (cc)
@@ -86,14 +86,14 @@ module _ {A : Type 0} (L : Limits) (k : Kind) (m : ℕ) (e : Fault) (next : Read
     where
       checked : (j : RangeInjection) (o : Option Fault) → first_of (reading_checks L p r.all (length r.minutes) j) ≡ o
           → or_next o (go (with_line r j)) ≡ refused e → SmallRefusal m e
-      checked j none q h = later _ h
-      checked j (some x) q h =
+      checked j None q h = later _ h
+      checked j (Some x) q h =
           let w : x ≡ e = cc in
-          line_fault L p r.all (length r.minutes) j m e l (q ∙ ap some w)
+          line_fault L p r.all (length r.minutes) j m e l (q ∙ ap Some w)
 
       by : (o : Option RangeInjection) → with_reading L p r o go ≡ refused e → SmallRefusal m e
-      by none h = at_place m p 3 e l (omega arith) (cc)
-      by (some j) h = checked j (first_of (reading_checks L p r.all (length r.minutes) j)) refl h
+      by None h = at_place m p 3 e l (omega arith) (cc)
+      by (Some j) h = checked j (first_of (reading_checks L p r.all (length r.minutes) j)) refl h
 
   lines_refuse : (p : ℕ) (r : Readings) (ls : Lines) → p + size ls ≤ m → read_readings L k p r ls next ≡ refused e → SmallRefusal m e
   lines_refuse p r end l h = absurd (accepts r h)
@@ -110,12 +110,12 @@ module _ (L : Limits) (f : Front) (m : ℕ) where
     where
       checked : (x : EvaluationPoint) (o : Option Fault) → or_next o (next (zs ++ x.point ∷ []) (hs ++ x.bandwidth ∷ [])) ≡ given f
           → f.place + size f.rest ≤ m
-      checked x none h = go _ _ h
-      checked x (some y) h = let z : ◌≡◌ {A = ℕ} 0 1 = cc in absurd (omega arith)
+      checked x None h = go _ _ h
+      checked x (Some y) h = let z : ◌≡◌ {A = ℕ} 0 1 = cc in absurd (omega arith)
 
       by : (o : Option EvaluationPoint) → with_point L p zs hs o next ≡ given f → f.place + size f.rest ≤ m
-      by none h = let z : ◌≡◌ {A = ℕ} 0 1 = cc in absurd (omega arith)
-      by (some x) h = checked x (first_of (point_checks L p zs hs x)) h
+      by None h = let z : ◌≡◌ {A = ℕ} 0 1 = cc in absurd (omega arith)
+      by (Some x) h = checked x (first_of (point_checks L p zs hs x)) h
 
   points_passed : (p : ℕ) (zs hs : List ℕ) (ls : Lines) → p + size ls ≤ m → front_points L p zs hs ls given ≡ given f → f.place + size f.rest ≤ m
   points_passed p zs hs end l h = let z : ◌≡◌ {A = ℕ} 0 1 = cc in absurd (omega arith)

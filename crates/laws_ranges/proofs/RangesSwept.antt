@@ -3,7 +3,7 @@ use Prim.Native.Nat.{ℕ, ◌*◌, ◌≤◌, ◌<◌}
 use mathlib.Core.Path.{◌≡◌, refl, sym, ◌∙◌}
 use mathlib.Core.Bool.{Bool, true, false}
 use mathlib.Core.List.{List}
-use mathlib.Core.Option.{none}
+use Rattle.std.specs.Prelude.{None}
 use native.Mathlib.Omega.{arith}
 use borrow.Author.Tests.{le-ltb, ne_eqb}
 use lib.ListN.{length, get_or}
@@ -95,7 +95,7 @@ accepted_ranges L s c h = by (sheet_front L s given) refl
         let z : ◌≡◌ {A = ℕ} 0 1 = cc in absurd (omega arith)
 
 contents_are_swept : (c : RangeContents) → AcceptedRanges full c → (rs : List ℕ) → length rs ≡ range_row_width * length c.points
-    → range_refusal full c.minutes c.lows c.highs c.points c.bandwidths rs ≡ none
+    → range_refusal full c.minutes c.lows c.highs c.points c.bandwidths rs ≡ None
 contents_are_swept c a rs seven =
     rw (
       differ_same _ _ a.even_lows,
@@ -113,7 +113,7 @@ contents_are_swept c a rs seven =
     )
 
 module _ (s : List ℕ) (c : RangeContents) (e : read_either full s ≡ given c) (rs : List ℕ) (seven : length rs ≡ range_row_width * length c.points) where
-  pub accepted_sheet_is_swept : range_refusal full c.minutes c.lows c.highs c.points c.bandwidths rs ≡ none
+  pub accepted_sheet_is_swept : range_refusal full c.minutes c.lows c.highs c.points c.bandwidths rs ≡ None
   accepted_sheet_is_swept = contents_are_swept c (accepted_ranges full s c e) rs seven
 
   -- the sweep answers with its passes

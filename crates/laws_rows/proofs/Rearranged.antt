@@ -5,7 +5,7 @@ use Prim.Native.Nat.{ℕ, zero, suc, ◌+◌, ◌*◌, ◌<◌}
 use mathlib.Core.Path.{◌≡◌, refl, sym, ap, ◌∙◌}
 use mathlib.Core.Bool.{Bool, true, false, ◌&&◌, and-eq-true_iff}
 use mathlib.Core.List.{List, [], ◌∷◌}
-use mathlib.Core.Option.{Option, none, some}
+use Rattle.std.specs.Prelude.{Option, None, Some}
 use native.Mathlib.Omega.{arith}
 use borrow.Author.Tests.{eqb-true, eq-eqb}
 use lib.Dec.{eqb}
@@ -169,8 +169,8 @@ module _ (ts vs vs' : List ℕ) (r : Rearranged ts vs vs') where
 
       by : (f : Option Fault) → first_of (advance_checks full ts vs q.left q.right m.bandwidth) ≡ f
           → SameEdges (after_step ts vs q m) (after_step ts vs' q' m)
-      by none e = rw (e, also none e) (moved_edges q q' m.point m.bandwidth s)
-      by (some x) e = rw (e, also (some x) e) s
+      by None e = rw (e, also None e) (moved_edges q q' m.point m.bandwidth s)
+      by (Some x) e = rw (e, also (Some x) e) s
 
   steps_edges : (ms : List Move) (q q' : RunningSums) → SameEdges q q' → SameEdges (after ts vs q ms) (after ts vs' q' ms)
   steps_edges [] q q' s = s
@@ -192,11 +192,11 @@ module _ (ts vs vs' : List ℕ) (r : Rearranged ts vs vs') where
   same_evaluation L z h = rw (← (same_evaluate_refusal L h)) (by (evaluate_refusal L ts vs h) refl)
     where
       by : (f : Option Fault) → evaluate_refusal L ts vs h ≡ f → unless f (estimate ts vs z h) ≡ unless f (estimate ts vs' z h)
-      by none e =
+      by None e =
           let a = none_of_both (series_checks L ts vs) (bandwidth_checks h) e in
           let o = sample_order_accepts ts (none_of_both (size_checks L ts vs) (sample_order_checks ts) a.0).1 in
-          ap (λ (x : Estimate). unless none x) (same_estimate o z h)
-      by (some e) q = refl
+          ap (λ (x : Estimate). unless None x) (same_estimate o z h)
+      by (Some e) q = refl
 
   same_smooth : (L : Limits) (zs hs rs : List ℕ) → smooth L ts vs zs hs rs ≡ smooth L ts vs' zs hs rs
   unfolding smooth
@@ -208,11 +208,11 @@ module _ (ts vs vs' : List ℕ) (r : Rearranged ts vs vs') where
     where
       by : (f : Option Fault) → smooth_refusal L ts vs zs hs rs ≡ f
           → accepted_or f (rows ts vs zs hs (length zs)) rs ≡ accepted_or f (rows ts vs' zs hs (length zs)) rs
-      by none e =
+      by None e =
           let a = none_of_three L ts vs zs hs (uneven_rows row_width (length rs) (length zs)) e in
           let o = sample_order_accepts ts (none_of_both (sample_order_checks ts) (point_order_checks zs) a.1).0 in
           same_rows o zs hs (length zs)
-      by (some e) q = refl
+      by (Some e) q = refl
 
   same_lines : Ordered ts → (zs hs : List ℕ) (n : ℕ)
       → curve_lines (record { minutes = ts; values = vs; points = zs; bandwidths = hs }) n

@@ -5,7 +5,7 @@ use mathlib.Core.Path.{◌≡◌, refl, sym, ap, ◌∙◌}
 use mathlib.Core.Bool.{Bool, true, false, true≢false, not, ◌||◌, ◌&&◌, and-eq-true_iff}
 use mathlib.Core.Logic.{inl, inr}
 use mathlib.Core.List.{List, [], ◌∷◌, ◌++◌}
-use mathlib.Core.Option.{Option, none, some}
+use Rattle.std.specs.Prelude.{Option, None, Some}
 use native.Mathlib.Nat.{le_trans}
 use native.Mathlib.Omega.{arith}
 use borrow.Author.Tests.{ltb-false, le-ltb, lt-ltb, eqb-false}
@@ -51,17 +51,17 @@ abbrev without : ℕ → List Check → Bool
 without n [] = true
 without n (c ∷ cs) = not (eqb c.number n) && without n cs
 
-never_gives : (n : ℕ) (cs : List Check) → without n cs ≡ true → (p : ℕ) → ¬ (first_of cs ≡ some (record { number = n; place = p }))
+never_gives : (n : ℕ) (cs : List Check) → without n cs ≡ true → (p : ℕ) → ¬ (first_of cs ≡ Some (record { number = n; place = p }))
 never_gives n [] w p e = let z : ◌≡◌ {A = ℕ} 0 1 = cc in omega arith
 never_gives n (c ∷ cs) w p e =
     by c.place (eqb c.number n) refl ((and-eq-true_iff (not (eqb c.number n)) (without n cs)).0 w) (never_gives n cs) e
   where
     by : (o : Option ℕ) (b : Bool) → eqb c.number n ≡ b → (not (eqb c.number n) ≡ true) × (without n cs ≡ true)
-        → (without n cs ≡ true → (p : ℕ) → ¬ (first_of cs ≡ some (record { number = n; place = p })))
-        → ¬ (fault_or c.number o (first_of cs) ≡ some (record { number = n; place = p }))
-    by none b q w rest e = rest w.1 p e
-    by (some i) true q w rest e = true≢false (sym w.0 ∙ ap not q)
-    by (some i) false q w rest e =
+        → (without n cs ≡ true → (p : ℕ) → ¬ (first_of cs ≡ Some (record { number = n; place = p })))
+        → ¬ (fault_or c.number o (first_of cs) ≡ Some (record { number = n; place = p }))
+    by None b q w rest e = rest w.1 p e
+    by (Some i) true q w rest e = true≢false (sym w.0 ∙ ap not q)
+    by (Some i) false q w rest e =
         let f : ◌≡◌ {A = Fault} (record { number = c.number; place = i }) (record { number = n; place = p }) = cc in
         eqb-false c.number n q (ap (λ (f : Fault). f.number) f)
 
@@ -98,10 +98,10 @@ module _ (ts vs zs hs rs : List ℕ) where
     where
       even : (f : Option Fault) → first_of (check 6 (at 0 b) ∷ later) ≡ f
           → ¬ (unless f (passes ts vs fresh (moves zs hs)) ≡ refused (record { number = 8; place = p }))
-      even none q k = let z : ◌≡◌ {A = ℕ} 0 1 = cc in omega arith
-      even (some g) q k =
+      even None q k = let z : ◌≡◌ {A = ℕ} 0 1 = cc in omega arith
+      even (Some g) q k =
           let same : g ≡ record { number = 8; place = p } = cc in
-          never_gives 8 (check 6 (at 0 b) ∷ later) refl p (q ∙ ap some same)
+          never_gives 8 (check 6 (at 0 b) ∷ later) refl p (q ∙ ap Some same)
 
 module _ (L M : Limits) (within : LimitsWithin L M) (ts vs zs hs rs : List ℕ) where
   fits_larger : Fits L ts zs → Fits M ts zs

@@ -2,7 +2,7 @@
 -- zero. It is said of any function that makes a row of minutes, values, a mark and a half width; `estimate` satisfies it
 -- (proofs/AmongReadings.antt), and wrong functions do not (proofs/WrongRows.antt).
 use Rattle.std.specs.Prelude.{ℕ, ◌<◌, ◌≡◌, List, ◌↔◌, length, get_or}
-use Rattle.std.proofs.Math.Option.{none}
+use Rattle.std.specs.Prelude.{None}
 use Rattle.meanings.specs.declared.Estimate.{Estimate}
 use Rattle.meanings.specs.Lists.{distance}
 use Rattle.meanings.specs.Limits.{full}
@@ -30,4 +30,4 @@ pub record Among (ts vs : List ℕ) (z h : ℕ) (e : Estimate) : Type 0 where
 -- for all that the question at one mark accepts
 abbrev pub StaysAmong : RowFunction → Type 0
 StaysAmong F =
-    (ts vs : List ℕ) (z h : ℕ) → evaluate_refusal full ts vs h ≡ none → ¬ ((F ts vs z h).value ≡ missing) → Among ts vs z h (F ts vs z h)
+    (ts vs : List ℕ) (z h : ℕ) → evaluate_refusal full ts vs h ≡ None → ¬ ((F ts vs z h).value ≡ missing) → Among ts vs z h (F ts vs z h)

@@ -5,7 +5,7 @@ use mathlib.Core.Path.{◌≡◌, refl, sym, ap, ◌∙◌}
 use mathlib.Core.Logic.{◌⊎◌, inl, inr}
 use mathlib.Core.Bool.{Bool, true, false}
 use mathlib.Core.List.{List, [], ◌∷◌, ◌++◌, append_assoc, append-nil, map-append}
-use mathlib.Core.Option.{Option, none, some}
+use Rattle.std.specs.Prelude.{Option, None, Some}
 use native.Mathlib.Omega.{arith}
 use borrow.Author.Tests.{ltb-true, ltb-false}
 use lib.Dec.{ltb}
@@ -44,15 +44,15 @@ module _ (L : Limits) (s : List ℕ) (short : length s ≤ max_sheet) where
         → Decided L s
     sample_decided js b rest t i ls g q h k = by (sample_line t) refl
       where
-        checked : (j : Injection) → sample_line t ≡ some j → (x : Option Fault)
+        checked : (j : Injection) → sample_line t ≡ Some j → (x : Option Fault)
             → first_of (sample_checks L 0 (minutes_of (without_endings js)) (length (minutes_of (kept_of (without_endings js)))) j) ≡ x → Decided L s
-        checked j y none c =
+        checked j y None c =
             let a = sample_begins (b ∷ rest) t i ls j h y in
             let l : Ended Injection = record { content = j; ending = i } in
             k l a.1.0 (rw (map-append (λ (l : Ended Injection). l.content) js (l ∷ [])) (sample_fits L 0 (without_endings js) j g a.0 c))
             (one_sample_more (sample_front e ms d f) s js l a.1.0 (q ∙ ap (λ (r : List ℕ). print_sheet e ms d f js ++ r) a.1.1.0))
             a.1.1.1
-        checked j y (some x) c =
+        checked j y (Some x) c =
             let a = sample_begins (b ∷ rest) t i ls j h y in
             let l : Ended Injection = record { content = j; ending = i } in
             faulted _ _
@@ -63,8 +63,8 @@ module _ (L : Limits) (s : List ℕ) (short : length s ≤ max_sheet) where
             ) (sample_fault_of_check L 0 (without_endings js) j x g.order c))
 
         by : (x : Option Injection) → sample_line t ≡ x → Decided L s
-        by none y = faulted _ _ (malformed_sample short e ms fit few d f js g b rest q (unread_no_sample (b ∷ rest) t i ls h y))
-        by (some j) y = checked j y (first_of (sample_checks L 0 (minutes_of (without_endings js)) (length (minutes_of (kept_of (without_endings js)))) j)) refl
+        by None y = faulted _ _ (malformed_sample short e ms fit few d f js g b rest q (unread_no_sample (b ∷ rest) t i ls h y))
+        by (Some j) y = checked j y (first_of (sample_checks L 0 (minutes_of (without_endings js)) (length (minutes_of (kept_of (without_endings js)))) j)) refl
 
     samples_decided : (js : List (Ended Injection)) (ls : Lines) (r : List ℕ) → FitSamples L (without_endings js) → s ≡ print_sheet e ms d f js ++ r
         → lines r ≡ ls → Decided L s
@@ -133,15 +133,15 @@ module _ (L : Limits) (s : List ℕ) (short : length s ≤ max_sheet) where
       → Decided L s
   point_decided e ms b rest c t i ls g q h k = by (point_line (c ∷ t)) refl
     where
-      checked : (m : EvaluationPoint) → point_line (c ∷ t) ≡ some m → (x : Option Fault)
+      checked : (m : EvaluationPoint) → point_line (c ∷ t) ≡ Some m → (x : Option Fault)
           → first_of (point_checks L 0 (points_of (without_endings ms)) (bandwidths_of (without_endings ms)) m) ≡ x → Decided L s
-      checked m y none d =
+      checked m y None d =
           let a = point_begins (b ∷ rest) (c ∷ t) i ls m h y in
           let l : Ended EvaluationPoint = record { content = m; ending = i } in
           k l a.1.0 (rw (map-append (λ (l : Ended EvaluationPoint). l.content) ms (l ∷ [])) (point_fits L 0 (without_endings ms) m g a.0 d))
           (one_point_more (point_head e) s ms l a.1.0 (q ∙ ap (λ (r : List ℕ). print_front e ms ++ r) a.1.1.0))
           a.1.1.1
-      checked m y (some f) d =
+      checked m y (Some f) d =
           let a = point_begins (b ∷ rest) (c ∷ t) i ls m h y in
           let l : Ended EvaluationPoint = record { content = m; ending = i } in
           faulted _ _
@@ -151,13 +151,13 @@ module _ (L : Limits) (s : List ℕ) (short : length s ≤ max_sheet) where
           ) (point_fault_of_check L 0 (without_endings ms) m f g.order d))
 
       by : (x : Option EvaluationPoint) → point_line (c ∷ t) ≡ x → Decided L s
-      by none y =
+      by None y =
           faulted _ _
           (malformed_point short e ms g b rest q
           (λ d (z : Begins (ending_bytes d) (b ∷ rest)).
           let o = sym h ∙ lines_of_empty_line (b ∷ rest) d z in let z : ◌≡◌ {A = ℕ} 0 1 = cc in omega arith)
           (unread_no_point (b ∷ rest) (c ∷ t) i ls h y))
-      by (some m) y = checked m y (first_of (point_checks L 0 (points_of (without_endings ms)) (bandwidths_of (without_endings ms)) m)) refl
+      by (Some m) y = checked m y (first_of (point_checks L 0 (points_of (without_endings ms)) (bandwidths_of (without_endings ms)) m)) refl
 
   points_decided : (e : LineEnding) (ms : List (Ended EvaluationPoint)) (ls : Lines) (r : List ℕ) → FitPoints L (without_endings ms) → s ≡ print_front e ms ++ r
       → lines r ≡ ls → Decided L s

@@ -4,7 +4,7 @@ use Prim.Native.Nat.{ℕ, suc, ◌+◌, ◌≤◌}
 use mathlib.Core.Path.{◌≡◌, refl, sym, ap, ◌∙◌}
 use mathlib.Core.Bool.{Bool, true, false, ◌&&◌, ◌||◌}
 use mathlib.Core.List.{List, [], ◌∷◌, ◌++◌, map}
-use mathlib.Core.Option.{none}
+use Rattle.std.specs.Prelude.{None}
 use native.Mathlib.Omega.{arith}
 use borrow.Author.Tests.{ltb-false, le-ltb, leb-false, lt-leb, ne_eqb}
 use lib.Dec.{ltb, leb}
@@ -85,7 +85,7 @@ bandwidths_of ms = map (λ (m : EvaluationPoint). m.bandwidth) ms
 -- a reading line without a fault after the lines js
 pub sample_checks_none : (L : Limits) (p : ℕ) (js : List Injection) (j : Injection) (ks : List Injection) → Neighbours MinuteOrder (js ++ j ∷ ks)
     → length (kept_of (js ++ j ∷ ks)) ≤ L.samples
-    → first_of (sample_checks L p (minutes_of js) (length (minutes_of (kept_of js))) j) ≡ none
+    → first_of (sample_checks L p (minutes_of js) (length (minutes_of (kept_of js))) j) ≡ None
 sample_checks_none L p js j ks n few =
     rw (
       decreases_last (λ (j : Injection). j.minute) js j
@@ -99,7 +99,7 @@ sample_checks_none L p js j ks n few =
     by false e = refl
 
 pub sample_fits : (L : Limits) (p : ℕ) (js : List Injection) (j : Injection) → FitSamples L js → SampleForm j
-    → first_of (sample_checks L p (minutes_of js) (length (minutes_of (kept_of js))) j) ≡ none → FitSamples L (js ++ j ∷ [])
+    → first_of (sample_checks L p (minutes_of js) (length (minutes_of (kept_of js))) j) ≡ None → FitSamples L (js ++ j ∷ [])
 sample_fits L p js j f s e =
     let a = none_holds (sample_checks L p (minutes_of js) (length (minutes_of (kept_of js))) j) e in
     record {
@@ -148,7 +148,7 @@ no_edge_falls ms m ns n = last_holds edge_falls Follows edges ms m ns n
 -- a mark line without a fault after the lines ms
 pub point_checks_none : (L : Limits) (p : ℕ) (ms : List EvaluationPoint) (m : EvaluationPoint) (ns : List EvaluationPoint)
     → Neighbours Follows (ms ++ m ∷ ns) → BandwidthRange m
-    → length (ms ++ m ∷ ns) ≤ L.points → first_of (point_checks L p (points_of ms) (bandwidths_of ms) m) ≡ none
+    → length (ms ++ m ∷ ns) ≤ L.points → first_of (point_checks L p (points_of ms) (bandwidths_of ms) m) ≡ None
 point_checks_none L p ms m ns n r few =
     rw (
       decreases_last (λ (m : EvaluationPoint). m.point) ms m
@@ -161,7 +161,7 @@ point_checks_none L p ms m ns n r few =
     )
 
 pub point_fits : (L : Limits) (p : ℕ) (ms : List EvaluationPoint) (m : EvaluationPoint) → FitPoints L ms → PointForm m
-    → first_of (point_checks L p (points_of ms) (bandwidths_of ms) m) ≡ none → FitPoints L (ms ++ m ∷ [])
+    → first_of (point_checks L p (points_of ms) (bandwidths_of ms) m) ≡ None → FitPoints L (ms ++ m ∷ [])
 point_fits L p ms m f s e =
     let a = none_holds (point_checks L p (points_of ms) (bandwidths_of ms) m) e in
     let r = bandwidth_in_range m.bandwidth (at_none p _ a.1.0) in

@@ -3,7 +3,7 @@
 use Prim.Native.Nat.{ℕ, ◌+◌, ◌≤◌}
 use mathlib.Core.Path.{◌≡◌, sym, ap, ◌∙◌}
 use mathlib.Core.List.{List, [], ◌∷◌, ◌++◌, append_assoc, append-nil, map-append}
-use mathlib.Core.Option.{none, some}
+use Rattle.std.specs.Prelude.{None, Some}
 use native.Mathlib.Nat.{zero-add}
 use native.Mathlib.Omega.{arith}
 use borrow.Author.Tests.{le-ltb, ne_eqb}
@@ -32,8 +32,8 @@ abbrev pub after_samples : Limits → List ℕ → List ℕ → ℕ → List Inj
 after_samples L zs hs p js ls = read_samples L zs hs p (minutes_of js) (minutes_of (kept_of js)) (values_of (kept_of js)) ls
 
 one_sample : (L : Limits) (zs hs : List ℕ) (p : ℕ) (js : List Injection) (t : List ℕ) (d : LineEnding) (j : Injection) (ls : Lines)
-    → sample_line t ≡ some j
-    → first_of (sample_checks L p (minutes_of js) (length (minutes_of (kept_of js))) j) ≡ none
+    → sample_line t ≡ Some j
+    → first_of (sample_checks L p (minutes_of js) (length (minutes_of (kept_of js))) j) ≡ None
     → after_samples L zs hs p js (line t d ls) ≡ after_samples L zs hs (next_place p t d) (js ++ j ∷ []) ls
 one_sample L zs hs p js t d j ls e f =
     rw (
@@ -44,8 +44,8 @@ one_sample L zs hs p js t d j ls e f =
       kept_more (λ (j : Injection). j.value) js j,
     )
 
-one_point : (L : Limits) (p : ℕ) (ms : List EvaluationPoint) (t : List ℕ) (d : LineEnding) (m : EvaluationPoint) (ls : Lines) → point_line t ≡ some m
-    → first_of (point_checks L p (points_of ms) (bandwidths_of ms) m) ≡ none
+one_point : (L : Limits) (p : ℕ) (ms : List EvaluationPoint) (t : List ℕ) (d : LineEnding) (m : EvaluationPoint) (ls : Lines) → point_line t ≡ Some m
+    → first_of (point_checks L p (points_of ms) (bandwidths_of ms) m) ≡ None
     → after_marks L p ms (line t d ls) ≡ after_marks L (next_place p t d) (ms ++ m ∷ []) ls
 one_point L p ms [] d m ls e f = let z : ◌≡◌ {A = ℕ} 0 1 = cc in absurd (omega arith)
 one_point L p ms (b ∷ t) d m ls e f =

@@ -5,7 +5,7 @@ use mathlib.Core.Path.{◌≡◌, refl, ap, ◌∙◌}
 use mathlib.Core.Logic.{◌⊎◌, inl, inr}
 use mathlib.Core.Bool.{Bool, true, false, ◌||◌}
 use mathlib.Core.List.{List, [], ◌∷◌, ◌++◌}
-use mathlib.Core.Option.{some}
+use Rattle.std.specs.Prelude.{Some}
 use native.Mathlib.Omega.{arith}
 use borrow.Author.Tests.{ltb-true, lt-ltb, le-ltb, leb-true, le-leb, eqb-true, eq-eqb, ne_eqb, ltb-false}
 use lib.Dec.{ltb, leb, eqb}
@@ -53,14 +53,14 @@ in_range m r = rw (ne_eqb m.bandwidth 0 (λ e. omega arith), le-ltb max_bandwidt
 
 -- the first check that holds is the line's fault
 pub point_fault_of_check : (L : Limits) (p : ℕ) (ms : List EvaluationPoint) (m : EvaluationPoint) (f : Fault) → Neighbours Follows ms
-    → first_of (point_checks L p (points_of ms) (bandwidths_of ms) m) ≡ some f → PointFault L ms m f.number
+    → first_of (point_checks L p (points_of ms) (bandwidths_of ms) m) ≡ Some f → PointFault L ms m f.number
 point_fault_of_check L p ms m f n e =
     by (last_fails point_falls ms m) (bad_bandwidth m.bandwidth) (last_fails edge_falls ms m) (leb L.points (length ms)) refl refl refl refl
     (rw (decreases_last (λ (m : EvaluationPoint). m.point) ms m, edge_decreases_last ms m, length-map ms (λ (m : EvaluationPoint). m.point)) at e)
   where
     by : (a b c d : Bool) → last_fails point_falls ms m ≡ a → bad_bandwidth m.bandwidth ≡ b → last_fails edge_falls ms m ≡ c
         → leb L.points (length ms) ≡ d
-        → first_of (check 5 (at p a) ∷ check 9 (at p b) ∷ check 10 (at p c) ∷ check 6 (at p d) ∷ []) ≡ some f
+        → first_of (check 5 (at p a) ∷ check 9 (at p b) ∷ check 10 (at p c) ∷ check 6 (at p d) ∷ []) ≡ Some f
         → PointFault L ms m f.number
     by true b c d ea eb ec ed e =
         let q : f.number ≡ 5 = cc in
@@ -81,7 +81,7 @@ point_fault_of_check L p ms m f n e =
 
 -- the line's fault is the first check that holds
 pub check_of_point_fault : (L : Limits) (p : ℕ) (ms : List EvaluationPoint) (m : EvaluationPoint) {r : ℕ} → Neighbours Follows ms → PointFault L ms m r
-    → first_of (point_checks L p (points_of ms) (bandwidths_of ms) m) ≡ some (record { number = r; place = p })
+    → first_of (point_checks L p (points_of ms) (bandwidths_of ms) m) ≡ Some (record { number = r; place = p })
 check_of_point_fault L p ms m n (PointFault.out_of_order before a e l) =
     rw (decreases_last (λ (m : EvaluationPoint). m.point) ms m ∙ ap (λ (t : List EvaluationPoint). last_fails point_falls t m) e
     ∙ last_is_tested point_falls before a m

@@ -3,7 +3,7 @@
 use Prim.Native.Nat.{ℕ}
 use mathlib.Core.Path.{◌≡◌, refl, sym, ap, ◌∙◌}
 use mathlib.Core.List.{List, [], ◌∷◌, ◌++◌, append_assoc, append-nil}
-use mathlib.Core.Option.{Option, none, some}
+use Rattle.std.specs.Prelude.{Option, None, Some}
 use native.Mathlib.Omega.{arith}
 use Rattle.meanings.specs.declared.Limits.{Limits}
 use Rattle.meanings.specs.Bytes.{LineEnding, ending_bytes}
@@ -17,7 +17,7 @@ use Rattle.laws_sheet.proofs.Passed.{after_marks}
 use Rattle.laws_sheet.proofs.LineOrder.{points_of, bandwidths_of}
 
 -- no mark line begins where the first line is none
-pub unread_no_point : (s t : List ℕ) (e : LineEnding) (ls : Lines) → lines s ≡ line t e ls → point_line t ≡ none → (m : Ended EvaluationPoint)
+pub unread_no_point : (s t : List ℕ) (e : LineEnding) (ls : Lines) → lines s ≡ line t e ls → point_line t ≡ None → (m : Ended EvaluationPoint)
     → PointForm m.content → ¬ Begins (print_point m) s
 unread_no_point s t e ls g n m f b =
     let p = sym g ∙ ap lines b.1 ∙ lines_of_point m b.0 in
@@ -27,7 +27,7 @@ unread_no_point s t e ls g n m f b =
     omega arith
 
 -- a line that is read as a mark is the mark's line
-pub point_begins : (s t : List ℕ) (e : LineEnding) (ls : Lines) (m : EvaluationPoint) → lines s ≡ line t e ls → point_line t ≡ some m
+pub point_begins : (s t : List ℕ) (e : LineEnding) (ls : Lines) (m : EvaluationPoint) → lines s ≡ line t e ls → point_line t ≡ Some m
     → PointForm m × ((r : List ℕ) × ((s ≡ print_point (record { content = m; ending = e }) ++ r) × (lines r ≡ ls)))
 point_begins s t e ls m g h =
     let i = first_line s t e ls g in
@@ -47,18 +47,18 @@ no_point_refused L p zs hs b rest n w = by (lines (b ∷ rest)) refl
       where
         read : (x : Option EvaluationPoint) → point_line (c ∷ t) ≡ x
             → with_point L p zs hs x (λ zs' hs'. read_points L (next_place p (c ∷ t) d) zs' hs' ls) ≡ refused_at p 3
-        read none e = refl
-        read (some m) e =
+        read None e = refl
+        read (Some m) e =
             let o = point_begins (b ∷ rest) (c ∷ t) d ls m g e in
             absurd (w (record { content = m; ending = d }) o.0 (o.1.0, o.1.1.0))
 
 pub faulty_point_refused : (L : Limits) (p : ℕ) (ms : List EvaluationPoint) (m : Ended EvaluationPoint) (r : List ℕ) (f : Fault) → PointForm m.content
-    → first_of (point_checks L p (points_of ms) (bandwidths_of ms) m.content) ≡ some f
+    → first_of (point_checks L p (points_of ms) (bandwidths_of ms) m.content) ≡ Some f
     → after_marks L p ms (lines (print_point m ++ r)) ≡ refused f
 faulty_point_refused L p ms m r f k e =
     ap (after_marks L p ms) (lines_of_point m r) ∙ by (point_text m.content) (point_line_of_text m.content k)
   where
-    by : (t : List ℕ) → point_line t ≡ some m.content → after_marks L p ms (line t m.ending (lines r)) ≡ refused f
+    by : (t : List ℕ) → point_line t ≡ Some m.content → after_marks L p ms (line t m.ending (lines r)) ≡ refused f
     by [] q = let z : ◌≡◌ {A = ℕ} 0 1 = cc in absurd (omega arith)
     by (b ∷ t) q = rw (q, e)
 

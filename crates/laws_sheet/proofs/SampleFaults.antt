@@ -4,7 +4,7 @@ use Prim.Native.Nat.{ℕ}
 use mathlib.Core.Path.{◌≡◌, refl, ap, ◌∙◌}
 use mathlib.Core.Bool.{Bool, true, false, ◌&&◌}
 use mathlib.Core.List.{List, [], ◌∷◌}
-use mathlib.Core.Option.{some}
+use Rattle.std.specs.Prelude.{Some}
 use native.Mathlib.Omega.{arith}
 use borrow.Author.Tests.{ltb-true, ltb-false, lt-ltb, le-ltb, leb-true, le-leb}
 use lib.Dec.{leb}
@@ -19,13 +19,13 @@ use Rattle.laws_sheet.proofs.LineOrder.{minute_falls, decreases_last, minutes_of
 
 -- the first check that holds is the line's fault
 pub sample_fault_of_check : (L : Limits) (p : ℕ) (js : List Injection) (j : Injection) (f : Fault) → Neighbours MinuteOrder js
-    → first_of (sample_checks L p (minutes_of js) (length (minutes_of (kept_of js))) j) ≡ some f → SampleFault L js j f.number
+    → first_of (sample_checks L p (minutes_of js) (length (minutes_of (kept_of js))) j) ≡ Some f → SampleFault L js j f.number
 sample_fault_of_check L p js j f n e =
     by (last_fails minute_falls js j) (kept j && leb L.samples (length (kept_of js))) refl refl
     (rw (decreases_last (λ (j : Injection). j.minute) js j, length-map (kept_of js) (λ (j : Injection). j.minute)) at e)
   where
     by : (a b : Bool) → last_fails minute_falls js j ≡ a → (kept j && leb L.samples (length (kept_of js))) ≡ b
-        → first_of (check 4 (at p a) ∷ check 6 (at p b) ∷ []) ≡ some f → SampleFault L js j f.number
+        → first_of (check 4 (at p a) ∷ check 6 (at p b) ∷ []) ≡ Some f → SampleFault L js j f.number
     by true b ea eb e =
         let q : f.number ≡ 4 = cc in
         let o = last_found minute_falls js j ea in
@@ -40,7 +40,7 @@ sample_fault_of_check L p js j f n e =
 
 -- the line's fault is the first check that holds
 pub check_of_sample_fault : (L : Limits) (p : ℕ) (js : List Injection) (j : Injection) {r : ℕ} → SampleFault L js j r
-    → first_of (sample_checks L p (minutes_of js) (length (minutes_of (kept_of js))) j) ≡ some (record { number = r; place = p })
+    → first_of (sample_checks L p (minutes_of js) (length (minutes_of (kept_of js))) j) ≡ Some (record { number = r; place = p })
 check_of_sample_fault L p js j (SampleFault.out_of_order before a e l) =
     rw (decreases_last (λ (j : Injection). j.minute) js j ∙ ap (λ (t : List Injection). last_fails minute_falls t j) e
     ∙ last_is_tested minute_falls before a j ∙ lt-ltb j.minute a.minute l)

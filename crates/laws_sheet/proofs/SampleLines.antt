@@ -3,7 +3,7 @@
 use Prim.Native.Nat.{ℕ}
 use mathlib.Core.Path.{◌≡◌, refl, sym, ap, ◌∙◌}
 use mathlib.Core.List.{List, [], ◌∷◌, ◌++◌, append_assoc, append-nil}
-use mathlib.Core.Option.{Option, none, some}
+use Rattle.std.specs.Prelude.{Option, None, Some}
 use native.Mathlib.Omega.{arith}
 use lib.ListN.{length}
 use Rattle.meanings.specs.declared.Limits.{Limits}
@@ -18,7 +18,7 @@ use Rattle.laws_sheet.proofs.LineOrder.{minutes_of}
 use Rattle.laws_sheet.proofs.Passed.{after_samples}
 
 -- no reading line begins where the first line is none
-pub unread_no_sample : (s t : List ℕ) (e : LineEnding) (ls : Lines) → lines s ≡ line t e ls → sample_line t ≡ none → (j : Ended Injection)
+pub unread_no_sample : (s t : List ℕ) (e : LineEnding) (ls : Lines) → lines s ≡ line t e ls → sample_line t ≡ None → (j : Ended Injection)
     → SampleForm j.content → ¬ Begins (print_sample j) s
 unread_no_sample s t e ls g n j f b =
     let p = sym g ∙ ap lines b.1 ∙ lines_of_sample j b.0 in
@@ -28,7 +28,7 @@ unread_no_sample s t e ls g n j f b =
     omega arith
 
 -- a line that is read as a reading is the reading's line
-pub sample_begins : (s t : List ℕ) (e : LineEnding) (ls : Lines) (j : Injection) → lines s ≡ line t e ls → sample_line t ≡ some j
+pub sample_begins : (s t : List ℕ) (e : LineEnding) (ls : Lines) (j : Injection) → lines s ≡ line t e ls → sample_line t ≡ Some j
     → SampleForm j × ((r : List ℕ) × ((s ≡ print_sample (record { content = j; ending = e }) ++ r) × (lines r ≡ ls)))
 sample_begins s t e ls j g h =
     let i = first_line s t e ls g in
@@ -47,13 +47,13 @@ no_sample_refused L zs hs p all ts vs b rest w = by (lines (b ∷ rest)) refl
       where
         read : (x : Option Injection) → sample_line t ≡ x
             → with_sample L p all ts vs x (λ all' ts' vs'. read_samples L zs hs (next_place p t d) all' ts' vs' ls) ≡ refused_at p 3
-        read none e = refl
-        read (some j) e =
+        read None e = refl
+        read (Some j) e =
             let o = sample_begins (b ∷ rest) t d ls j g e in
             absurd (w (record { content = j; ending = d }) o.0 (o.1.0, o.1.1.0))
 
 pub faulty_sample_refused : (L : Limits) (zs hs : List ℕ) (p : ℕ) (js : List Injection) (j : Ended Injection) (r : List ℕ) (f : Fault)
-    → SampleForm j.content → first_of (sample_checks L p (minutes_of js) (length (minutes_of (kept_of js))) j.content) ≡ some f
+    → SampleForm j.content → first_of (sample_checks L p (minutes_of js) (length (minutes_of (kept_of js))) j.content) ≡ Some f
     → after_samples L zs hs p js (lines (print_sample j ++ r)) ≡ refused f
 faulty_sample_refused L zs hs p js j r f k e =
     ap (after_samples L zs hs p js) (lines_of_sample j r) ∙ rw (sample_line_of_text j.content k, e)

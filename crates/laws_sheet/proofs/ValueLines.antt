@@ -4,7 +4,7 @@ use Prim.Native.Nat.{ℕ, ◌<◌}
 use mathlib.Core.Path.{◌≡◌, refl, sym, ap, ◌∙◌}
 use mathlib.Core.Bool.{Bool, true, false, ◌&&◌}
 use mathlib.Core.List.{List, [], ◌∷◌, ◌++◌, append_assoc}
-use mathlib.Core.Option.{Option, none, some}
+use Rattle.std.specs.Prelude.{Option, None, Some}
 use native.Mathlib.Omega.{arith}
 use borrow.Author.Tests.{leb-true, le-leb}
 use lib.Dec.{leb, eqb}
@@ -37,7 +37,7 @@ point_text_plain m = (free_in_point line_feed m (omega arith) refl, free_in_poin
 sample_text_plain : (j : Injection) → Plain (sample_text j)
 sample_text_plain j = (free_in_sample line_feed j (omega arith) refl, free_in_sample carriage_return j (omega arith) refl)
 
-pub point_line_of_text : (m : EvaluationPoint) → PointForm m → point_line (point_text m) ≡ some m
+pub point_line_of_text : (m : EvaluationPoint) → PointForm m → point_line (point_text m) ≡ Some m
 point_line_of_text m f =
     rw (
       parts_before_comma (decimal m.point) (decimal m.bandwidth) (decimal_free comma m.point (omega arith)),
@@ -47,7 +47,7 @@ point_line_of_text m f =
       le-leb m.point max_u16 (omega arith),
     )
 
-pub sample_line_of_text : (j : Injection) → SampleForm j → sample_line (sample_text j) ≡ some j
+pub sample_line_of_text : (j : Injection) → SampleForm j → sample_line (sample_text j) ≡ Some j
 sample_line_of_text j f =
     rw (
       parts_before_comma (decimal j.minute) _ (decimal_free comma j.minute (omega arith)),
@@ -62,17 +62,17 @@ sample_line_of_text j f =
       le-leb j.value max_u16 (omega arith),
     )
 
-ranged_point_some : (a b : List ℕ) (m : EvaluationPoint) → ranged_point (parsed a) (parsed b) ≡ some m
+ranged_point_some : (a b : List ℕ) (m : EvaluationPoint) → ranged_point (parsed a) (parsed b) ≡ Some m
     → (a ≡ decimal m.point) × (b ≡ decimal m.bandwidth) × PointForm m
 ranged_point_some a b m e = by (parsed a) (parsed b) refl refl e
   where
-    by : (x y : Option ℕ) → parsed a ≡ x → parsed b ≡ y → ranged_point x y ≡ some m
+    by : (x y : Option ℕ) → parsed a ≡ x → parsed b ≡ y → ranged_point x y ≡ Some m
         → (a ≡ decimal m.point) × (b ≡ decimal m.bandwidth) × PointForm m
-    by none y f g e = let z : ◌≡◌ {A = ℕ} 0 1 = cc in absurd (omega arith)
-    by (some z) none f g e = let z : ◌≡◌ {A = ℕ} 0 1 = cc in absurd (omega arith)
-    by (some z) (some h) f g e = in_range (leb z max_u16) refl e
+    by None y f g e = let z : ◌≡◌ {A = ℕ} 0 1 = cc in absurd (omega arith)
+    by (Some z) None f g e = let z : ◌≡◌ {A = ℕ} 0 1 = cc in absurd (omega arith)
+    by (Some z) (Some h) f g e = in_range (leb z max_u16) refl e
       where
-        in_range : (d : Bool) → leb z max_u16 ≡ d → pick d (some (record { point = z; bandwidth = h })) none ≡ some m
+        in_range : (d : Bool) → leb z max_u16 ≡ d → pick d (Some (record { point = z; bandwidth = h })) None ≡ Some m
             → (a ≡ decimal m.point) × (b ≡ decimal m.bandwidth) × PointForm m
         in_range true d e =
             let p : z ≡ m.point = cc in
@@ -83,10 +83,10 @@ ranged_point_some a b m e = by (parsed a) (parsed b) refl refl e
             (i.0 ∙ ap decimal p, k.0 ∙ ap decimal q, record { point_range = omega arith; bandwidth_digits = omega arith })
         in_range false d e = let z : ◌≡◌ {A = ℕ} 0 1 = cc in absurd (omega arith)
 
-pub point_line_text : (t : List ℕ) (m : EvaluationPoint) → point_line t ≡ some m → (t ≡ point_text m) × PointForm m
+pub point_line_text : (t : List ℕ) (m : EvaluationPoint) → point_line t ≡ Some m → (t ≡ point_text m) × PointForm m
 point_line_text t m e = by (parts t) refl e
   where
-    by : (ps : List (List ℕ)) → parts t ≡ ps → two_parts ps ≡ some m → (t ≡ point_text m) × PointForm m
+    by : (ps : List (List ℕ)) → parts t ≡ ps → two_parts ps ≡ Some m → (t ≡ point_text m) × PointForm m
     by [] g e = let z : ◌≡◌ {A = ℕ} 0 1 = cc in absurd (omega arith)
     by (a ∷ []) g e = let z : ◌≡◌ {A = ℕ} 0 1 = cc in absurd (omega arith)
     by (a ∷ b ∷ []) g e =
@@ -95,19 +95,19 @@ point_line_text t m e = by (parts t) refl e
         (rw (r.0, r.1) at s.0, r.2)
     by (a ∷ b ∷ c ∷ r) g e = let z : ◌≡◌ {A = ℕ} 0 1 = cc in absurd (omega arith)
 
-ranged_sample_some : (a b c : List ℕ) (j : Injection) → ranged_sample (parsed a) (parsed b) (parsed c) ≡ some j
+ranged_sample_some : (a b c : List ℕ) (j : Injection) → ranged_sample (parsed a) (parsed b) (parsed c) ≡ Some j
     → (a ≡ decimal j.minute) × (b ≡ decimal j.injection) × (c ≡ decimal j.value) × SampleForm j
 ranged_sample_some a b c j e = by (parsed a) (parsed b) (parsed c) refl refl refl e
   where
-    by : (x y w : Option ℕ) → parsed a ≡ x → parsed b ≡ y → parsed c ≡ w → ranged_sample x y w ≡ some j
+    by : (x y w : Option ℕ) → parsed a ≡ x → parsed b ≡ y → parsed c ≡ w → ranged_sample x y w ≡ Some j
         → (a ≡ decimal j.minute) × (b ≡ decimal j.injection) × (c ≡ decimal j.value) × SampleForm j
-    by none y w f g h e = let z : ◌≡◌ {A = ℕ} 0 1 = cc in absurd (omega arith)
-    by (some t) none w f g h e = let z : ◌≡◌ {A = ℕ} 0 1 = cc in absurd (omega arith)
-    by (some t) (some i) none f g h e = let z : ◌≡◌ {A = ℕ} 0 1 = cc in absurd (omega arith)
-    by (some t) (some i) (some v) f g h e = in_range (leb t max_u16 && leb 1 i && leb i max_u16 && leb v max_u16) refl e
+    by None y w f g h e = let z : ◌≡◌ {A = ℕ} 0 1 = cc in absurd (omega arith)
+    by (Some t) None w f g h e = let z : ◌≡◌ {A = ℕ} 0 1 = cc in absurd (omega arith)
+    by (Some t) (Some i) None f g h e = let z : ◌≡◌ {A = ℕ} 0 1 = cc in absurd (omega arith)
+    by (Some t) (Some i) (Some v) f g h e = in_range (leb t max_u16 && leb 1 i && leb i max_u16 && leb v max_u16) refl e
       where
         in_range : (d : Bool) → (leb t max_u16 && leb 1 i && leb i max_u16 && leb v max_u16) ≡ d
-            → pick d (some (record { minute = t; injection = i; value = v })) none ≡ some j
+            → pick d (Some (record { minute = t; injection = i; value = v })) None ≡ Some j
             → (a ≡ decimal j.minute) × (b ≡ decimal j.injection) × (c ≡ decimal j.value) × SampleForm j
         in_range true d e =
             let p : t ≡ j.minute = cc in
@@ -132,10 +132,10 @@ ranged_sample_some a b c j e = by (parsed a) (parsed b) (parsed c) refl refl ref
             )
         in_range false d e = let z : ◌≡◌ {A = ℕ} 0 1 = cc in absurd (omega arith)
 
-pub sample_line_text : (t : List ℕ) (j : Injection) → sample_line t ≡ some j → (t ≡ sample_text j) × SampleForm j
+pub sample_line_text : (t : List ℕ) (j : Injection) → sample_line t ≡ Some j → (t ≡ sample_text j) × SampleForm j
 sample_line_text t j e = by (parts t) refl e
   where
-    by : (ps : List (List ℕ)) → parts t ≡ ps → three_parts ps ≡ some j → (t ≡ sample_text j) × SampleForm j
+    by : (ps : List (List ℕ)) → parts t ≡ ps → three_parts ps ≡ Some j → (t ≡ sample_text j) × SampleForm j
     by [] g e = let z : ◌≡◌ {A = ℕ} 0 1 = cc in absurd (omega arith)
     by (a ∷ []) g e = let z : ◌≡◌ {A = ℕ} 0 1 = cc in absurd (omega arith)
     by (a ∷ b ∷ []) g e = let z : ◌≡◌ {A = ℕ} 0 1 = cc in absurd (omega arith)

@@ -1,6 +1,7 @@
 -- Wrong readers of another shape than the code, each shut out on a concrete sheet: what it would answer, or leave in a lent list, is not what
 -- the meaning says.
 use Prim.Native.Nat.{ℕ, zero, suc, ◌*◌, ◌≤◌}
+use Rattle.meanings.specs.declared.Counts.{Counts}
 use mathlib.Core.Path.{◌≡◌, refl, sym, ap, ◌∙◌}
 use mathlib.Core.List.{List, [], ◌∷◌, ◌++◌, append-nil}
 use native.Mathlib.Omega.{arith}
@@ -15,7 +16,7 @@ use Rattle.meanings.specs.Sheet.{Contents, Outcome, refused_at, read_sheet}
 use Rattle.meanings.specs.Output.{decimal, decimal_with}
 use Rattle.meanings.specs.SheetForm.{Ended, without_endings, Each, Neighbours, PointForm, BandwidthRange, Follows, FitPoints}
 use Rattle.meanings.specs.SheetForm.{PointFault, edge, Refused, faulty_point, point_head, print_point, print_points, print_front}
-use Rattle.meanings.specs.Calls.{Counts, counts, read, read_minutes}
+use Rattle.meanings.specs.Calls.{counts, read, read_minutes}
 use Rattle.laws_sheet.proofs.Printed.{refused_only}
 
 -- a fault reported each time

@@ -4,7 +4,7 @@ use Prim.Native.Nat.{ℕ, zero, suc, ◌+◌, ◌-◌, ◌*◌, ◌/◌, ◌%◌
 use mathlib.Core.Path.{◌≡◌, refl, sym, ap, ◌∙◌}
 use mathlib.Core.Bool.{Bool, true, false, not, ◌&&◌}
 use mathlib.Core.List.{List, [], ◌∷◌, ◌++◌, append_assoc, append-nil}
-use mathlib.Core.Option.{none, some}
+use Rattle.std.specs.Prelude.{None, Some}
 use native.Mathlib.Nat.{not-suc-le-zero, pow-suc, pow-succ', mul_assoc, mul-le-mul_right, pow-le-pow_right}
 use native.Mathlib.Omega.{arith}
 use borrow.Author.Tests.{ltb-true, ltb-false, leb-true, le-leb, le-ltb, lt-ltb, ne_eqb, eqb-false, not-true}
@@ -99,7 +99,7 @@ decimal_number_form zero l = rw (decimal_of_digit 0 (omega arith))
 decimal_number_form (suc n) l =
     number_of (decimal (suc n)) (decimal_digits (suc n)) (decimal_length (suc n) 4 l) (decimal_leads (suc n) (omega arith))
 
-pub decimal_parsed : (n : ℕ) → n < 100000 → parsed (decimal n) ≡ some n
+pub decimal_parsed : (n : ℕ) → n < 100000 → parsed (decimal n) ≡ Some n
 decimal_parsed n l = rw (decimal_number_form n l, decimal_says n)
 
 -- digits after a number's text
@@ -126,10 +126,10 @@ digits_value_below m (b ∷ t) e =
     let n : suc (m * 10 + (b - zero_digit)) * 10 ^ length t ≤ (suc m * 10) * 10 ^ length t = mul-le-mul_right (10 ^ length t) (omega arith) in
     rw (pow-succ' 10 (length t), ← mul_assoc (suc m) 10 (10 ^ length t)) (omega arith)
 
-pub parsed_form : (t : List ℕ) (n : ℕ) → parsed t ≡ some n → (number_form t ≡ true) × (digits_value 0 t ≡ n)
+pub parsed_form : (t : List ℕ) (n : ℕ) → parsed t ≡ Some n → (number_form t ≡ true) × (digits_value 0 t ≡ n)
 parsed_form t n e = by (number_form t) refl e
   where
-    by : (b : Bool) → number_form t ≡ b → pick b (some (digits_value 0 t)) none ≡ some n → (number_form t ≡ true) × (digits_value 0 t ≡ n)
+    by : (b : Bool) → number_form t ≡ b → pick b (Some (digits_value 0 t)) None ≡ Some n → (number_form t ≡ true) × (digits_value 0 t ≡ n)
     by true f e = (f, cc)
     by false f e = let z : ◌≡◌ {A = ℕ} 0 1 = cc in absurd (omega arith)
 
@@ -153,7 +153,7 @@ number_is_decimal (b ∷ t) e =
     let below = digits_value_below 0 (b ∷ t) o.0 in
     (first_and_rest b (0 * 10 + (b - zero_digit)) t (omega arith) (omega arith) p.1 q.1, omega arith)
 
-pub parsed_decimal : (t : List ℕ) (n : ℕ) → parsed t ≡ some n → (t ≡ decimal n) × (n < 100000)
+pub parsed_decimal : (t : List ℕ) (n : ℕ) → parsed t ≡ Some n → (t ≡ decimal n) × (n < 100000)
 parsed_decimal t n e =
     let f = parsed_form t n e in
     let d = number_is_decimal t f.0 in

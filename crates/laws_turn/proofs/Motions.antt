@@ -5,7 +5,7 @@ use Prim.Native.Nat.{ℕ, ◌+◌, ◌-◌, ◌*◌, ◌≤◌, ◌<◌}
 use mathlib.Core.Path.{◌≡◌, refl, sym, ap, ◌∙◌}
 use mathlib.Core.Bool.{Bool}
 use mathlib.Core.List.{List, [], ◌∷◌, ◌++◌}
-use mathlib.Core.Option.{Option, none, some}
+use Rattle.std.specs.Prelude.{Option, None, Some}
 use native.Mathlib.Omega.{arith}
 use lib.ListN.{length}
 use Rattle.meanings.specs.declared.PowerSums.{PowerSums}
@@ -35,7 +35,7 @@ abbrev with_passes : ℕ → ℕ → PowerSums → ℕ → RunningSums
 with_passes l r s n = record { left = l; right = r; sums = s; passes = n }
 
 module _ (ts vs : List ℕ) where
-  pub refused_keeps : (r : RunningSums) (m : Move) (e : Fault) → turn_refusal ts vs r m.bandwidth ≡ some e
+  pub refused_keeps : (r : RunningSums) (m : Move) (e : Fault) → turn_refusal ts vs r m.bandwidth ≡ Some e
       → turn_record ts vs r m.point m.bandwidth ≡ r
   unfolding turn_record
   refused_keeps r m e q = rw q
@@ -43,13 +43,13 @@ module _ (ts vs : List ℕ) where
   -- ---- passes enter no other field
   refused_or_moved : (f : Option Fault) (r s r' s' : RunningSums) → AlikeButPasses r s → AlikeButPasses r' s'
       → AlikeButPasses (next_record r (unless f r')) (next_record s (unless f s'))
-  refused_or_moved none r s r' s' a b = b
-  refused_or_moved (some e) r s r' s' a b = a
+  refused_or_moved None r s r' s' a b = b
+  refused_or_moved (Some e) r s r' s' a b = a
 
   refused_or_turned : (f : Option Fault) (r s r' s' : RunningSums) → AlikeButPasses r s → AlikeButPasses r' s'
       → AlikeButPasses (accepted_or f r' r) (accepted_or f s' s)
-  refused_or_turned none r s r' s' a b = b
-  refused_or_turned (some e) r s r' s' a b = a
+  refused_or_turned None r s r' s' a b = b
+  refused_or_turned (Some e) r s r' s' a b = a
 
   any_passes : (l r : ℕ) (s : PowerSums) (n k : ℕ) → AlikeButPasses (with_passes l r s n) (with_passes l r s k)
   any_passes l r s n k = record { left_alike = refl; right_alike = refl; sums_alike = refl }
@@ -89,7 +89,7 @@ module _ (ts vs : List ℕ) where
   steps_alike (m ∷ ms) r s a = steps_alike ms (after_step ts vs r m) (after_step ts vs s m) (motion_alike r s (step m) a)
 
   -- ---- steps alone: the passes are the edges' sum
-  few_accepted : (r : RunningSums) (h : ℕ) → first_of (advance_checks full ts vs r.left r.right h) ≡ none → length ts ≤ full.samples
+  few_accepted : (r : RunningSums) (h : ℕ) → first_of (advance_checks full ts vs r.left r.right h) ≡ None → length ts ≤ full.samples
   few_accepted r h q = (advance_accepts full (same_limits full) ts vs r.left r.right h q).few
 
   step_counted : (r : RunningSums) (m : Move) → Within ts r → r.passes ≡ r.right + r.left
@@ -101,8 +101,8 @@ module _ (ts vs : List ℕ) where
           → Onward ts r (moved ts vs r m.point m.bandwidth)
           → (next_record r (unless f (moved ts vs r m.point m.bandwidth))).passes
           ≡ (next_record r (unless f (moved ts vs r m.point m.bandwidth))).right + (next_record r (unless f (moved ts vs r m.point m.bandwidth))).left
-      by none q o = passes_count r _ _ o.left_stays_or_rises o.right_stays_or_rises e (omega (arith, few_accepted r m.bandwidth q, o.within))
-      by (some g) q o = e
+      by None q o = passes_count r _ _ o.left_stays_or_rises o.right_stays_or_rises e (omega (arith, few_accepted r m.bandwidth q, o.within))
+      by (Some g) q o = e
 
   steps_counted : (ms : List Move) (r : RunningSums) → Within ts r → r.passes ≡ r.right + r.left
       → (after ts vs r ms).passes ≡ (after ts vs r ms).right + (after ts vs r ms).left
@@ -154,10 +154,10 @@ module _ (ts vs : List ℕ) (minutes : AtMost max_u16 ts) (values : AtMost max_u
     where
       by : (f : Option Fault) → first_of (advance_checks full ts vs r.left r.right m.bandwidth) ≡ f
           → Direct ts vs (next_record r (unless f (moved ts vs r m.point m.bandwidth)))
-      by none q =
+      by None q =
           let a = advance_accepts full (same_limits full) ts vs r.left r.right m.bandwidth q in
           moved_direct (of_16_bits a.even a.few) r m.point m.bandwidth d
-      by (some e) q = d
+      by (Some e) q = d
 
   pub fresh_direct : Direct ts vs fresh
   fresh_direct = record { edges = omega arith; inside = omega arith; sums_are_direct = refl }
@@ -179,16 +179,16 @@ module _ (ts vs : List ℕ) (minutes : AtMost max_u16 ts) (values : AtMost max_u
           wraps_back 64 _ _ _ _ (omega arith) (omega arith)
 
 module _ (ts vs : List ℕ) (minutes : AtMost max_u16 ts) (values : AtMost max_u16 vs) (r : RunningSums) (z h : ℕ) (d : Direct ts vs r) where
-  accepted_turn : turn_refusal ts vs r h ≡ none → TurnAccepted ts vs r.left r.right h
+  accepted_turn : turn_refusal ts vs r h ≡ None → TurnAccepted ts vs r.left r.right h
   accepted_turn q = turn_accepts full (same_limits full) ts vs r.left r.right h q
 
   -- an accepted turn stands on its window
-  pub turn_on_window : turn_refusal ts vs r h ≡ none → OnWindow ts vs z h (turn_record ts vs r z h)
+  pub turn_on_window : turn_refusal ts vs r h ≡ None → OnWindow ts vs z h (turn_record ts vs r z h)
   unfolding turn_record
   turn_on_window q = let a = accepted_turn q in rw q (turned_on_window ts vs minutes values r z h d (of_16_bits ts vs minutes values a.even a.few))
 
   -- as a fresh record does that a step or a turn moves there; passes aside
-  pub turn_as_from_fresh : turn_refusal ts vs r h ≡ none
+  pub turn_as_from_fresh : turn_refusal ts vs r h ≡ None
       → AlikeButPasses (turn_record ts vs r z h) (moved ts vs fresh z h) × AlikeButPasses (turn_record ts vs r z h) (turned ts vs fresh z h)
   turn_as_from_fresh q =
       let a = accepted_turn q in
@@ -212,7 +212,7 @@ module _ (ts vs : List ℕ) (minutes : AtMost max_u16 ts) (values : AtMost max_u
           }
 
   -- its row at its mark is that of the question there
-  pub turn_gives_row : turn_refusal ts vs r h ≡ none → evaluate full ts vs z h ≡ given (record_row (turn_record ts vs r z h) z h)
+  pub turn_gives_row : turn_refusal ts vs r h ≡ None → evaluate full ts vs z h ≡ given (record_row (turn_record ts vs r z h) z h)
   unfolding evaluate
   turn_gives_row q =
       let a = accepted_turn q in
@@ -222,7 +222,7 @@ module _ (ts vs : List ℕ) (minutes : AtMost max_u16 ts) (values : AtMost max_u
       record_of_window_gives_row ts vs z h (turn_record ts vs r z h) a.ordered fit w.left_is w.right_is w.sums_are in
       rw (asked q) (ap given (sym row))
     where
-      asked : turn_refusal ts vs r h ≡ none → evaluate_refusal full ts vs h ≡ none
+      asked : turn_refusal ts vs r h ≡ None → evaluate_refusal full ts vs h ≡ None
       asked e =
           let b = none_of_both (series_checks full ts vs) (record_checks (length ts) r.left r.right ++ bandwidth_checks h) e in
           first_of_rest (series_checks full ts vs) (bandwidth_checks h) b.0
@@ -240,8 +240,8 @@ module _ (ts vs : List ℕ) (minutes : AtMost max_u16 ts) (values : AtMost max_u
       }
 
       by : (f : Option Fault) → turn_refusal ts vs r m.bandwidth ≡ f → Direct ts vs (turn_record ts vs r m.point m.bandwidth)
-      by none q = on_window m.point m.bandwidth _ (turn_on_window ts vs minutes values r m.point m.bandwidth d q)
-      by (some e) q = rw (refused_keeps ts vs r m e q) d
+      by None q = on_window m.point m.bandwidth _ (turn_on_window ts vs minutes values r m.point m.bandwidth d q)
+      by (Some e) q = rw (refused_keeps ts vs r m e q) d
 
   motion_direct : (r : RunningSums) (m : Motion) → Direct ts vs r → Direct ts vs (after_motion ts vs r m)
   motion_direct r (step m) d = step_direct ts vs minutes values r m d
@@ -256,22 +256,22 @@ module _ (ts vs : List ℕ) (minutes : AtMost max_u16 ts) (values : AtMost max_u
   reached_direct r w = rw w.leads_to (motions_direct w.motions fresh (fresh_direct ts vs minutes values))
 
   -- steps behind an accepted turn, with no edge back from it on: the sums are those of demand 3, over the window of the step accepted last
-  pub steps_behind_turn : (r : RunningSums) (m : Move) (ms : List Move) → Direct ts vs r → turn_refusal ts vs r m.bandwidth ≡ none
-      → NoEdgeBackAfter ts vs (some m) ms
-      → AlikeButPasses (after ts vs (turn_record ts vs r m.point m.bandwidth) ms) (record_at ts vs (accepted_after ts vs (some m) ms))
+  pub steps_behind_turn : (r : RunningSums) (m : Move) (ms : List Move) → Direct ts vs r → turn_refusal ts vs r m.bandwidth ≡ None
+      → NoEdgeBackAfter ts vs (Some m) ms
+      → AlikeButPasses (after ts vs (turn_record ts vs r m.point m.bandwidth) ms) (record_at ts vs (accepted_after ts vs (Some m) ms))
   steps_behind_turn r m ms d q e =
       let w = turn_on_window ts vs minutes values r m.point m.bandwidth d q in
       let o = (accepted_turn ts vs minutes values r m.point m.bandwidth d q).ordered in
-      rw (← (record_stands ts vs minutes values o (some m) ms e))
+      rw (← (record_stands ts vs minutes values o (Some m) ms e))
       (steps_alike ts vs ms (turn_record ts vs r m.point m.bandwidth) (at_window ts vs m.point m.bandwidth)
       (record { left_alike = w.left_is; right_alike = w.right_is; sums_alike = w.sums_are }))
 
-  pub sums_behind_turn : (r : RunningSums) (m : Move) (ms : List Move) → Direct ts vs r → turn_refusal ts vs r m.bandwidth ≡ none
-      → NoEdgeBackAfter ts vs (some m) ms
-      → (after ts vs (turn_record ts vs r m.point m.bandwidth) ms).sums ≡ window_direct ts vs (accepted_after ts vs (some m) ms)
+  pub sums_behind_turn : (r : RunningSums) (m : Move) (ms : List Move) → Direct ts vs r → turn_refusal ts vs r m.bandwidth ≡ None
+      → NoEdgeBackAfter ts vs (Some m) ms
+      → (after ts vs (turn_record ts vs r m.point m.bandwidth) ms).sums ≡ window_direct ts vs (accepted_after ts vs (Some m) ms)
   sums_behind_turn r m ms d q e =
       (steps_behind_turn r m ms d q e).sums_alike
-      ∙ sums_are_window ts vs (accepted_turn ts vs minutes values r m.point m.bandwidth d q).ordered (accepted_after ts vs (some m) ms)
+      ∙ sums_are_window ts vs (accepted_turn ts vs minutes values r m.point m.bandwidth d q).ordered (accepted_after ts vs (Some m) ms)
 
 -- a turn back and forth passes more than twice each reading
 abbrev four_minutes : List ℕ

@@ -1,2 +1,1 @@
 pub mod Copies
-pub mod Fronts

@@ -1,7 +1,7 @@
 -- The two calls at one mark agree: the run is that of the row which the first gives, and empty where it refuses.
 use Prim.Native.Nat.{ℕ, ◌-◌}
 use mathlib.Core.Path.{◌≡◌, refl}
-use mathlib.Core.Option.{Option, none, some}
+use Rattle.std.specs.Prelude.{Option, None, Some}
 use mathlib.Core.List.{List, []}
 use lib.ListN.{take, drop}
 use Rattle.meanings.specs.declared.Limits.{Limits}
@@ -27,5 +27,5 @@ calls_agree L ts vs z h = by (evaluate_refusal L ts vs h)
     by : (f : Option Fault)
         → (accepted_or f (run_of ts vs z h) [] ≡ part_of vs (unless f (estimate ts vs z h)))
         × (accepted_or f (left_of ts z h) 0 ≡ start_of (unless f (estimate ts vs z h)))
-    by none = (refl, refl)
-    by (some e) = (refl, refl)
+    by None = (refl, refl)
+    by (Some e) = (refl, refl)

@@ -1,10 +1,10 @@
 -- What an accepted call has shown: no check of its list holds, so minutes and marks are ordered, half widths are in range, and no edge falls.
 use Prim.Native.Nat.{ℕ, zero, suc, ◌-◌, ◌≤◌, ◌<◌}
+use Rattle.std.specs.Prelude.{Result, Ok, Err, Option, None, Some}
 use mathlib.Core.Path.{◌≡◌, refl, sym, ap, ◌∙◌}
 use mathlib.Core.Logic.{◌⊎◌, inl, inr}
 use mathlib.Core.Bool.{Bool, true, false, ◌||◌}
 use mathlib.Core.List.{List, [], ◌∷◌, ◌++◌}
-use mathlib.Core.Option.{Option, none, some}
 use native.Mathlib.Nat.{not-suc-le-zero, le_refl, le_trans, eq-or-lt_of_le, le_of_suc-le-suc}
 use native.Mathlib.Omega.{arith}
 use borrow.Author.Tests.{ltb-false, le-ltb, eqb-false}
@@ -12,8 +12,6 @@ use lib.Dec.{ltb, eqb}
 use lib.ListN.{length, get_or}
 use Rattle.meanings.specs.declared.Limits.{Limits}
 use Rattle.meanings.specs.declared.Refusal.{Refusal}
-use Rattle.meanings.specs.declared.Verdict.{Verdict}
-use Rattle.meanings.specs.declared.Verdict.TheVariants.{Faulty}
 use Rattle.meanings.specs.Lists.{lowest, Ordered}
 use Rattle.meanings.specs.Limits.{full, preview, LimitsWithin, max_bandwidth}
 use Rattle.meanings.specs.Reports.{Fault, fault_of, verdict_fault, given, unless}
@@ -26,57 +24,57 @@ use Rattle.meanings.proofs.Search.{lowest_none}
 -- no check of the list holds
 abbrev pub NoneHolds : List Check → Type 0
 NoneHolds [] = Unit {0}
-NoneHolds (c ∷ cs) = (c.place ≡ none) × NoneHolds cs
+NoneHolds (c ∷ cs) = (c.place ≡ None) × NoneHolds cs
 
-pub none_holds : (cs : List Check) → first_of cs ≡ none → NoneHolds cs
+pub none_holds : (cs : List Check) → first_of cs ≡ None → NoneHolds cs
 none_holds [] e = tt
 none_holds (c ∷ cs) e = by c.place refl e (none_holds cs)
   where
-    by : (p : Option ℕ) → c.place ≡ p → fault_or c.number p (first_of cs) ≡ none → (first_of cs ≡ none → NoneHolds cs)
-        → (c.place ≡ none) × NoneHolds cs
-    by none q e k = (q, k e)
-    by (some n) q e k = let z : ◌≡◌ {A = ℕ} 0 1 = cc in absurd (omega arith)
+    by : (p : Option ℕ) → c.place ≡ p → fault_or c.number p (first_of cs) ≡ None → (first_of cs ≡ None → NoneHolds cs)
+        → (c.place ≡ None) × NoneHolds cs
+    by None q e k = (q, k e)
+    by (Some n) q e k = let z : ◌≡◌ {A = ℕ} 0 1 = cc in absurd (omega arith)
 
 -- checks after others: looked at where none of those holds
-pub first_of_front : (cs ds : List Check) (e : Fault) → first_of cs ≡ some e → first_of (cs ++ ds) ≡ some e
+pub first_of_front : (cs ds : List Check) (e : Fault) → first_of cs ≡ Some e → first_of (cs ++ ds) ≡ Some e
 first_of_front [] ds e q = let z : ◌≡◌ {A = ℕ} 0 1 = cc in absurd (omega arith)
 first_of_front (c ∷ cs) ds e q = by c.place q (first_of_front cs ds e)
   where
-    by : (p : Option ℕ) → fault_or c.number p (first_of cs) ≡ some e → (first_of cs ≡ some e → first_of (cs ++ ds) ≡ some e)
-        → fault_or c.number p (first_of (cs ++ ds)) ≡ some e
-    by none q k = k q
-    by (some n) q k = q
+    by : (p : Option ℕ) → fault_or c.number p (first_of cs) ≡ Some e → (first_of cs ≡ Some e → first_of (cs ++ ds) ≡ Some e)
+        → fault_or c.number p (first_of (cs ++ ds)) ≡ Some e
+    by None q k = k q
+    by (Some n) q k = q
 
-pub first_of_rest : (cs ds : List Check) → first_of cs ≡ none → first_of (cs ++ ds) ≡ first_of ds
+pub first_of_rest : (cs ds : List Check) → first_of cs ≡ None → first_of (cs ++ ds) ≡ first_of ds
 first_of_rest [] ds q = refl
 first_of_rest (c ∷ cs) ds q = by c.place q (first_of_rest cs ds)
   where
-    by : (p : Option ℕ) → fault_or c.number p (first_of cs) ≡ none → (first_of cs ≡ none → first_of (cs ++ ds) ≡ first_of ds)
+    by : (p : Option ℕ) → fault_or c.number p (first_of cs) ≡ None → (first_of cs ≡ None → first_of (cs ++ ds) ≡ first_of ds)
         → fault_or c.number p (first_of (cs ++ ds)) ≡ first_of ds
-    by none q k = k q
-    by (some n) q k = let z : ◌≡◌ {A = ℕ} 0 1 = cc in absurd (omega arith)
+    by None q k = k q
+    by (Some n) q k = let z : ◌≡◌ {A = ℕ} 0 1 = cc in absurd (omega arith)
 
-pub none_of_both : (cs ds : List Check) → first_of (cs ++ ds) ≡ none → (first_of cs ≡ none) × (first_of ds ≡ none)
+pub none_of_both : (cs ds : List Check) → first_of (cs ++ ds) ≡ None → (first_of cs ≡ None) × (first_of ds ≡ None)
 none_of_both cs ds q = by (first_of cs) refl
   where
-    by : (f : Option Fault) → first_of cs ≡ f → (first_of cs ≡ none) × (first_of ds ≡ none)
-    by none e = (e, sym (first_of_rest cs ds e) ∙ q)
-    by (some f) e = let t = first_of_front cs ds f e in let z : ◌≡◌ {A = ℕ} 0 1 = cc in absurd (omega arith)
+    by : (f : Option Fault) → first_of cs ≡ f → (first_of cs ≡ None) × (first_of ds ≡ None)
+    by None e = (e, sym (first_of_rest cs ds e) ∙ q)
+    by (Some f) e = let t = first_of_front cs ds f e in let z : ◌≡◌ {A = ℕ} 0 1 = cc in absurd (omega arith)
 
 -- the same of what a check of the code found
-pub found_in_front : (cs ds : List Check) (v : Verdict) (r : Refusal) → verdict_fault v ≡ first_of cs → v ≡ Faulty r
-    → some (fault_of r) ≡ first_of (cs ++ ds)
+pub found_in_front : (cs ds : List Check) (v : Result Unit Refusal) (r : Refusal) → verdict_fault v ≡ first_of cs → v ≡ Err r
+    → Some (fault_of r) ≡ first_of (cs ++ ds)
 found_in_front cs ds v r e q = sym (first_of_front cs ds (fault_of r) (sym e ∙ ap verdict_fault q))
 
-pub found_none_in_front : (cs ds : List Check) (v : Verdict) → verdict_fault v ≡ first_of cs → v ≡ Verdict.Fit → first_of (cs ++ ds) ≡ first_of ds
+pub found_none_in_front : (cs ds : List Check) (v : Result Unit Refusal) → verdict_fault v ≡ first_of cs → v ≡ (Ok tt) → first_of (cs ++ ds) ≡ first_of ds
 found_none_in_front cs ds v e q = first_of_rest cs ds (sym e ∙ ap verdict_fault q)
 
 -- checks behind others decide where the code has found nothing of those
-pub found_behind : (cs ds : List Check) (v : Verdict) (o : Option Fault) → verdict_fault v ≡ first_of cs → v ≡ Verdict.Fit → o ≡ first_of ds
+pub found_behind : (cs ds : List Check) (v : Result Unit Refusal) (o : Option Fault) → verdict_fault v ≡ first_of cs → v ≡ (Ok tt) → o ≡ first_of ds
     → o ≡ first_of (cs ++ ds)
 found_behind cs ds v o e q f = f ∙ sym (found_none_in_front cs ds v e q)
 
-pub at_none : (p : ℕ) (b : Bool) → at p b ≡ none → b ≡ false
+pub at_none : (p : ℕ) (b : Bool) → at p b ≡ None → b ≡ false
 at_none p true e = let z : ◌≡◌ {A = ℕ} 0 1 = cc in absurd (omega arith)
 at_none p false e = refl
 
@@ -126,7 +124,7 @@ steps_ordered xs f i (suc j) a l = by (eq-or-lt_of_le a) (steps_ordered xs f i j
     by (inl e) k = rw e (le_refl _)
     by (inr m) k = le_trans (k (le_of_suc-le-suc m) (omega arith)) (f j l)
 
-pub no_decrease_ordered : (xs : List ℕ) → lowest (decreases xs) (length xs) ≡ none → Ordered xs
+pub no_decrease_ordered : (xs : List ℕ) → lowest (decreases xs) (length xs) ≡ None → Ordered xs
 no_decrease_ordered xs e =
     steps_ordered xs (λ k l. ltb-false (get_or xs (suc k) 0) (get_or xs k 0) (lowest_none (decreases xs) (length xs) e (suc k) l))
 
@@ -143,7 +141,7 @@ pub record SizeAccepted (L : Limits) (ts vs : List ℕ) : Type 0 where
   pub even : length ts ≡ length vs
   pub few : length ts ≤ L.samples
 
-pub size_accepts : (L : Limits) (ts vs : List ℕ) → first_of (size_checks L ts vs) ≡ none → SizeAccepted L ts vs
+pub size_accepts : (L : Limits) (ts vs : List ℕ) → first_of (size_checks L ts vs) ≡ None → SizeAccepted L ts vs
 size_accepts L ts vs e =
     let a = none_holds (size_checks L ts vs) e in
     record {
@@ -151,15 +149,15 @@ size_accepts L ts vs e =
       few = ltb-false L.samples (length ts) (at_none 0 _ a.1.0);
     }
 
-pub sample_order_accepts : (ts : List ℕ) → first_of (sample_order_checks ts) ≡ none → Ordered ts
+pub sample_order_accepts : (ts : List ℕ) → first_of (sample_order_checks ts) ≡ None → Ordered ts
 sample_order_accepts ts e = no_decrease_ordered ts (none_holds (sample_order_checks ts) e).0
 
-pub record_accepts : (n left right : ℕ) → first_of (record_checks n left right) ≡ none → (left ≤ right) × (right ≤ n)
+pub record_accepts : (n left right : ℕ) → first_of (record_checks n left right) ≡ None → (left ≤ right) × (right ≤ n)
 record_accepts n left right e =
     let o = or_false (ltb right left) (ltb n right) (at_none 0 _ (none_holds (record_checks n left right) e).0) in
     (ltb-false right left o.0, ltb-false n right o.1)
 
-pub bandwidth_accepts : (h : ℕ) → first_of (bandwidth_checks h) ≡ none → (0 < h) × (h ≤ max_bandwidth)
+pub bandwidth_accepts : (h : ℕ) → first_of (bandwidth_checks h) ≡ None → (0 < h) × (h ≤ max_bandwidth)
 bandwidth_accepts h e = bandwidth_in_range h (at_none 0 (bad_bandwidth h) (none_holds (bandwidth_checks h) e).0)
 
 -- what the question at one mark accepts under limits at most the full ones
@@ -170,7 +168,7 @@ pub record EvaluateAccepted (ts vs : List ℕ) (h : ℕ) : Type 0 where
   pub positive : 0 < h
   pub bandwidth : h ≤ max_bandwidth
 
-pub evaluate_accepts : (L : Limits) → LimitsWithin L full → (ts vs : List ℕ) (h : ℕ) → evaluate_refusal L ts vs h ≡ none → EvaluateAccepted ts vs h
+pub evaluate_accepts : (L : Limits) → LimitsWithin L full → (ts vs : List ℕ) (h : ℕ) → evaluate_refusal L ts vs h ≡ None → EvaluateAccepted ts vs h
 evaluate_accepts L w ts vs h e =
     let a = none_of_both (series_checks L ts vs) (bandwidth_checks h) e in
     let b = none_of_both (size_checks L ts vs) (sample_order_checks ts) a.0 in
@@ -194,7 +192,7 @@ pub record AdvanceAccepted (ts vs : List ℕ) (left right h : ℕ) : Type 0 wher
   pub bandwidth : h ≤ max_bandwidth
 
 pub advance_accepts : (L : Limits) → LimitsWithin L full → (ts vs : List ℕ) (left right h : ℕ)
-    → first_of (advance_checks L ts vs left right h) ≡ none → AdvanceAccepted ts vs left right h
+    → first_of (advance_checks L ts vs left right h) ≡ None → AdvanceAccepted ts vs left right h
 advance_accepts L w ts vs left right h e =
     let a = none_of_both (size_checks L ts vs) (record_checks (length ts) left right ++ bandwidth_checks h) e in
     let b = none_of_both (record_checks (length ts) left right) (bandwidth_checks h) a.1 in
@@ -221,7 +219,7 @@ pub record TurnAccepted (ts vs : List ℕ) (left right h : ℕ) : Type 0 where
   pub bandwidth : h ≤ max_bandwidth
 
 pub turn_accepts : (L : Limits) → LimitsWithin L full → (ts vs : List ℕ) (left right h : ℕ)
-    → first_of (turn_checks L ts vs left right h) ≡ none → TurnAccepted ts vs left right h
+    → first_of (turn_checks L ts vs left right h) ≡ None → TurnAccepted ts vs left right h
 turn_accepts L w ts vs left right h e =
     let a = none_of_both (series_checks L ts vs) (record_checks (length ts) left right ++ bandwidth_checks h) e in
     let b = none_of_both (size_checks L ts vs) (sample_order_checks ts) a.0 in
@@ -248,7 +246,7 @@ pub record CurveSizes (L : Limits) (ts vs zs hs : List ℕ) (more : Bool) : Type
   pub few_points : length zs ≤ L.points
   pub some_point : 0 < length zs
 
-pub curve_sizes_accept : (L : Limits) (ts vs zs hs : List ℕ) (more : Bool) → first_of (curve_size_checks L ts vs zs hs more) ≡ none
+pub curve_sizes_accept : (L : Limits) (ts vs zs hs : List ℕ) (more : Bool) → first_of (curve_size_checks L ts vs zs hs more) ≡ None
     → CurveSizes L ts vs zs hs more
 curve_sizes_accept L ts vs zs hs more e =
     let a = none_holds (curve_size_checks L ts vs zs hs more) e in
@@ -266,9 +264,9 @@ curve_sizes_accept L ts vs zs hs more e =
     }
 
 -- an answer that is given was not refused
-pub given_accepted : {A : Type 0} (f : Option Fault) (a b : A) → unless f a ≡ given b → (f ≡ none) × (a ≡ b)
-given_accepted none a b e = (refl, cc)
-given_accepted (some r) a b e = let z : ◌≡◌ {A = ℕ} 0 1 = cc in absurd (omega arith)
+pub given_accepted : {A : Type 0} (f : Option Fault) (a b : A) → unless f a ≡ given b → (f ≡ None) × (a ≡ b)
+given_accepted None a b e = (refl, cc)
+given_accepted (Some r) a b e = let z : ◌≡◌ {A = ℕ} 0 1 = cc in absurd (omega arith)
 
 -- a step on a record whose edges lie within the readings is refused as the book refuses it, never with 11
 pub advance_refused_as_logged : (L : Limits) (ts vs : List ℕ) (left right h : ℕ) → left ≤ right → right ≤ length ts

@@ -6,7 +6,7 @@ use mathlib.Core.Logic.Iff
 use mathlib.Core.Logic.{◌↔◌, ◌⊎◌, inl, inr}
 use mathlib.Core.Bool.{Bool, true, false, not, ◌&&◌, and-eq-true_iff}
 use mathlib.Core.List.{List, [], ◌∷◌, ◌++◌, append_assoc, append-nil, map}
-use mathlib.Core.Option.{Option, none, some}
+use Rattle.std.specs.Prelude.{Option, None, Some}
 use native.Mathlib.Decide.{dec_lt}
 use native.Mathlib.Omega.{arith}
 use borrow.Author.Tests.{ltb-true, ltb-false, lt-ltb, leb-true, le-leb}
@@ -39,11 +39,11 @@ abbrev right_at : List ℕ → Move → ℕ
 right_at ts m = right_of ts m.point m.bandwidth
 
 -- edges that do not fall pass no fewer readings
-left_rises : (ts : List ℕ) (o m : Move) → NotBelow (some o) m → left_at ts o ≤ left_at ts m
+left_rises : (ts : List ℕ) (o m : Move) → NotBelow (Some o) m → left_at ts o ≤ left_at ts m
 unfolding left_of
 left_rises ts o m e = count_grows _ _ (λ t l. lt-ltb (t + m.bandwidth) m.point (omega (arith, ltb-true (t + o.bandwidth) o.point l))) ts
 
-right_rises : (ts : List ℕ) (o m : Move) → NotBelow (some o) m → right_at ts o ≤ right_at ts m
+right_rises : (ts : List ℕ) (o m : Move) → NotBelow (Some o) m → right_at ts o ≤ right_at ts m
 unfolding right_of
 right_rises ts o m e = count_grows _ _ (λ t l. le-leb t (m.point + m.bandwidth) (omega (arith, leb-true t (o.point + o.bandwidth) l))) ts
 
@@ -89,39 +89,39 @@ module _ (ts : List ℕ) (ordered : Ordered ts) (m : Move) (r : RunningSums) (l 
           )))
 
 pub refusal_unless : {A : Type 0} (f : Option Fault) (a : A) → refusal (unless f a) ≡ f
-refusal_unless none a = refl
-refusal_unless (some e) a = refl
+refusal_unless None a = refl
+refusal_unless (Some e) a = refl
 
 -- the record of the last accepted step's window; before any it is fresh
 abbrev pub record_at : List ℕ → List ℕ → Option Move → RunningSums
-record_at ts vs none = fresh
-record_at ts vs (some m) = at_window ts vs m.point m.bandwidth
+record_at ts vs None = fresh
+record_at ts vs (Some m) = at_window ts vs m.point m.bandwidth
 
 module _ (ts vs : List ℕ) where
   record_at_within : (o : Option Move) → Within ts (record_at ts vs o)
-  record_at_within none = omega arith
-  record_at_within (some m) = record { edges = left_at_most_right ts _ _; inside = right_at_most_length ts _ _ }
+  record_at_within None = omega arith
+  record_at_within (Some m) = record { edges = left_at_most_right ts _ _; inside = right_at_most_length ts _ _ }
 
-  record_at_onward : (o : Option Move) (m : Move) → NotBelow o m → Onward ts (record_at ts vs o) (record_at ts vs (some m))
-  record_at_onward none m e = record { left_stays_or_rises = zero-le; right_stays_or_rises = zero-le; within = record_at_within (some m) }
-  record_at_onward (some o) m e = record {
+  record_at_onward : (o : Option Move) (m : Move) → NotBelow o m → Onward ts (record_at ts vs o) (record_at ts vs (Some m))
+  record_at_onward None m e = record { left_stays_or_rises = zero-le; right_stays_or_rises = zero-le; within = record_at_within (Some m) }
+  record_at_onward (Some o) m e = record {
     left_stays_or_rises = left_rises ts o m e;
     right_stays_or_rises = right_rises ts o m e;
-    within = record_at_within (some m);
+    within = record_at_within (Some m);
   }
 
   sums_are_over_run : (o : Option Move)
       → (record_at ts vs o).sums ≡ six (power_sum ts vs (record_at ts vs o).left ((record_at ts vs o).right - (record_at ts vs o).left))
-  sums_are_over_run none = refl
-  sums_are_over_run (some m) = refl
+  sums_are_over_run None = refl
+  sums_are_over_run (Some m) = refl
 
   passes_are_edges : (o : Option Move) → (record_at ts vs o).passes ≡ (record_at ts vs o).right + (record_at ts vs o).left
-  passes_are_edges none = refl
-  passes_are_edges (some m) = refl
+  passes_are_edges None = refl
+  passes_are_edges (Some m) = refl
 
   pub sums_are_window : Ordered ts → (o : Option Move) → (record_at ts vs o).sums ≡ window_direct ts vs o
-  sums_are_window ordered none = refl
-  sums_are_window ordered (some m) = six_agree _ _ (λ p q a b. sym (range_sum_is_window_sum p q ts vs m.point m.bandwidth ordered))
+  sums_are_window ordered None = refl
+  sums_are_window ordered (Some m) = six_agree _ _ (λ p q a b. sym (range_sum_is_window_sum p q ts vs m.point m.bandwidth ordered))
 
   -- a front of a list with no edge back has none
   front_no_edge_back : (o : Option Move) (ms ns : List Move) → NoEdgeBackAfter ts vs o (ms ++ ns) → NoEdgeBackAfter ts vs o ms
@@ -130,7 +130,7 @@ module _ (ts vs : List ℕ) where
 
 -- a step from the window of the last accepted step leads to the window of the last accepted step with it
 module _ (ts vs : List ℕ) (minutes : AtMost max_u16 ts) (values : AtMost max_u16 vs) (ordered : Ordered ts) where
-  accepted_small : (m : Move) → log_refusal ts vs m ≡ none → Small ts vs
+  accepted_small : (m : Move) → log_refusal ts vs m ≡ None → Small ts vs
   accepted_small m a =
       let n = none_holds (log_checks full ts vs m.bandwidth) a in
       record {
@@ -140,7 +140,7 @@ module _ (ts vs : List ℕ) (minutes : AtMost max_u16 ts) (values : AtMost max_u
         values = values;
       }
 
-  record_steps : (o : Option Move) (m : Move) → (log_refusal ts vs m ≡ none → NotBelow o m)
+  record_steps : (o : Option Move) (m : Move) → (log_refusal ts vs m ≡ None → NotBelow o m)
       → after_step ts vs (record_at ts vs o) m ≡ record_at ts vs (accepted_next ts vs o m)
   unfolding advance
   record_steps o m e =
@@ -149,26 +149,26 @@ module _ (ts vs : List ℕ) (minutes : AtMost max_u16 ts) (values : AtMost max_u
       (by (log_refusal ts vs m) refl)
     where
       by : (f : Option Fault) → log_refusal ts vs m ≡ f
-          → next_record (record_at ts vs o) (unless f (moved ts vs (record_at ts vs o) m.point m.bandwidth)) ≡ record_at ts vs (accepted_or f (some m) o)
-      by none q =
+          → next_record (record_at ts vs o) (unless f (moved ts vs (record_at ts vs o) m.point m.bandwidth)) ≡ record_at ts vs (accepted_or f (Some m) o)
+      by None q =
           let w = record_at_onward ts vs o m (e q) in
           moved_lands ts vs (accepted_small m q) ordered m.point m.bandwidth (record_at ts vs o) (record_at_within ts vs o).edges
           w.right_stays_or_rises w.left_stays_or_rises (sums_are_over_run ts vs o) (passes_are_edges ts vs o)
-      by (some g) q = refl
+      by (Some g) q = refl
 
-  log_steps : (o : Option Move) (m : Move) → (log_refusal ts vs m ≡ none → NotBelow o m)
+  log_steps : (o : Option Move) (m : Move) → (log_refusal ts vs m ≡ None → NotBelow o m)
       → log_step ts vs (log_of (record_at ts vs o)) m ≡ log_of (record_at ts vs (accepted_next ts vs o m))
   log_steps o m e = by (log_refusal ts vs m) refl
     where
       by : (f : Option Fault) → log_refusal ts vs m ≡ f
-          → accepted_or f (next_log ts (log_of (record_at ts vs o)) m) (log_of (record_at ts vs o)) ≡ log_of (record_at ts vs (accepted_or f (some m) o))
-      by none q =
+          → accepted_or f (next_log ts (log_of (record_at ts vs o)) m) (log_of (record_at ts vs o)) ≡ log_of (record_at ts vs (accepted_or f (Some m) o))
+      by None q =
           let w = record_at_onward ts vs o m (e q) in
           λ i. record {
             inserted = takes_up_to ts ordered m (record_at ts vs o) w.right_stays_or_rises i;
             evicted = lets_go_up_to ts ordered m (record_at ts vs o) w.right_stays_or_rises w.left_stays_or_rises i;
           }
-      by (some g) q = refl
+      by (Some g) q = refl
 
   pub record_stands : (o : Option Move) (ms : List Move) → NoEdgeBackAfter ts vs o ms
       → after ts vs (record_at ts vs o) ms ≡ record_at ts vs (accepted_after ts vs o ms)
@@ -182,10 +182,10 @@ module _ (ts vs : List ℕ) (minutes : AtMost max_u16 ts) (values : AtMost max_u
 
   -- from fresh: the window of the list's last accepted step, and a book of what the record's edges have passed
   pub record_follows : (ms : List Move) → NoEdgeBack ts vs ms → record_after ts vs ms ≡ record_at ts vs (last_accepted ts vs ms)
-  record_follows ms e = record_stands none ms e
+  record_follows ms e = record_stands None ms e
 
   pub log_follows : (ms : List Move) → NoEdgeBack ts vs ms → log_after_steps ts vs ms ≡ log_of (record_after ts vs ms)
-  log_follows ms e = log_stands none ms e ∙ ap log_of (sym (record_follows ms e))
+  log_follows ms e = log_stands None ms e ∙ ap log_of (sym (record_follows ms e))
 
   pub right_counts_insertions : (ms : List Move) → NoEdgeBack ts vs ms → (record_after ts vs ms).right ≡ insertion_count (log_after_steps ts vs ms)
   right_counts_insertions ms e = rw (log_follows ms e) (sym (length_below _))
@@ -200,7 +200,7 @@ module _ (ts vs : List ℕ) (minutes : AtMost max_u16 ts) (values : AtMost max_u
   step_holds before m e =
       let w = (after_onward ts vs fresh before (fresh_within ts)).within in
       let o = later_onward ts vs before (m ∷ []) in
-      let b = log_follows before (front_no_edge_back ts vs none before (m ∷ []) e) in
+      let b = log_follows before (front_no_edge_back ts vs None before (m ∷ []) e) in
       let b' = log_follows (before ++ m ∷ []) e in
       record {
         refused_alike = refusal_unless _ _ ∙ advance_refused_as_logged full ts vs _ _ m.bandwidth w.edges w.inside;
@@ -218,19 +218,19 @@ demand_3 ts vs ms minutes values ordered e = record {
   log_at_first = refl;
   each = λ before rest m q.
       step_holds ts vs minutes values ordered before m
-      (front_no_edge_back ts vs none (before ++ m ∷ []) rest (rw (append_assoc, ← q) e));
+      (front_no_edge_back ts vs None (before ++ m ∷ []) rest (rw (append_assoc, ← q) e));
 }
 
 -- what call and book are refused with is 8, 6 or 9 at place 0, so never 11
-pub refused_with_8_6_or_9 : (ts vs : List ℕ) (m : Move) (e : Fault) → log_refusal ts vs m ≡ some e
+pub refused_with_8_6_or_9 : (ts vs : List ℕ) (m : Move) (e : Fault) → log_refusal ts vs m ≡ Some e
     → ((e.number ≡ 8) ⊎ (e.number ≡ 6) ⊎ (e.number ≡ 9)) × (e.place ≡ 0)
 refused_with_8_6_or_9 ts vs m e = by (uneven_samples ts vs) (ltb full.samples (length ts)) (bad_bandwidth m.bandwidth)
   where
-    known : (n : ℕ) → ((n ≡ 8) ⊎ (n ≡ 6) ⊎ (n ≡ 9)) → some (record { number = n; place = 0 }) ≡ some e
+    known : (n : ℕ) → ((n ≡ 8) ⊎ (n ≡ 6) ⊎ (n ≡ 9)) → Some (record { number = n; place = 0 }) ≡ Some e
         → ((e.number ≡ 8) ⊎ (e.number ≡ 6) ⊎ (e.number ≡ 9)) × (e.place ≡ 0)
     known n o q = let r : record { number = n; place = 0 } ≡ e = cc in rw (← r) (o, refl)
 
-    by : (a b c : Bool) → first_of (check 8 (at 0 a) ∷ check 6 (at 0 b) ∷ check 9 (at 0 c) ∷ []) ≡ some e
+    by : (a b c : Bool) → first_of (check 8 (at 0 a) ∷ check 6 (at 0 b) ∷ check 9 (at 0 c) ∷ []) ≡ Some e
         → ((e.number ≡ 8) ⊎ (e.number ≡ 6) ⊎ (e.number ≡ 9)) × (e.place ≡ 0)
     by true b c q = known 8 (inl refl) q
     by false true c q = known 6 (inr (inl refl)) q
@@ -296,17 +296,17 @@ abbrev some_steps : List Move
 some_steps = moves (2 ∷ 0 ∷ 0 ∷ 9 ∷ []) (1 ∷ 70000 ∷ 0 ∷ 1 ∷ [])
 
 abbrev refused_with_9 : Option Fault
-refused_with_9 = some (record { number = 9; place = 0 })
+refused_with_9 = Some (record { number = 9; place = 0 })
 
 pub record Inhabited : Type 0 where
   pub minutes : AtMost max_u16 some_minutes
   pub values : AtMost max_u16 some_values
   pub ordered : Ordered some_minutes
   pub no_edge_back : NoEdgeBack some_minutes some_values some_steps
-  pub refusals : map (log_refusal some_minutes some_values) some_steps ≡ none ∷ refused_with_9 ∷ refused_with_9 ∷ none ∷ []
-  pub last : last_accepted some_minutes some_values some_steps ≡ some (record { point = 9; bandwidth = 1 })
-  pub second_is_back : ¬ NotBelow (some (record { point = 2; bandwidth = 1 })) (record { point = 0; bandwidth = 70000 })
-  pub third_is_back : ¬ NotBelow (some (record { point = 2; bandwidth = 1 })) (record { point = 0; bandwidth = 0 })
+  pub refusals : map (log_refusal some_minutes some_values) some_steps ≡ None ∷ refused_with_9 ∷ refused_with_9 ∷ None ∷ []
+  pub last : last_accepted some_minutes some_values some_steps ≡ Some (record { point = 9; bandwidth = 1 })
+  pub second_is_back : ¬ NotBelow (Some (record { point = 2; bandwidth = 1 })) (record { point = 0; bandwidth = 70000 })
+  pub third_is_back : ¬ NotBelow (Some (record { point = 2; bandwidth = 1 })) (record { point = 0; bandwidth = 0 })
   pub after_first : log_after_steps some_minutes some_values (take 1 some_steps) ≡ record { inserted = 0 ∷ []; evicted = [] }
   pub after_second : log_after_steps some_minutes some_values (take 2 some_steps) ≡ record { inserted = 0 ∷ []; evicted = [] }
   pub after_third : log_after_steps some_minutes some_values (take 3 some_steps) ≡ record { inserted = 0 ∷ []; evicted = [] }
@@ -328,8 +328,8 @@ inhabited = record {
   after_fourth = refl;
 }
   where
-    none_over : (xs : List ℕ) → lowest (λ i. ltb max_u16 (get_or xs i 0)) (length xs) ≡ none → AtMost max_u16 xs
+    none_over : (xs : List ℕ) → lowest (λ i. ltb max_u16 (get_or xs i 0)) (length xs) ≡ None → AtMost max_u16 xs
     none_over xs e i l = ltb-false _ _ (lowest_none _ (length xs) e i l)
 
-    refused_not_accepted : {A : Type 0} → refused_with_9 ≡ none → A
+    refused_not_accepted : {A : Type 0} → refused_with_9 ≡ None → A
     refused_not_accepted e = let z : ◌≡◌ {A = ℕ} 0 1 = cc in absurd (omega arith)

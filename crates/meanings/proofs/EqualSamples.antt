@@ -3,7 +3,7 @@
 use Prim.Native.Nat.{ℕ, zero, suc, ◌+◌, ◌*◌, ◌≤◌, ◌<◌}
 use mathlib.Core.Path.{◌≡◌, refl, ap}
 use mathlib.Core.Bool.{Bool, true, false}
-use mathlib.Core.Option.{none}
+use Rattle.std.specs.Prelude.{None}
 use native.Mathlib.Nat.{le_refl, sub-zero}
 use native.Mathlib.Omega.{arith}
 use borrow.Author.Tests.{le-ltb, le-leb, ne_eqb}
@@ -32,7 +32,7 @@ never_decreases n t zero l = refl
 never_decreases n t (suc k) l = rw (get_or-replicate n (suc k) t 0 l, get_or-replicate n k t 0 (omega arith)) (le-ltb t t (le_refl t))
 
 module _ (n t v z h : ℕ) (few : n ≤ full.samples) (positive : 0 < h) (bandwidth : h ≤ max_bandwidth) (inside : Inside z h t) where
-  accepted : evaluate_refusal full (replicate n t) (replicate n v) h ≡ none
+  accepted : evaluate_refusal full (replicate n t) (replicate n v) h ≡ None
   accepted =
       rw (
         length-replicate n t,

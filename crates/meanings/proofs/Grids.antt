@@ -4,7 +4,7 @@ use Prim.Native.Nat.{ℕ, zero, suc, ◌+◌, ◌-◌, ◌*◌, ◌≤◌, ◌<�
 use mathlib.Core.Path.{◌≡◌, refl, sym, ◌∙◌}
 use mathlib.Core.Logic.{◌⊎◌, inl, inr}
 use mathlib.Core.Bool.{false, or-false}
-use mathlib.Core.Option.{none}
+use Rattle.std.specs.Prelude.{None}
 use mathlib.Core.List.{List, [], ◌∷◌, ◌++◌}
 use native.Mathlib.Nat.{not-suc-le-zero, le_of_suc-le-suc, eq-or-lt_of_le}
 use native.Mathlib.Omega.{arith}
@@ -30,7 +30,7 @@ pub record FillAccepted (L : Limits) (z d preset n m : ℕ) : Type 0 where
   pub known : preset < length presets
   pub last : z + (n - 1) * d ≤ max_u16
 
-pub fill_accepts : (L : Limits) (z d preset n m : ℕ) → first_of (fill_checks L (length presets) z d preset n m) ≡ none
+pub fill_accepts : (L : Limits) (z d preset n m : ℕ) → first_of (fill_checks L (length presets) z d preset n m) ≡ None
     → FillAccepted L z d preset n m
 fill_accepts L z d preset n m e =
     let a = none_holds (fill_checks L (length presets) z d preset n m) e in

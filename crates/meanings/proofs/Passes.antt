@@ -4,7 +4,7 @@ use Prim.Native.Nat.{ℕ, ◌+◌, ◌-◌, ◌*◌, ◌≤◌}
 use mathlib.Core.Path.{◌≡◌, refl}
 use mathlib.Core.Bool.{Bool}
 use mathlib.Core.List.{List, [], ◌∷◌, ◌++◌}
-use mathlib.Core.Option.{Option, none, some}
+use Rattle.std.specs.Prelude.{Option, None, Some}
 use native.Mathlib.Nat.{le_refl}
 use native.Mathlib.Omega.{arith}
 use lib.ListN.{length}
@@ -47,8 +47,8 @@ module _ (ts vs : List ℕ) where
   step_onward r m w = by (first_of (advance_checks full ts vs r.left r.right m.bandwidth))
     where
       by : (f : Option Fault) → Onward ts r (next_record r (unless f (moved ts vs r m.point m.bandwidth)))
-      by none = moved_onward ts vs r m.point m.bandwidth w
-      by (some e) = record { left_stays_or_rises = le_refl _; right_stays_or_rises = le_refl _; within = w }
+      by None = moved_onward ts vs r m.point m.bandwidth w
+      by (Some e) = record { left_stays_or_rises = le_refl _; right_stays_or_rises = le_refl _; within = w }
 
   pub after_onward : (r : RunningSums) (ms : List Move) → Within ts r → Onward ts r (after ts vs r ms)
   after_onward r [] w = record { left_stays_or_rises = le_refl _; right_stays_or_rises = le_refl _; within = w }

@@ -3,7 +3,7 @@ use Prim.Native.Nat.{ℕ, zero, suc, ◌+◌, ◌≤◌, ◌<◌, zero-le}
 use mathlib.Core.Path.{◌≡◌, refl, sym, ◌∙◌}
 use mathlib.Core.Logic.{◌⊎◌, inl, inr}
 use mathlib.Core.Bool.{Bool, true, false, true≢false}
-use mathlib.Core.Option.{none, some}
+use Rattle.std.specs.Prelude.{None, Some}
 use native.Mathlib.Nat.{le_refl, eq-or-lt_of_le}
 use native.Mathlib.Omega.{arith}
 use borrow.Author.Tests.{ltb-true, ltb-false, lt-ltb}
@@ -70,25 +70,25 @@ one_more_below p i f e j l = by (eq-or-lt_of_le (let m : j ≤ i = omega arith i
     by (inr m) = f j m
 
 -- no lowest position: the test fails at all of them
-pub lowest_none : (p : ℕ → Bool) (n : ℕ) → lowest p n ≡ none → NoneBelow p n
+pub lowest_none : (p : ℕ → Bool) (n : ℕ) → lowest p n ≡ None → NoneBelow p n
 lowest_none p n e j l = by (ltb (first p 0 n) n) refl e
   where
-    by : (b : Bool) → ltb (first p 0 n) n ≡ b → pick b (some (first p 0 n)) none ≡ none → p j ≡ false
+    by : (b : Bool) → ltb (first p 0 n) n ≡ b → pick b (Some (first p 0 n)) None ≡ None → p j ≡ false
     by true t q = let z : ◌≡◌ {A = ℕ} 0 1 = cc in absurd (omega arith)
     by false t q = (first_is_first p 0 n).before j zero-le (let m = ltb-false (first p 0 n) n t in omega arith)
 
 -- the test fails everywhere: there is no lowest position
-pub none_lowest : (p : ℕ → Bool) (n : ℕ) → NoneBelow p n → lowest p n ≡ none
+pub none_lowest : (p : ℕ → Bool) (n : ℕ) → NoneBelow p n → lowest p n ≡ None
 none_lowest p n f = by (ltb (first p 0 n) n) refl
   where
-    by : (b : Bool) → ltb (first p 0 n) n ≡ b → pick b (some (first p 0 n)) none ≡ none
+    by : (b : Bool) → ltb (first p 0 n) n ≡ b → pick b (Some (first p 0 n)) None ≡ None
     by true t =
         let m = ltb-true (first p 0 n) n t in
         absurd (true≢false (sym ((first_is_first p 0 n).there (omega arith)) ∙ f (first p 0 n) m))
     by false t = refl
 
 -- a position that passes with none before it is the lowest
-pub lowest_at : (p : ℕ → Bool) (n k : ℕ) → k < n → p k ≡ true → NoneBelow p k → lowest p n ≡ some k
+pub lowest_at : (p : ℕ → Bool) (n k : ℕ) → k < n → p k ≡ true → NoneBelow p k → lowest p n ≡ Some k
 lowest_at p n k l e f = rw (here, lt-ltb k n l)
   where
     here : first p 0 n ≡ k
@@ -97,10 +97,10 @@ lowest_at p n k l e f = rw (here, lt-ltb k n l)
         (record { from = zero-le; upto = omega arith; before = λ j a b. f j b; there = λ m. e })
 
 -- the lowest position passes, and none before it does
-pub lowest_some : (p : ℕ → Bool) (n k : ℕ) → lowest p n ≡ some k → (k < n) × IsFirst p 0 n k
+pub lowest_some : (p : ℕ → Bool) (n k : ℕ) → lowest p n ≡ Some k → (k < n) × IsFirst p 0 n k
 lowest_some p n k e = by (ltb (first p 0 n) n) refl e
   where
-    by : (b : Bool) → ltb (first p 0 n) n ≡ b → pick b (some (first p 0 n)) none ≡ some k → (k < n) × IsFirst p 0 n k
+    by : (b : Bool) → ltb (first p 0 n) n ≡ b → pick b (Some (first p 0 n)) None ≡ Some k → (k < n) × IsFirst p 0 n k
     by true t q =
         let h : first p 0 n ≡ k = cc in
         (rw (← h) (ltb-true (first p 0 n) n t), rw (← h) (first_is_first p 0 n))

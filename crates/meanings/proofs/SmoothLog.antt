@@ -4,7 +4,7 @@ use Prim.Native.Nat.{ℕ, suc, ◌+◌, ◌*◌, ◌≤◌, suc-le-suc}
 use mathlib.Core.Path.{◌≡◌}
 use mathlib.Core.Bool.{Bool, false}
 use mathlib.Core.List.{List, [], ◌∷◌}
-use mathlib.Core.Option.{Option, none, some}
+use Rattle.std.specs.Prelude.{Option, None, Some}
 use native.Mathlib.Omega.{arith}
 use borrow.Author.Tests.{ltb-false, le-ltb}
 use lib.ListN.{length, get_or}
@@ -25,7 +25,7 @@ use Rattle.meanings.proofs.Search.{NoneBelow, lowest_none}
 use Rattle.meanings.proofs.SmoothSteps.{none_of_three, curve_accepts}
 
 -- windows that pass report 9 nowhere and 10 nowhere
-no_report : (zs hs : List ℕ) → first_of (windows_checks zs hs) ≡ none
+no_report : (zs hs : List ℕ) → first_of (windows_checks zs hs) ≡ None
     → NoneBelow (λ k. bad_bandwidth (get_or hs k 0)) (length hs) × NoneBelow (edge_decreases zs hs) (length zs)
 no_report zs hs e =
     let o = none_holds (windows_checks zs hs) e in
@@ -34,12 +34,12 @@ no_report zs hs e =
 -- steps that report 9 nowhere and report 10 nowhere have no edge back: each is accepted, so the accepted one before is the one before
 module _ (ts vs : List ℕ) (even : length ts ≡ length vs) (few : length ts ≤ full.samples) where
   accepted : (o : Option Move) (z h : ℕ) → bad_bandwidth h ≡ false
-      → accepted_next ts vs o (record { point = z; bandwidth = h }) ≡ some (record { point = z; bandwidth = h })
+      → accepted_next ts vs o (record { point = z; bandwidth = h }) ≡ Some (record { point = z; bandwidth = h })
   accepted o z h e = rw (differ_same (length ts) (length vs) even, le-ltb full.samples (length ts) few, e)
 
   follows : (z h : ℕ) (zs hs : List ℕ) → NoneBelow (λ k. bad_bandwidth (get_or hs k 0)) (length hs)
       → NoneBelow (λ k. edge_decreases (z ∷ zs) (h ∷ hs) (suc k)) (length zs)
-      → NoEdgeBackAfter ts vs (some (record { point = z; bandwidth = h })) (moves zs hs)
+      → NoEdgeBackAfter ts vs (Some (record { point = z; bandwidth = h })) (moves zs hs)
   follows z h [] hs b e = tt
   follows z h (z' ∷ zs) [] b e = tt
   follows z h (z' ∷ zs) (h' ∷ hs) b e =
@@ -54,13 +54,13 @@ module _ (ts vs : List ℕ) (even : length ts ≡ length vs) (few : length ts �
   no_edge_back (z ∷ zs) [] b e = tt
   no_edge_back (z ∷ zs) (h ∷ hs) b e = (
     λ t. tt,
-    rw (accepted none z h (b 0 (omega arith)))
+    rw (accepted None z h (b 0 (omega arith)))
         (follows z h zs hs (λ k l. b (suc k) (suc-le-suc l)) (λ k l. e (suc k) (suc-le-suc l))),
   )
 
 module _ (L : Limits) (within : LimitsWithin L full) (ts vs zs hs : List ℕ) (minutes : AtMost max_u16 ts) (values : AtMost max_u16 vs) where
   -- the passes over accepted readings and marks count the insertions and evictions of an empty log that is told them
-  pub curve_passes : (more : Bool) → first_of (curve_checks L ts vs zs hs more) ≡ none
+  pub curve_passes : (more : Bool) → first_of (curve_checks L ts vs zs hs more) ≡ None
       → (passes ts vs fresh (moves zs hs)
       ≡ insertion_count (log_after ts vs empty_log (moves zs hs)) + eviction_count (log_after ts vs empty_log (moves zs hs)))
       × (passes ts vs fresh (moves zs hs) ≤ 2 * length ts)

@@ -3,7 +3,7 @@
 use Prim.Native.Nat.{ℕ, zero, suc, ◌*◌, ◌≤◌, ◌<◌}
 use mathlib.Core.Path.{◌≡◌, refl, sym, ap, ◌∙◌}
 use mathlib.Core.Logic.{◌⊎◌, inl, inr}
-use mathlib.Core.Option.{none}
+use Rattle.std.specs.Prelude.{None}
 use mathlib.Core.List.{List, [], ◌∷◌, ◌++◌}
 use native.Mathlib.Nat.{not-suc-le-zero, le_refl, le_trans, le_of_suc-le, le_of_suc-le-suc, eq-or-lt_of_le}
 use native.Mathlib.Omega.{arith}
@@ -54,11 +54,11 @@ row_at_point ts vs zs hs (suc n) k l = by (eq-or-lt_of_le (le_of_suc-le-suc l)) 
 
 -- the question at one mark, under limits that allow as many readings, refuses none of what an accepted sweep holds; its row is the sweep's
 module _ (L : Limits) (ts vs zs hs rs : List ℕ) (n k : ℕ) (q : smooth L ts vs zs hs rs ≡ given n) (l : k < length zs) where
-  checked : first_of (smooth_checks L ts vs zs hs (length rs)) ≡ none
+  checked : first_of (smooth_checks L ts vs zs hs (length rs)) ≡ None
   unfolding smooth
   checked = (given_accepted (smooth_refusal L ts vs zs hs rs) (passes ts vs fresh (moves zs hs)) n q).0
 
-  point_accepted : (M : Limits) → L.samples ≤ M.samples → evaluate_refusal M ts vs (get_or hs k 0) ≡ none
+  point_accepted : (M : Limits) → L.samples ≤ M.samples → evaluate_refusal M ts vs (get_or hs k 0) ≡ None
   point_accepted M m =
       let more = uneven_rows row_width (length rs) (length zs) in
       let a = none_of_three L ts vs zs hs more checked in

@@ -3,7 +3,7 @@
 use Prim.Native.Nat.{ℕ, zero, suc, ◌+◌, ◌*◌, ◌≤◌, ◌<◌, zero-le}
 use mathlib.Core.Path.{◌≡◌, refl, ap, ◌∙◌}
 use mathlib.Core.Bool.{Bool, false}
-use mathlib.Core.Option.{none}
+use Rattle.std.specs.Prelude.{None}
 use mathlib.Core.List.{List, ◌++◌}
 use native.Mathlib.Nat.{le_trans}
 use native.Mathlib.Omega.{arith}
@@ -40,8 +40,8 @@ right_grows ts z h z' h' l =
     count_grows (λ t. leb t (z + h)) (λ t. leb t (z' + h')) (λ t e. le-leb t (z' + h') (let m = leb-true t (z + h) e in omega arith)) ts
 
 -- lengths, order and windows: each part finds nothing where all together do
-pub none_of_three : (L : Limits) (ts vs zs hs : List ℕ) (more : Bool) → first_of (curve_checks L ts vs zs hs more) ≡ none
-    → (first_of (curve_size_checks L ts vs zs hs more) ≡ none) × (first_of (order_checks ts zs) ≡ none) × (first_of (windows_checks zs hs) ≡ none)
+pub none_of_three : (L : Limits) (ts vs zs hs : List ℕ) (more : Bool) → first_of (curve_checks L ts vs zs hs more) ≡ None
+    → (first_of (curve_size_checks L ts vs zs hs more) ≡ None) × (first_of (order_checks ts zs) ≡ None) × (first_of (windows_checks zs hs) ≡ None)
 none_of_three L ts vs zs hs more e =
     let a = none_of_both (curve_size_checks L ts vs zs hs more) (order_checks ts zs ++ windows_checks zs hs) e in
     let b = none_of_both (order_checks ts zs) (windows_checks zs hs) a.1 in
@@ -66,8 +66,8 @@ pub record SmoothAccepted (ts vs zs hs : List ℕ) (rows : ℕ) : Type 0 where
 
 module _ (L : Limits) (within : LimitsWithin L full) (ts vs zs hs : List ℕ) where
   -- the three parts of the checks, each of which finds nothing
-  pub parts_accept : (more : Bool) → first_of (curve_size_checks L ts vs zs hs more) ≡ none → first_of (sample_order_checks ts) ≡ none
-      → first_of (windows_checks zs hs) ≡ none → CurveAccepted ts vs zs hs
+  pub parts_accept : (more : Bool) → first_of (curve_size_checks L ts vs zs hs more) ≡ None → first_of (sample_order_checks ts) ≡ None
+      → first_of (windows_checks zs hs) ≡ None → CurveAccepted ts vs zs hs
   parts_accept more s o w =
       let sizes = curve_sizes_accept L ts vs zs hs more s in
       let windows = none_holds (windows_checks zs hs) w in
@@ -84,17 +84,17 @@ module _ (L : Limits) (within : LimitsWithin L full) (ts vs zs hs : List ℕ) wh
         right_edges = λ k l. ltb-false _ _ (falls windows.1.0 k l).1;
       }
     where
-      falls : lowest (edge_decreases zs hs) (length zs) ≡ none → (k : ℕ) → suc k < length zs
+      falls : lowest (edge_decreases zs hs) (length zs) ≡ None → (k : ℕ) → suc k < length zs
           → (left_edge_below (get_or zs (suc k) 0) (get_or hs (suc k) 0) (get_or zs k 0) (get_or hs k 0) ≡ false)
           × (right_edge_below (get_or zs (suc k) 0) (get_or hs (suc k) 0) (get_or zs k 0) (get_or hs k 0) ≡ false)
       falls q k l = or_false _ _ (lowest_none (edge_decreases zs hs) (length zs) q (suc k) l)
 
-  pub curve_accepts : (more : Bool) → first_of (curve_checks L ts vs zs hs more) ≡ none → CurveAccepted ts vs zs hs
+  pub curve_accepts : (more : Bool) → first_of (curve_checks L ts vs zs hs more) ≡ None → CurveAccepted ts vs zs hs
   curve_accepts more e =
       let a = none_of_three L ts vs zs hs more e in
       parts_accept more a.0 (none_of_both (sample_order_checks ts) (point_order_checks zs) a.1).0 a.2
 
-  pub smooth_accepts : (rows : ℕ) → first_of (smooth_checks L ts vs zs hs rows) ≡ none → SmoothAccepted ts vs zs hs rows
+  pub smooth_accepts : (rows : ℕ) → first_of (smooth_checks L ts vs zs hs rows) ≡ None → SmoothAccepted ts vs zs hs rows
   smooth_accepts rows e =
       let more = uneven_rows row_width rows (length zs) in
       let a = none_of_three L ts vs zs hs more e in

@@ -1,21 +1,10 @@
 -- Each call's whole outcome: its answer, and what each lent list holds at exit, for every input. On a refusal a lent list holds what it
--- held. A call's enum is read through its `…-answer` definition, which gives the report's number and place, or the values.
-use Rattle.std.specs.Prelude.{ℕ, List, [], ◌++◌, length, get_or, drop, replicate}
-use Rattle.std.proofs.Math.Option.{Option}
+-- held. A call's Result is read through `answer_of`, which gives the report's number and place, or the value.
+use Rattle.std.specs.Prelude.{ℕ, List, [], ◌++◌, length, get_or, drop, replicate, Result, Ok, Err, Option}
+use Rattle.meanings.specs.declared.Counts.{Counts}
+use Rattle.meanings.specs.declared.Refusal.{Refusal}
 use Rattle.meanings.specs.declared.Estimate.{Estimate}
 use Rattle.meanings.specs.declared.RunningSums.{RunningSums}
-use Rattle.meanings.specs.declared.Evaluation.{Evaluation}
-use Rattle.meanings.specs.declared.Evaluation.TheVariants.{Row}
-use Rattle.meanings.specs.declared.Advance.{Advance}
-use Rattle.meanings.specs.declared.Advance.TheVariants.{Moved}
-use Rattle.meanings.specs.declared.Smoothing.{Smoothing}
-use Rattle.meanings.specs.declared.Smoothing.TheVariants.{Passes}
-use Rattle.meanings.specs.declared.Filling.{Filling}
-use Rattle.meanings.specs.declared.Filling.TheVariants.{Filled}
-use Rattle.meanings.specs.declared.Parsing.{Parsing}
-use Rattle.meanings.specs.declared.Parsing.TheVariants.{Used}
-use Rattle.meanings.specs.declared.Writing.{Writing}
-use Rattle.meanings.specs.declared.Writing.TheVariants.{Written}
 use Rattle.meanings.specs.declared.Limits.{Limits}
 use Rattle.meanings.specs.Limits.{full}
 use Rattle.meanings.specs.Moves.{moves}
@@ -27,11 +16,12 @@ use Rattle.meanings.specs.Grid.{presets, grid}
 use Rattle.meanings.specs.Sheet.{Contents, Outcome, or_next, read_sheet}
 use Rattle.meanings.specs.Output.{curve_text, refusal_text}
 
--- the question at one mark, first call: the row or the report
-abbrev pub evaluation_answer : Evaluation → Answer Estimate
-evaluation_answer (Row e) = given e
-evaluation_answer (Evaluation.Refused r) = refused (fault_of r)
+-- what a call answers, read off its Result: the value, or the report's number and place
+abbrev pub answer_of : {A : Type 0} → Result A Refusal → Answer A
+answer_of (Ok a) = given a
+answer_of (Err r) = refused (fault_of r)
 
+-- the question at one mark, first call: the row or the report
 abbrev pub evaluate_refusal : Limits → List ℕ → List ℕ → ℕ → Option Fault
 evaluate_refusal L ts vs h = first_of (evaluate_checks L ts vs h)
 
@@ -46,16 +36,7 @@ window L ts vs z h = accepted_or (evaluate_refusal L ts vs h) (run_of ts vs z h)
 unfoldable pub window_start : Limits → List ℕ → List ℕ → ℕ → ℕ → ℕ
 window_start L ts vs z h = accepted_or (evaluate_refusal L ts vs h) (left_of ts z h) 0
 
--- the step: its meaning is advance of specs/Running.antt
-abbrev pub advance_answer : Advance → Answer RunningSums
-advance_answer (Moved r) = given r
-advance_answer (Advance.Refused r) = refused (fault_of r)
-
 -- the whole sweep, under limits at most the full ones: its passes or the report
-abbrev pub smoothing_answer : Smoothing → Answer ℕ
-smoothing_answer (Passes n) = given n
-smoothing_answer (Smoothing.Refused r) = refused (fault_of r)
-
 abbrev pub smooth_refusal : Limits → List ℕ → List ℕ → List ℕ → List ℕ → List ℕ → Option Fault
 smooth_refusal L ts vs zs hs rs = first_of (smooth_checks L ts vs zs hs (length rs))
 
@@ -67,10 +48,6 @@ unfoldable pub smooth_rows : Limits → List ℕ → List ℕ → List ℕ → L
 smooth_rows L ts vs zs hs rs = accepted_or (smooth_refusal L ts vs zs hs rs) (rows ts vs zs hs (length zs)) rs
 
 -- the mark filler, with the lists zs of marks and hs of half widths
-abbrev pub filling_answer : Filling → Answer Unit
-filling_answer Filled = given tt
-filling_answer (Filling.Refused r) = refused (fault_of r)
-
 abbrev pub fill_refusal : Limits → ℕ → ℕ → ℕ → List ℕ → List ℕ → Option Fault
 fill_refusal L z₀ spacing preset zs hs = first_of (fill_checks L (length presets) z₀ spacing preset (length zs) (length hs))
 
@@ -85,15 +62,6 @@ fill_points L z₀ spacing preset zs hs =
 unfoldable pub fill_bandwidths : Limits → ℕ → ℕ → ℕ → List ℕ → List ℕ → List ℕ
 fill_bandwidths L z₀ spacing preset zs hs =
     accepted_or (fill_refusal L z₀ spacing preset zs hs) (replicate (length hs) (get_or presets preset 0)) hs
-
--- the reader: how many readings are kept and how many marks there are, or the report
-pub record Counts : Type 0 where
-  pub samples : ℕ
-  pub points : ℕ
-
-abbrev pub parsing_answer : Parsing → Answer Counts
-parsing_answer (Used n m) = given (record { samples = n; points = m })
-parsing_answer (Parsing.Refused r) = refused (fault_of r)
 
 -- what the reader makes of a sheet with four lent lists
 unfoldable pub read : Limits → List ℕ → List ℕ → List ℕ → List ℕ → List ℕ → Outcome
@@ -120,11 +88,6 @@ read_evaluation_points o zs = filled_front o (λ c. c.points) zs
 
 abbrev pub read_bandwidths : Outcome → List ℕ → List ℕ
 read_bandwidths o hs = filled_front o (λ c. c.bandwidths) hs
-
--- both writers of a text: how many bytes they have written into the lent buffer, or the report
-abbrev pub writing_answer : Writing → Answer ℕ
-writing_answer (Written n) = given n
-writing_answer (Writing.Refused r) = refused (fault_of r)
 
 -- what is looked at before all else: a buffer of another length
 abbrev pub buffer_refusal : List ℕ → Option Fault

@@ -1,7 +1,7 @@
 -- What a case says: on one input a call gives this answer and leaves these lists.
-use Rattle.std.specs.Prelude.{ℕ, ◌+◌, ◌≡◌, List, map}
+use Rattle.std.specs.Prelude.{ℕ, ◌+◌, ◌≡◌, List, map, Option}
+use Rattle.meanings.specs.declared.Counts.{Counts}
 use Prim.Native.String.{String}
-use Rattle.std.proofs.Math.Option.{Option}
 use Rattle.meanings.specs.declared.Estimate.{Estimate}
 use Rattle.meanings.specs.declared.PowerSums.{PowerSums}
 use Rattle.meanings.specs.declared.RunningSums.{RunningSums}
@@ -15,7 +15,7 @@ use Rattle.meanings.specs.EventLog.{EventLog, empty_log, log_after}
 use Rattle.meanings.specs.Turn.{Motion, turn_refusal, turn_record, after_motions}
 use Rattle.meanings.specs.Sheet.{Contents, read_sheet}
 use Rattle.meanings.specs.Calls.{evaluate, window, window_start, smooth, smooth_rows, fill, fill_points, fill_bandwidths, read, counts, read_minutes}
-use Rattle.meanings.specs.Calls.{read_values, read_evaluation_points, read_bandwidths, write, write_buffer, write_refusal_text, refusal_buffer, Counts}
+use Rattle.meanings.specs.Calls.{read_values, read_evaluation_points, read_bandwidths, write, write_buffer, write_refusal_text, refusal_buffer}
 use Rattle.meanings.specs.Output.{program}
 
 pub data Call : Type 0 where

@@ -1,8 +1,7 @@
 -- SPECIFICATION, "The three demands", 8.5 to 8.9: one claim about a list of steps over the same readings, with the event log, the book, beside
 -- them.
 -- It has no condition on lengths: where minutes and values differ in length or are over the limit, call and book refuse every step alike.
-use Rattle.std.specs.Prelude.{ℕ, zero, suc, ◌+◌, ◌-◌, ◌≤◌, ◌≡◌, List, [], ◌∷◌, ◌++◌}
-use Rattle.std.proofs.Math.Option.{Option, none, some}
+use Rattle.std.specs.Prelude.{ℕ, zero, suc, ◌+◌, ◌-◌, ◌≤◌, ◌≡◌, List, [], ◌∷◌, ◌++◌, Option, None, Some}
 use Rattle.meanings.specs.declared.PowerSums.{PowerSums}
 use Rattle.meanings.specs.declared.RunningSums.{RunningSums}
 use Rattle.meanings.specs.Lists.{Ordered, AtMost}
@@ -15,7 +14,7 @@ use Rattle.meanings.specs.EventLog.{EventLog, empty_log, log_refusal, log_after,
 
 -- the last accepted step once m is done, where o was the last one before: m itself, unless the book refuses it
 abbrev pub accepted_next : List ℕ → List ℕ → Option Move → Move → Option Move
-accepted_next ts vs o m = accepted_or (log_refusal ts vs m) (some m) o
+accepted_next ts vs o m = accepted_or (log_refusal ts vs m) (Some m) o
 
 -- the same once a list of steps is done
 abbrev pub accepted_after : List ℕ → List ℕ → Option Move → List Move → Option Move
@@ -24,21 +23,21 @@ accepted_after ts vs o (m ∷ ms) = accepted_after ts vs (accepted_next ts vs o 
 
 -- the last accepted step of a list, if there is one
 abbrev pub last_accepted : List ℕ → List ℕ → List Move → Option Move
-last_accepted ts vs ms = accepted_after ts vs none ms
+last_accepted ts vs ms = accepted_after ts vs None ms
 
 -- neither edge of m lies below that of o: not the left one z − h, compared without negative numbers, nor the right one z + h
 abbrev pub NotBelow : Option Move → Move → Type 0
-NotBelow none m = Unit {0}
-NotBelow (some o) m = (o.point + m.bandwidth ≤ m.point + o.bandwidth) × (o.point + o.bandwidth ≤ m.point + m.bandwidth)
+NotBelow None m = Unit {0}
+NotBelow (Some o) m = (o.point + m.bandwidth ≤ m.point + o.bandwidth) × (o.point + o.bandwidth ≤ m.point + m.bandwidth)
 
 -- along a list with o as the last accepted step in front, accepted steps never go below the one in front; refused ones are not looked at
 abbrev pub NoEdgeBackAfter : List ℕ → List ℕ → Option Move → List Move → Type 0
 NoEdgeBackAfter ts vs o [] = Unit {0}
-NoEdgeBackAfter ts vs o (m ∷ ms) = (log_refusal ts vs m ≡ none → NotBelow o m) × NoEdgeBackAfter ts vs (accepted_next ts vs o m) ms
+NoEdgeBackAfter ts vs o (m ∷ ms) = (log_refusal ts vs m ≡ None → NotBelow o m) × NoEdgeBackAfter ts vs (accepted_next ts vs o m) ms
 
 -- the same of a list with no step in front
 abbrev pub NoEdgeBack : List ℕ → List ℕ → List Move → Type 0
-NoEdgeBack ts vs ms = NoEdgeBackAfter ts vs none ms
+NoEdgeBack ts vs ms = NoEdgeBackAfter ts vs None ms
 
 -- the n positions from a on
 abbrev pub positions_from : ℕ → ℕ → List ℕ
@@ -51,13 +50,13 @@ between a b = positions_from a (b - a)
 
 -- the six sums taken directly, over every reading in the closed window of the step accepted last; zero where there is none
 abbrev pub window_direct : List ℕ → List ℕ → Option Move → PowerSums
-window_direct ts vs none = six (λ p q. 0)
-window_direct ts vs (some m) = six (λ p q. range_sum p q ts vs m.point m.bandwidth)
+window_direct ts vs None = six (λ p q. 0)
+window_direct ts vs (Some m) = six (λ p q. range_sum p q ts vs m.point m.bandwidth)
 
 -- what a call was refused with, if it was
 abbrev pub refusal : {A : Type 0} → Answer A → Option Fault
-refusal (given a) = none
-refusal (refused e) = some e
+refusal (given a) = None
+refusal (refused e) = Some e
 
 -- the record after a list of steps, of which the first gets a fresh one, and the book beside it, empty at first
 abbrev pub record_after : List ℕ → List ℕ → List Move → RunningSums

@@ -1,7 +1,6 @@
 -- SPECIFICATION, "The running record and the book", 3.14 to 3.19: the event log. Of a step it is told readings, mark and half width; it sees no
 -- record.
-use Rattle.std.specs.Prelude.{ℕ, zero, suc, ◌+◌, Bool, false, not, ◌&&◌, ◌||◌, List, [], ◌∷◌, ◌++◌, ltb, leb, eqb, length, get_or}
-use Rattle.std.proofs.Math.Option.{Option}
+use Rattle.std.specs.Prelude.{ℕ, zero, suc, ◌+◌, Bool, false, not, ◌&&◌, ◌||◌, List, [], ◌∷◌, ◌++◌, ltb, leb, eqb, length, get_or, Option}
 use Rattle.meanings.specs.Lists.{pick}
 use Rattle.meanings.specs.Limits.{full}
 use Rattle.meanings.specs.Moves.{Move}

@@ -1,6 +1,5 @@
 -- Words for lists of numbers that the meanings are written with: choosing, counting, searching, adding up, order.
-use Rattle.std.specs.Prelude.{ℕ, zero, suc, ◌+◌, ◌-◌, ◌≤◌, ◌<◌, Bool, true, false, List, [], ◌∷◌, ltb, length, get_or}
-use Rattle.std.proofs.Math.Option.{Option, none, some}
+use Rattle.std.specs.Prelude.{ℕ, zero, suc, ◌+◌, ◌-◌, ◌≤◌, ◌<◌, Bool, true, false, List, [], ◌∷◌, ltb, length, get_or, Option, None, Some}
 
 -- a where the test is true, else b
 abbrev pub pick : {A : Type 0} → Bool → A → A → A
@@ -19,7 +18,7 @@ first p i (suc n) = pick (p i) i (first p (suc i) n)
 
 -- the lowest of the positions 0 to n - 1 at which the test is true, if there is one
 abbrev pub lowest : (ℕ → Bool) → ℕ → Option ℕ
-lowest p n = pick (ltb (first p 0 n) n) (some (first p 0 n)) none
+lowest p n = pick (ltb (first p 0 n) n) (Some (first p 0 n)) None
 
 -- g a + g (a + 1) + .. , n terms
 abbrev pub total : (ℕ → ℕ) → ℕ → ℕ → ℕ

@@ -1,7 +1,6 @@
 -- Cases of our own: the closed right edge, which C1 to C12 leave open, each report of each call that can give it, with its place and where a
 -- later report of the call's order holds too, and values at a half and beside it.
-use Rattle.std.specs.Prelude.{ℕ, ◌+◌, ◌-◌, ◌^◌, List, [], ◌∷◌, ◌++◌, drop, replicate}
-use Rattle.std.proofs.Math.Option.{Option, none, some}
+use Rattle.std.specs.Prelude.{ℕ, ◌+◌, ◌-◌, ◌^◌, List, [], ◌∷◌, ◌++◌, drop, replicate, Option, None, Some}
 use Rattle.meanings.specs.declared.PowerSums.{PowerSums}
 use Rattle.meanings.specs.declared.RunningSums.{RunningSums}
 use Rattle.meanings.specs.declared.Limits.{Limits}
@@ -438,7 +437,7 @@ abbrev four_sums : PowerSums
 four_sums = is_sums 4 85 2125 200 3900 84500
 
 abbrev turn_report : ℕ → ℕ → Option Fault
-turn_report n p = some (record { number = n; place = p })
+turn_report n p = Some (record { number = n; place = p })
 
 -- a record whose passes are at their greatest
 abbrev full_record : RunningSums
@@ -465,12 +464,12 @@ turn_cases =
     -- refused ones leave the record, passes and all
     ∷ motions four_minutes four_values (a_turn (move 20 5) ∷ a_turn (move 20 0) ∷ a_step (move 20 0) ∷ []) ⇒ reached (is_counted 1 3 two_sums 4)
     -- a record from elsewhere: sums and passes wrap
-    ∷ turn_over four_minutes four_values full_record 20 15 ⇒ turned_to none (is_counted 0 4 (is_sums 9 45 1325 60 1100 28499) 1)
+    ∷ turn_over four_minutes four_values full_record 20 15 ⇒ turned_to None (is_counted 0 4 (is_sums 9 45 1325 60 1100 28499) 1)
     -- both edges are closed, and a window without readings has its place among them
     ∷ turn_over (9 ∷ 10 ∷ 30 ∷ 31 ∷ []) (1 ∷ 1 ∷ 1 ∷ 1 ∷ []) (is_record 0 0 (is_sums 0 0 0 0 0 0)) 20 10
-    ⇒ turned_to none (is_record 1 3 (is_sums 2 40 1000 2 40 1000))
-    ∷ turn_over four_minutes four_values (is_record 3 4 (is_sums 1 35 1225 20 700 24500)) 15 1 ⇒ turned_to none (is_counted 1 1 (is_sums 0 0 0 0 0 0) 12)
-    ∷ turn_over [] [] (is_record 0 0 (is_sums 0 0 0 0 0 0)) 0 65536 ⇒ turned_to none (is_record 0 0 (is_sums 0 0 0 0 0 0))
+    ⇒ turned_to None (is_record 1 3 (is_sums 2 40 1000 2 40 1000))
+    ∷ turn_over four_minutes four_values (is_record 3 4 (is_sums 1 35 1225 20 700 24500)) 15 1 ⇒ turned_to None (is_counted 1 1 (is_sums 0 0 0 0 0 0) 12)
+    ∷ turn_over [] [] (is_record 0 0 (is_sums 0 0 0 0 0 0)) 0 65536 ⇒ turned_to None (is_record 0 0 (is_sums 0 0 0 0 0 0))
     -- 8, 6, 4, 11, 9
     ∷ turn_over (1 ∷ 0 ∷ []) (1 ∷ []) foreign 0 0 ⇒ turned_to (turn_report 8 0) foreign
     ∷ turn_over [] (1 ∷ []) foreign 0 1 ⇒ turned_to (turn_report 8 0) foreign

@@ -1,16 +1,12 @@
 -- SPECIFICATION, "Reports": the seventeen reports' numbers, conditions and places, and for each call the order in which
 -- they are looked at. A call is refused with the first check of its list that holds.
-use Rattle.std.specs.Prelude.{ℕ, zero, suc, ◌+◌, ◌-◌, ◌*◌, Bool, false, ◌||◌, List, [], ◌∷◌, ◌++◌, ltb, leb, eqb, length, get_or}
-use Rattle.std.proofs.Math.Option.{Option, none, some}
+use Rattle.std.specs.Prelude.{ℕ, zero, suc, ◌+◌, ◌-◌, ◌*◌, Bool, false, ◌||◌, List, [], ◌∷◌, ◌++◌, ltb, leb, eqb, length, get_or, Result, Ok, Err}
+use Rattle.std.specs.Prelude.{Option, None, Some}
 use Rattle.meanings.specs.declared.Report.{Report}
 use Rattle.meanings.specs.declared.Report.TheVariants.{TooLong, BadHeader, MalformedLine, SampleOutOfOrder, PointOutOfOrder, TooMany, NoPoints}
 use Rattle.meanings.specs.declared.Report.TheVariants.{LengthMismatch, BandwidthOutOfRange, EdgeDecreases, InvalidRecord, UnknownPreset, GridOverflow}
 use Rattle.meanings.specs.declared.Report.TheVariants.{TooFewSamples, CrossedRange, SecondSeries, TemperatureOutOfOrder}
 use Rattle.meanings.specs.declared.Refusal.{Refusal}
-use Rattle.meanings.specs.declared.Verdict.{Verdict}
-use Rattle.meanings.specs.declared.Verdict.TheVariants.{Fit, Faulty}
-use Rattle.meanings.specs.declared.Found.{Found}
-use Rattle.meanings.specs.declared.Found.TheVariants.{At, Nothing}
 use Rattle.meanings.specs.Lists.{pick, lowest}
 use Rattle.meanings.specs.declared.Limits.{Limits}
 use Rattle.meanings.specs.Limits.{max_u16, max_bandwidth, row_width, max_output}
@@ -45,13 +41,9 @@ abbrev pub fault_of : Refusal → Fault
 fault_of r = record { number = number r.report; place = r.place }
 
 -- what a check of the code finds, in those numbers
-abbrev pub verdict_fault : Verdict → Option Fault
-verdict_fault Fit = none
-verdict_fault (Faulty r) = some (fault_of r)
-
-abbrev pub found_position : Found → Option ℕ
-found_position Nothing = none
-found_position (At i) = some i
+abbrev pub verdict_fault : Result Unit Refusal → Option Fault
+verdict_fault (Ok u) = None
+verdict_fault (Err r) = Some (fault_of r)
 
 -- what a call answers: a value, or a report
 pub data Answer (A : Type 0) : Type 0 where
@@ -59,13 +51,13 @@ pub data Answer (A : Type 0) : Type 0 where
   refused : Fault → Answer A
 
 abbrev pub unless : {A : Type 0} → Option Fault → A → Answer A
-unless none a = given a
-unless (some e) a = refused e
+unless None a = given a
+unless (Some e) a = refused e
 
 -- what a lent list holds at exit: a where the call is accepted, b where it is refused
 abbrev pub accepted_or : {A : Type 0} → Option Fault → A → A → A
-accepted_or none a b = a
-accepted_or (some e) a b = b
+accepted_or None a b = a
+accepted_or (Some e) a b = b
 
 -- a report's number, and the place at which its condition holds, if it does
 pub record Check : Type 0 where
@@ -77,15 +69,15 @@ check n p = record { number = n; place = p }
 
 -- a condition with one place
 abbrev pub at : ℕ → Bool → Option ℕ
-at p c = pick c (some p) none
+at p c = pick c (Some p) None
 
 abbrev pub fault_or : ℕ → Option ℕ → Option Fault → Option Fault
-fault_or n none later = later
-fault_or n (some p) later = some (record { number = n; place = p })
+fault_or n None later = later
+fault_or n (Some p) later = Some (record { number = n; place = p })
 
 -- the first check of the list that holds
 abbrev pub first_of : List Check → Option Fault
-first_of [] = none
+first_of [] = None
 first_of (c ∷ cs) = fault_or c.number c.place (first_of cs)
 
 -- two list lengths don't agree

@@ -1,7 +1,6 @@
 -- SPECIFICATION, "The sheet": lines, numbers, header lines, and the reader as a function from any list of bytes to a report with its
 -- place or the four lists.
-use Rattle.std.specs.Prelude.{ℕ, ◌+◌, ◌-◌, ◌*◌, Bool, true, false, not, ◌&&◌, List, [], ◌∷◌, ◌++◌, ltb, leb, eqb, length}
-use Rattle.std.proofs.Math.Option.{Option, none, some}
+use Rattle.std.specs.Prelude.{ℕ, ◌+◌, ◌-◌, ◌*◌, Bool, true, false, not, ◌&&◌, List, [], ◌∷◌, ◌++◌, ltb, leb, eqb, length, Option, None, Some}
 use Rattle.meanings.specs.Lists.{pick}
 use Rattle.meanings.specs.declared.Limits.{Limits}
 use Rattle.meanings.specs.Limits.{max_u16, max_sheet}
@@ -74,7 +73,7 @@ number_form [] = false
 number_form (b ∷ bs) = digits (b ∷ bs) && leb (length (b ∷ bs)) 5 && plain_front b bs
 
 abbrev pub parsed : List ℕ → Option ℕ
-parsed t = pick (number_form t) (some (digits_value 0 t)) none
+parsed t = pick (number_form t) (Some (digits_value 0 t)) None
 
 -- a mark line's values
 pub record EvaluationPoint : Type 0 where
@@ -83,15 +82,15 @@ pub record EvaluationPoint : Type 0 where
 
 -- the half width has no range here
 abbrev pub ranged_point : Option ℕ → Option ℕ → Option EvaluationPoint
-ranged_point none h = none
-ranged_point (some z) none = none
-ranged_point (some z) (some h) = pick (leb z max_u16) (some (record { point = z; bandwidth = h })) none
+ranged_point None h = None
+ranged_point (Some z) None = None
+ranged_point (Some z) (Some h) = pick (leb z max_u16) (Some (record { point = z; bandwidth = h })) None
 
 abbrev pub two_parts : List (List ℕ) → Option EvaluationPoint
-two_parts [] = none
-two_parts (a ∷ []) = none
+two_parts [] = None
+two_parts (a ∷ []) = None
 two_parts (a ∷ b ∷ []) = ranged_point (parsed a) (parsed b)
-two_parts (a ∷ b ∷ c ∷ r) = none
+two_parts (a ∷ b ∷ c ∷ r) = None
 
 abbrev pub point_line : List ℕ → Option EvaluationPoint
 point_line t = two_parts (parts t)
@@ -103,20 +102,20 @@ pub record Injection : Type 0 where
   pub value : ℕ
 
 abbrev pub ranged_sample : Option ℕ → Option ℕ → Option ℕ → Option Injection
-ranged_sample none j v = none
-ranged_sample (some t) none v = none
-ranged_sample (some t) (some j) none = none
-ranged_sample (some t) (some j) (some v) =
+ranged_sample None j v = None
+ranged_sample (Some t) None v = None
+ranged_sample (Some t) (Some j) None = None
+ranged_sample (Some t) (Some j) (Some v) =
     pick (leb t max_u16 && leb 1 j && leb j max_u16 && leb v max_u16)
-    (some (record { minute = t; injection = j; value = v }))
-    none
+    (Some (record { minute = t; injection = j; value = v }))
+    None
 
 abbrev pub three_parts : List (List ℕ) → Option Injection
-three_parts [] = none
-three_parts (a ∷ []) = none
-three_parts (a ∷ b ∷ []) = none
+three_parts [] = None
+three_parts (a ∷ []) = None
+three_parts (a ∷ b ∷ []) = None
 three_parts (a ∷ b ∷ c ∷ []) = ranged_sample (parsed a) (parsed b) (parsed c)
-three_parts (a ∷ b ∷ c ∷ d ∷ r) = none
+three_parts (a ∷ b ∷ c ∷ d ∷ r) = None
 
 abbrev pub sample_line : List ℕ → Option Injection
 sample_line t = three_parts (parts t)
@@ -141,8 +140,8 @@ refused_at p n = refused (record { number = n; place = p })
 
 -- the refusal, if there is one, else what comes next
 abbrev pub or_next : {A : Type 0} → Option Fault → Answer A → Answer A
-or_next none o = o
-or_next (some e) o = refused e
+or_next None o = o
+or_next (Some e) o = refused e
 
 -- a mark line at byte p, after those with the marks zs and half widths hs: 5, 9, 10, 6
 abbrev pub point_checks : Limits → ℕ → List ℕ → List ℕ → EvaluationPoint → List Check
@@ -162,16 +161,16 @@ sample_checks L p all n j =
 
 -- a line that is no value line is refused with 3; else the first that holds; else what comes next
 abbrev pub with_point : {A : Type 0} → Limits → ℕ → List ℕ → List ℕ → Option EvaluationPoint → (List ℕ → List ℕ → Answer A) → Answer A
-with_point L p zs hs none next = refused_at p 3
-with_point L p zs hs (some m) next =
+with_point L p zs hs None next = refused_at p 3
+with_point L p zs hs (Some m) next =
     or_next (first_of (point_checks L p zs hs m)) (next (zs ++ m.point ∷ []) (hs ++ m.bandwidth ∷ []))
 
 abbrev pub add_kept : Bool → ℕ → List ℕ → List ℕ
 add_kept b x xs = pick b (xs ++ x ∷ []) xs
 
 abbrev pub with_sample : Limits → ℕ → List ℕ → List ℕ → List ℕ → Option Injection → (List ℕ → List ℕ → List ℕ → Outcome) → Outcome
-with_sample L p all ts vs none next = refused_at p 3
-with_sample L p all ts vs (some j) next =
+with_sample L p all ts vs None next = refused_at p 3
+with_sample L p all ts vs (Some j) next =
     or_next (first_of (sample_checks L p all (length ts) j))
     (next (all ++ j.minute ∷ []) (add_kept (kept j) j.minute ts) (add_kept (kept j) j.value vs))
 

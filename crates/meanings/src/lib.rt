@@ -1,6 +1,8 @@
 // The types that calls take and give, named by the field's terms. Each comment gives the brewery's word.
-// What each value has to be is defined in specs/.
+// What each value has to be is defined in specs/. What refuses a call is an Err that holds the report with its place.
 #![tactic(auto)]
+
+ghost use Rattle.std.specs.Prelude.{◌≡◌};
 
 // The length of the buffer that a text is written into: max_output of specs/Limits.antt.
 pub const MAX_OUTPUT: usize = 44113;
@@ -36,11 +38,23 @@ pub enum Report {
     TemperatureOutOfOrder, // 17, "early temperature mark"
 }
 
-// A report with its place.
+// A report with its place: what a refused call answers.
 #[derive(Clone, Copy)]
 pub struct Refusal {
     pub report: Report,
     pub place: usize,
+}
+
+impl Report {
+    // The refusal with this report at a place.
+    pub fn at(self, place: usize) -> Refusal
+        ensures { result ≡ record { report = self; place = place } }
+    {
+        Refusal {
+            report: self,
+            place,
+        }
+    }
 }
 
 // How many kept readings and how many marks there may be.
@@ -50,18 +64,11 @@ pub struct Limits {
     pub points: usize,
 }
 
-// What a check finds: nothing, or the report.
+// How many readings a sheet keeps and how many marks it has.
 #[derive(Clone, Copy)]
-pub enum Verdict {
-    Fit,
-    Faulty(Refusal),
-}
-
-// What a search for a position finds.
-#[derive(Clone, Copy)]
-pub enum Found {
-    At(usize),
-    Nothing,
+pub struct Counts {
+    pub samples: usize,
+    pub points: usize,
 }
 
 // The row of a mark.
@@ -94,51 +101,9 @@ pub struct RunningSums {
     pub passes: u64,
 }
 
-// What the question at one mark gives: the row or the report.
-#[derive(Clone, Copy)]
-pub enum Evaluation {
-    Row(Estimate),
-    Refused(Refusal),
-}
-
-// What a step gives: the new record or the report.
-#[derive(Clone, Copy)]
-pub enum Advance {
-    Moved(RunningSums),
-    Refused(Refusal),
-}
-
-// What a turn gives: the record, as it was where the turn is refused, and what the turn is refused for.
+// What a turn leaves and answers: the record, as it was where the turn is refused, and the report if it is. No Result holds both.
 #[derive(Clone, Copy)]
 pub struct Turning {
     pub running: RunningSums,
-    pub verdict: Verdict,
-}
-
-// What a sweep gives: its passes or the report.
-#[derive(Clone, Copy)]
-pub enum Smoothing {
-    Passes(u64),
-    Refused(Refusal),
-}
-
-// What the mark filler gives.
-#[derive(Clone, Copy)]
-pub enum Filling {
-    Filled,
-    Refused(Refusal),
-}
-
-// What the reader gives: how many readings are kept and how many marks there are, or the report.
-#[derive(Clone, Copy)]
-pub enum Parsing {
-    Used { samples: usize, points: usize },
-    Refused(Refusal),
-}
-
-// What a writer of a text gives: how many bytes it has written into the lent buffer, or the report.
-#[derive(Clone, Copy)]
-pub enum Writing {
-    Written(usize),
-    Refused(Refusal),
+    pub verdict: Result<(), Refusal>,
 }

@@ -2,7 +2,7 @@
 -- those of the question at one mark. So the greatest sum is reached, by as many readings as there may be of the greatest value at the mark.
 use Prim.Native.Nat.{ℕ, zero, suc, ◌+◌, ◌*◌, ◌≤◌, ◌<◌}
 use mathlib.Core.Path.{◌≡◌, refl, ap, ◌∙◌}
-use mathlib.Core.Option.{none}
+use Rattle.std.specs.Prelude.{None}
 use native.Mathlib.Nat.{sub-zero}
 use native.Mathlib.Omega.{arith}
 use lib.ListN.{get_or, replicate, get_or-replicate}
@@ -32,7 +32,7 @@ module _ (n t v z : ℕ) (few : n ≤ full.samples) (inside : Inside z biweight_
     value = value_of (n * (kernel z biweight_bandwidth t * v)) (n * kernel z biweight_bandwidth t);
   }
 
-  plain : (evaluate_refusal full (replicate n t) (replicate n v) biweight_bandwidth ≡ none)
+  plain : (evaluate_refusal full (replicate n t) (replicate n v) biweight_bandwidth ≡ None)
       × (estimate (replicate n t) (replicate n v) z biweight_bandwidth ≡ plain_row)
   unfolding evaluate
   plain =

@@ -4,7 +4,7 @@ use Prim.Native.Nat.{ℕ}
 use native.Mathlib.Omega.{arith}
 use mathlib.Core.Path.{◌≡◌, refl, sym, ap, ◌∙◌}
 use mathlib.Core.List.{List, [], ◌∷◌, ◌++◌}
-use mathlib.Core.Option.{Option, none, some}
+use Rattle.std.specs.Prelude.{Option, None, Some}
 use lib.Dec.{ltb}
 use lib.ListN.{length}
 use Rattle.meanings.specs.Lists.{lowest}
@@ -15,26 +15,26 @@ use Rattle.meanings.proofs.Checks.{first_of_front, first_of_rest}
 use Rattle.meanings_biweight.specs.Biweight.{biweight_bandwidth, biweight_refusal}
 
 -- checks of which none holds may be left out behind others
-nothing_behind : (cs ds : List Check) → first_of ds ≡ none → first_of cs ≡ first_of (cs ++ ds)
+nothing_behind : (cs ds : List Check) → first_of ds ≡ None → first_of cs ≡ first_of (cs ++ ds)
 nothing_behind cs ds e = by (first_of cs) refl
   where
     by : (f : Option Fault) → first_of cs ≡ f → f ≡ first_of (cs ++ ds)
-    by none q = sym (first_of_rest cs ds q ∙ e)
-    by (some x) q = sym (first_of_front cs ds x q)
+    by None q = sym (first_of_rest cs ds q ∙ e)
+    by (Some x) q = sym (first_of_front cs ds x q)
 
 pub refused_as_evaluate : (L : Limits) (ts vs : List ℕ) → biweight_refusal L ts vs ≡ evaluate_refusal L ts vs biweight_bandwidth
 refused_as_evaluate L ts vs = nothing_behind (series_checks L ts vs) (bandwidth_checks biweight_bandwidth) refl
 
 -- no half width is looked at
-pub never_nine : (L : Limits) (ts vs : List ℕ) (p : ℕ) → ¬ (biweight_refusal L ts vs ≡ some (record { number = 9; place = p }))
+pub never_nine : (L : Limits) (ts vs : List ℕ) (p : ℕ) → ¬ (biweight_refusal L ts vs ≡ Some (record { number = 9; place = p }))
 never_nine L ts vs p = by (at 0 (uneven_samples ts vs)) (at 0 (ltb L.samples (length ts))) (lowest (decreases ts) (length ts))
   where
     numbered : Option Fault → ℕ
-    numbered none = 0
-    numbered (some f) = f.number
+    numbered None = 0
+    numbered (Some f) = f.number
 
-    by : (a b c : Option ℕ) → ¬ (first_of (check 8 a ∷ check 6 b ∷ check 4 c ∷ []) ≡ some (record { number = 9; place = p }))
-    by (some x) b c e = let n : ◌≡◌ {A = ℕ} 8 9 = ap numbered e in omega arith
-    by none (some x) c e = let n : ◌≡◌ {A = ℕ} 6 9 = ap numbered e in omega arith
-    by none none (some x) e = let n : ◌≡◌ {A = ℕ} 4 9 = ap numbered e in omega arith
-    by none none none e = let n : ◌≡◌ {A = ℕ} 0 9 = ap numbered e in omega arith
+    by : (a b c : Option ℕ) → ¬ (first_of (check 8 a ∷ check 6 b ∷ check 4 c ∷ []) ≡ Some (record { number = 9; place = p }))
+    by (Some x) b c e = let n : ◌≡◌ {A = ℕ} 8 9 = ap numbered e in omega arith
+    by None (Some x) c e = let n : ◌≡◌ {A = ℕ} 6 9 = ap numbered e in omega arith
+    by None None (Some x) e = let n : ◌≡◌ {A = ℕ} 4 9 = ap numbered e in omega arith
+    by None None None e = let n : ◌≡◌ {A = ℕ} 0 9 = ap numbered e in omega arith

@@ -2,7 +2,7 @@
 -- for any half width h; the call has one.
 -- t is a minute, z a mark; ts are the minutes of the readings and vs their values.
 use Rattle.std.specs.Prelude.{ℕ, ◌-◌, ◌*◌, List, get_or}
-use Rattle.std.proofs.Math.Option.{Option}
+use Rattle.std.specs.Prelude.{Option}
 use Rattle.meanings.specs.declared.Estimate.{Estimate}
 use Rattle.meanings.specs.declared.Limits.{Limits}
 use Rattle.meanings.specs.Lists.{distance}

@@ -1,7 +1,7 @@
 -- SPECIFICATION, "Minute and temperature together": cuts, strips, cells and boxes, and the call that fills them in.
 -- Readings have the positions 0 to n - 1 of three lists: minutes, temperatures and values.
 use Rattle.std.specs.Prelude.{ℕ, zero, suc, ◌+◌, ◌-◌, ◌*◌, Bool, false, ◌||◌, ◌&&◌, List, [], ◌∷◌, ◌++◌, ltb, leb, eqb, length, get_or}
-use Rattle.std.proofs.Math.Option.{Option}
+use Rattle.std.specs.Prelude.{Option}
 use Rattle.meanings.specs.declared.Limits.{Limits}
 use Rattle.meanings.specs.Limits.{max_bandwidth}
 use Rattle.meanings.specs.Lists.{pick, count, total, distance, lowest}

@@ -4,7 +4,7 @@ use Prim.Native.Nat.{ℕ, zero, suc, ◌≤◌, ◌<◌}
 use mathlib.Core.Path.{◌≡◌, refl, sym, ap, ◌∙◌}
 use mathlib.Core.Bool.{Bool, true, false, true≢false}
 use mathlib.Core.List.{List, [], ◌∷◌, ◌++◌}
-use mathlib.Core.Option.{none, some}
+use Rattle.std.specs.Prelude.{None, Some}
 use native.Mathlib.Nat.{not-suc-le-zero, le_of_suc-le-suc}
 use native.Mathlib.Decide.{dec_lt}
 use native.Mathlib.Omega.{arith}
@@ -77,14 +77,14 @@ without_accepted ts vs h i l a =
       bandwidth = a.bandwidth;
     }
 
-ordered_no_decrease : (xs : List ℕ) → Ordered xs → lowest (decreases xs) (length xs) ≡ none
+ordered_no_decrease : (xs : List ℕ) → Ordered xs → lowest (decreases xs) (length xs) ≡ None
 ordered_no_decrease xs o = none_lowest (decreases xs) (length xs) at
   where
     at : (k : ℕ) → k < length xs → decreases xs k ≡ false
     at zero l = refl
     at (suc k) l = le-ltb (get_or xs (suc k) 0) (get_or xs k 0) (o k (suc k) (omega arith) l)
 
-pub accepted_not_refused : (ts vs : List ℕ) (h : ℕ) → EvaluateAccepted ts vs h → evaluate_refusal full ts vs h ≡ none
+pub accepted_not_refused : (ts vs : List ℕ) (h : ℕ) → EvaluateAccepted ts vs h → evaluate_refusal full ts vs h ≡ None
 accepted_not_refused ts vs h a =
     let p = a.positive in
     rw (
@@ -112,7 +112,7 @@ module _ (ts vs : List ℕ) (z h limit : ℕ) (o : Ordered ts) where
       ap (λ (b : Bool). differs b (verdict ts vs z h limit)) (verdict_stays i l e) ∙ differs_not (verdict ts vs z h limit)
 
   -- so one that is named has weight
-  pub named_has_weight : (i : ℕ) → first_decisive ts vs z h limit ≡ some i → 0 < kernel z h (get_or ts i 0)
+  pub named_has_weight : (i : ℕ) → first_decisive ts vs z h limit ≡ Some i → 0 < kernel z h (get_or ts i 0)
   named_has_weight i q = by (kernel z h (get_or ts i 0)) refl
     where
       by : (k : ℕ) → kernel z h (get_or ts i 0) ≡ k → 0 < k
@@ -122,6 +122,6 @@ module _ (ts vs : List ℕ) (z h limit : ℕ) (o : Ordered ts) where
       by (suc k) e = omega arith
 
   -- where there is no weight none decides
-  pub missing_keeps : weight_of ts z h ≡ 0 → first_decisive ts vs z h limit ≡ none
+  pub missing_keeps : weight_of ts z h ≡ 0 → first_decisive ts vs z h limit ≡ None
   missing_keeps e =
       none_lowest (decides ts vs z h limit) (length ts) (λ i l. weightless_keeps i l (omega (arith, weight_without ts vs z h o i l)))

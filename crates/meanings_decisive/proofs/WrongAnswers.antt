@@ -2,7 +2,7 @@
 use Prim.Native.Nat.{ℕ}
 use mathlib.Core.Path.{◌≡◌, ap}
 use mathlib.Core.List.{[], ◌∷◌}
-use mathlib.Core.Option.{Option, none, some}
+use Rattle.std.specs.Prelude.{Option, None, Some}
 use native.Mathlib.Omega.{arith}
 use Rattle.meanings.specs.Limits.{full}
 use Rattle.meanings.specs.Lists.{distance}
@@ -13,8 +13,8 @@ use Rattle.meanings_decisive.specs.Cases.{at, nobody}
 
 -- the number that tells such answers apart: the position, 1,000 for none, 2,000 for a report
 seen : Answer (Option ℕ) → ℕ
-seen (given none) = 1000
-seen (given (some i)) = i
+seen (given None) = 1000
+seen (given (Some i)) = i
 seen (refused e) = 2000
 
 abbrev sheet : ℕ → ℕ → ℕ → Answer (Option ℕ)

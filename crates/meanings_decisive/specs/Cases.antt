@@ -1,6 +1,5 @@
 -- Worked cases of the question which reading decides.
-use Rattle.std.specs.Prelude.{ℕ, List, [], ◌∷◌, replicate}
-use Rattle.std.proofs.Math.Option.{Option, none, some}
+use Rattle.std.specs.Prelude.{ℕ, List, [], ◌∷◌, replicate, Option, None, Some}
 use Rattle.meanings.specs.Limits.{full}
 use Rattle.meanings.specs.Reports.{Answer, given, refused}
 use Rattle.meanings_decisive.specs.Decisive.{decisive}
@@ -21,10 +20,10 @@ abbrev asked : List ℕ → List ℕ → ℕ → ℕ → ℕ → Answer (Option 
 asked ts vs z h limit a = record { minutes = ts; values = vs; point = z; bandwidth = h; limit = limit; expected = a }
 
 abbrev pub at : ℕ → Answer (Option ℕ)
-at i = given (some i)
+at i = given (Some i)
 
 abbrev pub nobody : Answer (Option ℕ)
-nobody = given none
+nobody = given None
 
 abbrev pub is_report : ℕ → ℕ → Answer (Option ℕ)
 is_report n p = refused (record { number = n; place = p })

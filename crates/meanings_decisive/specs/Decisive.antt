@@ -1,21 +1,12 @@
 -- SPECIFICATION, "Questions with a limit": the lowest reading without which the row at a mark is low enough where it was not, or not where it
 -- was. ts and vs are minutes and values of the readings, z a mark, h its half width.
-use Rattle.std.specs.Prelude.{ℕ, suc, Bool, true, false, not, ◌≡◌, List, ◌∷◌, ◌++◌, length, take, drop}
-use Rattle.std.proofs.Math.Option.{Option, none, some}
+use Rattle.std.specs.Prelude.{ℕ, suc, Bool, true, false, not, ◌≡◌, List, ◌∷◌, ◌++◌, length, take, drop, Option}
 use Rattle.meanings.specs.declared.Limits.{Limits}
 use Rattle.meanings.specs.Lists.{lowest}
-use Rattle.meanings.specs.Reports.{Answer, given, refused, unless, fault_of}
+use Rattle.meanings.specs.Reports.{Answer, unless}
 use Rattle.meanings.specs.Estimate.{estimate}
 use Rattle.meanings.specs.Calls.{evaluate_refusal}
 use Rattle.meanings_limit.specs.Threshold.{low_enough}
-use Rattle.meanings_decisive.specs.declared.Decisive.{Decisive}
-use Rattle.meanings_decisive.specs.declared.Decisive.TheVariants.{Sample, NoSample}
-
--- what the call tells: a position in the caller's list, or none
-abbrev pub decisive_answer : Decisive → Answer (Option ℕ)
-decisive_answer (Sample i) = given (some i)
-decisive_answer NoSample = given none
-decisive_answer (Decisive.Refused r) = refused (fault_of r)
 
 -- the list without its element at position i
 abbrev pub without : ℕ → List ℕ → List ℕ

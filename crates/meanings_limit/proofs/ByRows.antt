@@ -3,7 +3,7 @@ use Prim.Native.Nat.{ℕ, ◌+◌, ◌*◌, ◌<◌}
 use mathlib.Core.Path.{◌≡◌, refl, sym, ap, ◌∙◌}
 use mathlib.Core.Bool.{Bool, false}
 use mathlib.Core.List.{List}
-use mathlib.Core.Option.{Option, none, some}
+use Rattle.std.specs.Prelude.{Option, None, Some}
 use native.Mathlib.Nat.{add_comm}
 use native.Mathlib.Omega.{arith}
 use lib.ListN.{length, get_or, drop}
@@ -30,8 +30,8 @@ pub lowest_agrees : (p q : ℕ → Bool) (n : ℕ) → ((j : ℕ) → j < n → 
 lowest_agrees p q n same = by (lowest p n) refl
   where
     by : (o : Option ℕ) → lowest p n ≡ o → o ≡ lowest q n
-    by none e = sym (none_lowest q n (λ j l. sym (same j l) ∙ lowest_none p n e j l))
-    by (some k) e =
+    by None e = sym (none_lowest q n (λ j l. sym (same j l) ∙ lowest_none p n e j l))
+    by (Some k) e =
         let f = lowest_some p n k e in
         sym (lowest_at q n k f.0 (sym (same k f.0) ∙ f.1.there (omega (arith, f.0)))
         (λ j l. sym (same j (omega (arith, f.0))) ∙ f.1.before j (omega arith) l))
@@ -53,8 +53,8 @@ module _ (ts vs zs hs : List ℕ) (limit : ℕ) where
     passes_agree : (o : Option ℕ) → first_low ts vs zs hs limit ≡ o
         → passes ts vs fresh (steps_to zs hs o) ≡ passes_by_rows (rows ts vs zs hs (length zs)) (passes ts vs fresh (moves zs hs)) o
     unfolding estimate
-    passes_agree none e = refl
-    passes_agree (some k) e =
+    passes_agree None e = refl
+    passes_agree (Some k) e =
         let l = (lowest_some (low_at ts vs zs hs limit) (length zs) k e).0 in
         let here : row_width * k + 0 ≡ row_width * k = omega arith in
         passes_to_point ts vs zs hs s a k l
@@ -89,7 +89,7 @@ by_the_full_curve L w ts vs zs hs rs limit minutes values fits = rw alike (by (c
 
     by : (f : Option Fault) → crossing_refusal L ts vs zs hs ≡ f
         → unless f (located ts vs zs hs limit) ≡ answer_by_rows (accepted_or f R rs) (length zs) limit (unless f n)
-    by (some e) q = refl
-    by none q =
+    by (Some e) q = refl
+    by None q =
         let a = curve_accepts L w ts vs zs hs false q in
         ap given (rows_tell ts vs zs hs limit (record { even = a.even; few = a.few; minutes = minutes; values = values }) a)

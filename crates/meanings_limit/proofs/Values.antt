@@ -5,7 +5,7 @@ use mathlib.Core.Path.{◌≡◌, refl, sym, ap, ◌∙◌}
 use mathlib.Core.Logic.{◌⊎◌, inl, inr}
 use mathlib.Core.Bool.{false}
 use mathlib.Core.List.{List}
-use mathlib.Core.Option.{Option, none, some}
+use Rattle.std.specs.Prelude.{Option, None, Some}
 use native.Mathlib.Nat.{le_refl, le_trans, eq-or-lt_of_le, le_of_suc-le-suc}
 use native.Mathlib.Omega.{arith}
 use lib.ListN.{length, get_or}
@@ -74,24 +74,24 @@ module _ (ts vs vs' zs hs : List ℕ) (limit : ℕ) (a : CurveAccepted ts vs zs 
 
     answers_same : (o : Option ℕ) → first_low ts vs zs hs limit ≡ o → AgreeBelow (reach ts zs hs o) vs vs'
         → located ts vs zs hs limit ≡ located ts vs' zs hs limit
-    answers_same none e same = rw (e, here) (ap (λ (n : ℕ). record { position = none; passes = n }) both)
+    answers_same None e same = rw (e, here) (ap (λ (n : ℕ). record { position = None; passes = n }) both)
       where
-        here : first_low ts vs' zs hs limit ≡ none
+        here : first_low ts vs' zs hs limit ≡ None
         here =
             none_lowest (low_at ts vs' zs hs limit) (length zs)
             (λ j l. sym (tests_same (length zs - 1) (omega arith) same j (omega arith)) ∙ lowest_none (low_at ts vs zs hs limit) (length zs) e j l)
 
         both : passes ts vs fresh (moves zs hs) ≡ passes ts vs' fresh (moves zs hs)
         both = passes_are_edges ts vs zs hs s a ∙ edges_same (length zs) ∙ sym (passes_are_edges ts vs' zs hs s' a')
-    answers_same (some k) e same =
+    answers_same (Some k) e same =
         let f = lowest_some (low_at ts vs zs hs limit) (length zs) k e in
         let l = f.0 in
         let test = tests_same k l same in
-        let here : first_low ts vs' zs hs limit ≡ some k =
+        let here : first_low ts vs' zs hs limit ≡ Some k =
         lowest_at (low_at ts vs' zs hs limit) (length zs) k l (sym (test k (le_refl k)) ∙ f.1.there (omega arith))
         (λ j m. sym (test j (omega arith)) ∙ f.1.before j (omega arith) m) in
         rw (e, here)
-        (ap (λ (n : ℕ). record { position = some k; passes = n })
+        (ap (λ (n : ℕ). record { position = Some k; passes = n })
         (passes_to_point ts vs zs hs s a k l ∙ sym (passes_to_point ts vs' zs hs s' a' k l)))
 
 -- two value lists of one length that agree as far as the answer reaches give the same answer; minutes, marks and half widths stay
@@ -106,8 +106,8 @@ values_behind_do_not_count L w ts vs vs' zs hs limit minutes values values' even
 
     by : (f : Option Fault) → crossing_refusal L ts vs zs hs ≡ f
         → unless f (located ts vs zs hs limit) ≡ unless f (located ts vs' zs hs limit)
-    by (some e) q = refl
-    by none q =
+    by (Some e) q = refl
+    by None q =
         let a = curve_accepts L w ts vs zs hs false q in
         let a' = curve_accepts L w ts vs' zs hs false (sym alike ∙ q) in
         ap given

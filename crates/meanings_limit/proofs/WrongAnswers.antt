@@ -1,15 +1,16 @@
 -- Wrong programs of another shape than the code, each shut out on a concrete input: what it would answer is not what the meaning says.
 use Prim.Native.Nat.{ℕ}
+use Rattle.meanings_limit.specs.declared.Located.{Located}
 use mathlib.Core.Path.{◌≡◌, ap}
 use mathlib.Core.List.{[], ◌∷◌}
-use mathlib.Core.Option.{Option, none, some}
+use Rattle.std.specs.Prelude.{Option, None, Some}
 use native.Mathlib.Omega.{arith}
 use Rattle.meanings.specs.Limits.{full}
 use Rattle.meanings.specs.Lists.{distance}
 use Rattle.meanings.specs.Reports.{Answer, given, refused}
 use Rattle.meanings.specs.Estimate.{estimate, left_of, right_of, kernel, weight_of, sum_of, value_of, rounded}
 use Rattle.meanings.specs.Running.{moved, advance}
-use Rattle.meanings_limit.specs.Crossing.{Located, low_at, first_at_most}
+use Rattle.meanings_limit.specs.Crossing.{low_at, first_at_most}
 use Rattle.meanings_limit.specs.Cases.{at}
 
 -- the numbers that tell such answers apart: the position, or 1,000 for none; the passes; of a report both 2,000
@@ -17,8 +18,8 @@ place : Answer Located → ℕ
 place (given l) = or_none l.position
   where
     or_none : Option ℕ → ℕ
-    or_none none = 1000
-    or_none (some k) = k
+    or_none None = 1000
+    or_none (Some k) = k
 place (refused e) = 2000
 
 passed : Answer Located → ℕ

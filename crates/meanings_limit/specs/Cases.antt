@@ -1,9 +1,9 @@
 -- Worked cases of the questions with a limit.
-use Rattle.std.specs.Prelude.{ℕ, List, [], ◌∷◌, replicate}
-use Rattle.std.proofs.Math.Option.{none, some}
+use Rattle.std.specs.Prelude.{ℕ, List, [], ◌∷◌, replicate, None, Some}
+use Rattle.meanings_limit.specs.declared.Located.{Located}
 use Rattle.meanings.specs.Limits.{full}
 use Rattle.meanings.specs.Reports.{Answer, given, refused}
-use Rattle.meanings_limit.specs.Crossing.{Located, first_at_most}
+use Rattle.meanings_limit.specs.Crossing.{first_at_most}
 
 -- readings, marks with their half widths and a limit, and what is answered
 pub record CrossingCase : Type 0 where
@@ -22,10 +22,10 @@ asked ts vs zs hs limit a = record { minutes = ts; values = vs; points = zs; ban
 
 -- a position with its passes, none with those of all marks, a report with its place
 abbrev pub at : ℕ → ℕ → Answer Located
-at k n = given (record { position = some k; passes = n })
+at k n = given (record { position = Some k; passes = n })
 
 abbrev pub nowhere : ℕ → Answer Located
-nowhere n = given (record { position = none; passes = n })
+nowhere n = given (record { position = None; passes = n })
 
 abbrev pub is_report : ℕ → ℕ → Answer Located
 is_report n p = refused (record { number = n; place = p })

@@ -1,28 +1,15 @@
 -- SPECIFICATION, "Questions with a limit": the first mark that has a value of at most the limit, with the passes up to and with it.
 -- ts and vs are minutes and values of the readings, zs and hs the marks and their half widths.
-use Rattle.std.specs.Prelude.{ℕ, suc, ◌+◌, ◌-◌, ◌*◌, Bool, false, List, length, get_or, take}
-use Rattle.std.proofs.Math.Option.{Option, none, some}
+use Rattle.std.specs.Prelude.{ℕ, suc, ◌+◌, ◌-◌, ◌*◌, Bool, false, List, length, get_or, take, Option, None, Some}
+use Rattle.meanings_limit.specs.declared.Located.{Located}
 use Rattle.meanings.specs.declared.Limits.{Limits}
 use Rattle.meanings.specs.Limits.{row_width}
 use Rattle.meanings.specs.Lists.{lowest}
 use Rattle.meanings.specs.Moves.{Move, moves}
-use Rattle.meanings.specs.Reports.{Fault, Answer, given, refused, unless, fault_of, first_of, curve_checks}
+use Rattle.meanings.specs.Reports.{Fault, Answer, given, refused, unless, first_of, curve_checks}
 use Rattle.meanings.specs.Estimate.{estimate, right_of}
 use Rattle.meanings.specs.Running.{fresh, passes}
-use Rattle.meanings_limit.specs.declared.Crossing.{Crossing}
-use Rattle.meanings_limit.specs.declared.Crossing.TheVariants.{Reached, NotReached}
 use Rattle.meanings_limit.specs.Threshold.{at_or_below, low_enough}
-
--- a position among the marks, counted from 0, or none, and the passes
-pub record Located : Type 0 where
-  pub position : Option ℕ
-  pub passes : ℕ
-
--- what the call tells
-abbrev pub crossing_answer : Crossing → Answer Located
-crossing_answer (Reached k n) = given (record { position = some k; passes = n })
-crossing_answer (NotReached n) = given (record { position = none; passes = n })
-crossing_answer (Crossing.Refused r) = refused (fault_of r)
 
 -- the row of mark k is low enough
 unfoldable pub low_at : List ℕ → List ℕ → List ℕ → List ℕ → ℕ → ℕ → Bool
@@ -34,8 +21,8 @@ first_low ts vs zs hs limit = lowest (low_at ts vs zs hs limit) (length zs)
 
 -- one step a mark, up to and with mark k; where there is none, of all marks
 abbrev pub steps_to : List ℕ → List ℕ → Option ℕ → List Move
-steps_to zs hs none = moves zs hs
-steps_to zs hs (some k) = moves (take (suc k) zs) (take (suc k) hs)
+steps_to zs hs None = moves zs hs
+steps_to zs hs (Some k) = moves (take (suc k) zs) (take (suc k) hs)
 
 -- both, of accepted lists
 abbrev pub located : List ℕ → List ℕ → List ℕ → List ℕ → ℕ → Located
@@ -59,8 +46,8 @@ low_row rs limit k = at_or_below limit (get_or rs (row_width * k + 2) 0) (get_or
 
 -- the passes that the rows tell: left plus right of row k; where there is none, the sweep's
 abbrev pub passes_by_rows : List ℕ → ℕ → Option ℕ → ℕ
-passes_by_rows rs n none = n
-passes_by_rows rs n (some k) = get_or rs (row_width * k) 0 + get_or rs (row_width * k + 1) 0
+passes_by_rows rs n None = n
+passes_by_rows rs n (Some k) = get_or rs (row_width * k) 0 + get_or rs (row_width * k + 1) 0
 
 -- what a sweep of m marks with these rows and n passes says of the limit
 abbrev pub located_by_rows : List ℕ → ℕ → ℕ → ℕ → Located
@@ -74,5 +61,5 @@ answer_by_rows rs m limit (refused e) = refused e
 
 -- how far values can count: up to right of the answering mark; where there is none, of the last mark
 abbrev pub reach : List ℕ → List ℕ → List ℕ → Option ℕ → ℕ
-reach ts zs hs none = right_of ts (get_or zs (length zs - 1) 0) (get_or hs (length zs - 1) 0)
-reach ts zs hs (some k) = right_of ts (get_or zs k 0) (get_or hs k 0)
+reach ts zs hs None = right_of ts (get_or zs (length zs - 1) 0) (get_or hs (length zs - 1) 0)
+reach ts zs hs (Some k) = right_of ts (get_or zs k 0) (get_or hs k 0)

@@ -1,7 +1,7 @@
 -- SPECIFICATION, "Half widths by neighbours": each mark's half width by its K nearest readings, and the call that fills in half widths and rows.
 -- ts and vs are minutes and values of the readings, zs the marks, k is K; hs and rs are the lists of half widths and rows at entry.
 use Rattle.std.specs.Prelude.{ℕ, ◌+◌, ◌-◌, ◌≤◌, ◌<◌, Bool, ◌||◌, List, [], ◌∷◌, ◌++◌, ltb, leb, eqb, length, get_or}
-use Rattle.std.proofs.Math.Option.{Option}
+use Rattle.std.specs.Prelude.{Option}
 use Rattle.meanings.specs.declared.Limits.{Limits}
 use Rattle.meanings.specs.Limits.{row_width}
 use Rattle.meanings.specs.Lists.{pick, count, distance}

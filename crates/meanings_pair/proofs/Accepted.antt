@@ -4,7 +4,7 @@ use Prim.Native.Nat.{ℕ}
 use mathlib.Core.Path.{◌≡◌, refl}
 use mathlib.Core.Bool.{false}
 use mathlib.Core.List.{List, [], ◌∷◌}
-use mathlib.Core.Option.{Option, none, some}
+use Rattle.std.specs.Prelude.{Option, None, Some}
 use native.Mathlib.Nat.{le_trans}
 use native.Mathlib.Omega.{arith}
 use Rattle.meanings.specs.declared.Limits.{Limits}
@@ -20,15 +20,15 @@ pub record PairAccepted (ts vs us ws zs hs : List ℕ) : Type 0 where
   pub second : CurveAccepted us ws zs hs
 
 -- 16 holds nowhere: the lists earn nothing
-pub none_earned : (L : Limits) (us ws : List ℕ) → first_of (second_checks L us ws) ≡ none → first_of (series_checks L us ws) ≡ none
+pub none_earned : (L : Limits) (us ws : List ℕ) → first_of (second_checks L us ws) ≡ None → first_of (series_checks L us ws) ≡ None
 none_earned L us ws e = by (first_of (series_checks L us ws)) refl e
   where
-    by : (o : Option Fault) → first_of (series_checks L us ws) ≡ o → first_of (check 16 (fault_place o) ∷ []) ≡ none
-        → first_of (series_checks L us ws) ≡ none
-    by none q n = q
-    by (some f) q n = let z : ◌≡◌ {A = ℕ} 0 1 = cc in absurd (omega arith)
+    by : (o : Option Fault) → first_of (series_checks L us ws) ≡ o → first_of (check 16 (fault_place o) ∷ []) ≡ None
+        → first_of (series_checks L us ws) ≡ None
+    by None q n = q
+    by (Some f) q n = let z : ◌≡◌ {A = ℕ} 0 1 = cc in absurd (omega arith)
 
-pub pair_accepts : (L : Limits) → LimitsWithin L full → (ts vs us ws zs hs : List ℕ) → compare_refusal L ts vs us ws zs hs ≡ none
+pub pair_accepts : (L : Limits) → LimitsWithin L full → (ts vs us ws zs hs : List ℕ) → compare_refusal L ts vs us ws zs hs ≡ None
     → PairAccepted ts vs us ws zs hs
 pair_accepts L w ts vs us ws zs hs e =
     let both = none_of_both (curve_checks L ts vs zs hs false) (second_checks L us ws) e in

@@ -1,21 +1,22 @@
 -- Cases that tell the meaning from its nearest misreadings, in numbers: each is computed. Readings as minute:value.
 use Prim.Native.Nat.{ℕ}
+use Rattle.meanings_pair.specs.declared.Parting.{Parting}
 use mathlib.Core.Path.{◌≡◌, refl}
 use mathlib.Core.List.{List, [], ◌∷◌, map}
-use mathlib.Core.Option.{Option, none, some}
+use Rattle.std.specs.Prelude.{Option, None, Some}
 use Rattle.meanings.specs.Limits.{full}
 use Rattle.meanings.specs.Lists.{distance}
 use Rattle.meanings.specs.Estimate.{left_of, right_of, kernel, weight_of, sum_of, rounded, value_of, estimate}
 use Rattle.meanings.specs.Reports.{Answer, given, refused}
 use Rattle.meanings_pair.specs.declared.Tank.{Tank}
 use Rattle.meanings_pair.specs.declared.Tank.TheVariants.{First, Second}
-use Rattle.meanings_pair.specs.Comparison.{Parting, above, higher_of, unlike, unlike_at, compare, compare_run, compare_bounds, run_tank, run_start}
+use Rattle.meanings_pair.specs.Comparison.{above, higher_of, unlike, unlike_at, compare, compare_run, compare_bounds, run_tank, run_start}
 
 abbrev apart : ℕ → Tank → Answer (Option Parting)
-apart k t = given (some (record { position = k; higher = t }))
+apart k t = given (Some (record { position = k; higher = t }))
 
 abbrev alike : Answer (Option Parting)
-alike = given none
+alike = given None
 
 abbrev is_report : ℕ → ℕ → Answer (Option Parting)
 is_report n p = refused (record { number = n; place = p })
@@ -56,9 +57,9 @@ first_difference = (refl, refl, refl, refl)
 -- the bounds are those of the higher tank's own list: 50:2 against 1:9, 2:9, 50:3, 51:3; and exchanged
 pub bounds_of_its_own :
     (compare_bounds full (50 ∷ []) (2 ∷ []) (1 ∷ 2 ∷ 50 ∷ 51 ∷ []) (9 ∷ 9 ∷ 3 ∷ 3 ∷ []) (50 ∷ []) (5 ∷ [])
-    ≡ given (some (record { parting = record { position = 0; higher = Second }; left = 2; right = 4 })))
+    ≡ given (Some (record { parting = record { position = 0; higher = Second }; left = 2; right = 4 })))
     × (compare_bounds full (1 ∷ 2 ∷ 50 ∷ 51 ∷ []) (9 ∷ 9 ∷ 3 ∷ 3 ∷ []) (50 ∷ []) (2 ∷ []) (50 ∷ []) (5 ∷ [])
-    ≡ given (some (record { parting = record { position = 0; higher = First }; left = 2; right = 4 })))
+    ≡ given (Some (record { parting = record { position = 0; higher = First }; left = 2; right = 4 })))
 unfolding distance left_of right_of kernel weight_of sum_of rounded value_of estimate above higher_of unlike unlike_at compare compare_bounds
 bounds_of_its_own = (refl, refl)
 

@@ -1,28 +1,16 @@
 -- SPECIFICATION, "Two tanks": where the curves of two tanks part over the same marks, which of them is higher there, and that tank's run.
 -- ts and vs are minutes and values of the first tank's readings, us and ws those of the second, zs and hs the marks and their half widths.
-use Rattle.std.specs.Prelude.{ℕ, Bool, true, false, List, [], ◌∷◌, ◌++◌, ltb, eqb, length, get_or}
-use Rattle.std.proofs.Math.Option.{Option, none, some}
+use Rattle.std.specs.Prelude.{ℕ, Bool, true, false, List, [], ◌∷◌, ◌++◌, ltb, eqb, length, get_or, Option, None, Some}
+use Rattle.meanings_pair.specs.declared.Bounded.{Bounded}
+use Rattle.meanings_pair.specs.declared.Parting.{Parting}
 use Rattle.meanings.specs.declared.Estimate.{Estimate}
 use Rattle.meanings.specs.declared.Limits.{Limits}
 use Rattle.meanings.specs.Lists.{pick, lowest}
-use Rattle.meanings.specs.Reports.{Fault, Answer, given, refused, unless, fault_of}
+use Rattle.meanings.specs.Reports.{Fault, Answer, given, refused, unless}
 use Rattle.meanings.specs.Reports.{Check, check, first_of, differ, series_checks, curve_checks}
 use Rattle.meanings.specs.Estimate.{left_of, right_of, run_of, estimate}
 use Rattle.meanings_pair.specs.declared.Tank.{Tank}
 use Rattle.meanings_pair.specs.declared.Tank.TheVariants.{First, Second}
-use Rattle.meanings_pair.specs.declared.Comparison.{Comparison}
-use Rattle.meanings_pair.specs.declared.Split.{Split}
-
--- where two tanks part: the mark's position, counted from 0, and the tank that is higher there
-pub record Parting : Type 0 where
-  pub position : ℕ
-  pub higher : Tank
-
--- what the call tells; none where the tanks are alike at every mark
-abbrev pub comparison_answer : Comparison → Answer (Option Parting)
-comparison_answer (Comparison.Apart k t) = given (some (record { position = k; higher = t }))
-comparison_answer Comparison.Alike = given none
-comparison_answer (Comparison.Refused r) = refused (fault_of r)
 
 -- a where the first tank is meant, b where the second
 abbrev pub of_tank : {A : Type 0} → Tank → A → A → A
@@ -51,17 +39,17 @@ unlike_at ts vs us ws zs hs k = unlike (estimate ts vs (get_or zs k 0) (get_or h
 
 -- the first mark with differing values decides
 abbrev pub parting_at : List ℕ → List ℕ → List ℕ → List ℕ → List ℕ → List ℕ → Option ℕ → Option Parting
-parting_at ts vs us ws zs hs none = none
-parting_at ts vs us ws zs hs (some k) =
-    some (record { position = k; higher = higher_of (estimate ts vs (get_or zs k 0) (get_or hs k 0)) (estimate us ws (get_or zs k 0) (get_or hs k 0)) })
+parting_at ts vs us ws zs hs None = None
+parting_at ts vs us ws zs hs (Some k) =
+    Some (record { position = k; higher = higher_of (estimate ts vs (get_or zs k 0) (get_or hs k 0)) (estimate us ws (get_or zs k 0) (get_or hs k 0)) })
 
 abbrev pub parted : List ℕ → List ℕ → List ℕ → List ℕ → List ℕ → List ℕ → Option Parting
 parted ts vs us ws zs hs = parting_at ts vs us ws zs hs (lowest (unlike_at ts vs us ws zs hs) (length zs))
 
 -- report 16: the second tank's own lists are unfit, at the place where the first of 8, 6 and 4 finds it
 abbrev pub fault_place : Option Fault → Option ℕ
-fault_place none = none
-fault_place (some e) = some e.place
+fault_place None = None
+fault_place (Some e) = Some e.place
 
 abbrev pub second_checks : Limits → List ℕ → List ℕ → List Check
 second_checks L us ws = check 16 (fault_place (first_of (series_checks L us ws))) ∷ []
@@ -79,11 +67,11 @@ compare L ts vs us ws zs hs = unless (compare_refusal L ts vs us ws zs hs) (part
 
 -- its run: that of the tank that is higher, at the mark at which they part; else empty
 abbrev pub run_in : List ℕ → List ℕ → List ℕ → List ℕ → List ℕ → List ℕ → Answer (Option Parting) → List ℕ
-run_in ts vs us ws zs hs (given (some p)) =
+run_in ts vs us ws zs hs (given (Some p)) =
     let z = get_or zs p.position 0 in
     let h = get_or hs p.position 0 in
     of_tank p.higher (run_of ts vs z h) (run_of us ws z h)
-run_in ts vs us ws zs hs (given none) = []
+run_in ts vs us ws zs hs (given None) = []
 run_in ts vs us ws zs hs (refused e) = []
 
 unfoldable pub compare_run : Limits → List ℕ → List ℕ → List ℕ → List ℕ → List ℕ → List ℕ → List ℕ
@@ -91,8 +79,8 @@ compare_run L ts vs us ws zs hs = run_in ts vs us ws zs hs (compare L ts vs us w
 
 -- whose list of values the run is a part of: the first tank's where it is empty for want of a parting
 abbrev pub tank_in : Answer (Option Parting) → Tank
-tank_in (given (some p)) = p.higher
-tank_in (given none) = First
+tank_in (given (Some p)) = p.higher
+tank_in (given None) = First
 tank_in (refused e) = First
 
 unfoldable pub run_tank : Limits → List ℕ → List ℕ → List ℕ → List ℕ → List ℕ → List ℕ → Tank
@@ -100,26 +88,15 @@ run_tank L ts vs us ws zs hs = tank_in (compare L ts vs us ws zs hs)
 
 -- and the position in that list at which it begins: left, else 0
 abbrev pub start_in : List ℕ → List ℕ → List ℕ → List ℕ → Answer (Option Parting) → ℕ
-start_in ts us zs hs (given (some p)) =
+start_in ts us zs hs (given (Some p)) =
     let z = get_or zs p.position 0 in
     let h = get_or hs p.position 0 in
     of_tank p.higher (left_of ts z h) (left_of us z h)
-start_in ts us zs hs (given none) = 0
+start_in ts us zs hs (given None) = 0
 start_in ts us zs hs (refused e) = 0
 
 unfoldable pub run_start : Limits → List ℕ → List ℕ → List ℕ → List ℕ → List ℕ → List ℕ → ℕ
 run_start L ts vs us ws zs hs = start_in ts us zs hs (compare L ts vs us ws zs hs)
-
--- a parting with the bounds of the higher tank's run
-pub record Bounded : Type 0 where
-  pub parting : Parting
-  pub left : ℕ
-  pub right : ℕ
-
-abbrev pub split_answer : Split → Answer (Option Bounded)
-split_answer (Split.Apart k t a b) = given (some (record { parting = record { position = k; higher = t }; left = a; right = b }))
-split_answer Split.Alike = given none
-split_answer (Split.Refused r) = refused (fault_of r)
 
 -- a parting at mark k, by the rows of both tanks there
 unfoldable pub split_of : ℕ → Estimate → Estimate → Bounded
@@ -139,8 +116,8 @@ bounded ts us zs hs p =
     }
 
 abbrev pub with_bounds : List ℕ → List ℕ → List ℕ → List ℕ → Answer (Option Parting) → Answer (Option Bounded)
-with_bounds ts us zs hs (given (some p)) = given (some (bounded ts us zs hs p))
-with_bounds ts us zs hs (given none) = given none
+with_bounds ts us zs hs (given (Some p)) = given (Some (bounded ts us zs hs p))
+with_bounds ts us zs hs (given None) = given None
 with_bounds ts us zs hs (refused e) = refused e
 
 unfoldable pub compare_bounds : Limits → List ℕ → List ℕ → List ℕ → List ℕ → List ℕ → List ℕ → Answer (Option Bounded)

@@ -1,23 +1,23 @@
 -- SPECIFICATION, "Two tanks": when the first of two tanks is no higher than the second, by the call's answer; the answer with the tanks
 -- exchanged; and what the rows of two sweeps say.
-use Rattle.std.specs.Prelude.{ℕ, ◌+◌, ◌*◌, ◌<◌, ◌≡◌, List, length, get_or}
-use Rattle.std.proofs.Math.Option.{Option, none, some}
+use Rattle.std.specs.Prelude.{ℕ, ◌+◌, ◌*◌, ◌<◌, ◌≡◌, List, length, get_or, Option, None, Some}
+use Rattle.meanings_pair.specs.declared.Parting.{Parting}
 use Rattle.meanings.specs.Limits.{row_width}
 use Rattle.meanings.specs.Reports.{Answer, given, refused}
 use Rattle.meanings.specs.Estimate.{estimate}
 use Rattle.meanings_pair.specs.declared.Tank.TheVariants.{First, Second}
-use Rattle.meanings_pair.specs.Comparison.{Parting, of_tank}
+use Rattle.meanings_pair.specs.Comparison.{of_tank}
 
 -- the answer is no refusal, and the first tank is not the higher one
 abbrev pub NoHigher : Answer (Option Parting) → Type 0
-NoHigher (given (some p)) = p.higher ≡ Second
-NoHigher (given none) = Unit
+NoHigher (given (Some p)) = p.higher ≡ Second
+NoHigher (given None) = Unit
 NoHigher (refused e) = ⊥
 
 -- the answer with the tanks exchanged: the same position, the other tank
 abbrev pub exchanged : Answer (Option Parting) → Answer (Option Parting)
-exchanged (given (some p)) = given (some (record { position = p.position; higher = of_tank p.higher Second First }))
-exchanged (given none) = given none
+exchanged (given (Some p)) = given (Some (record { position = p.position; higher = of_tank p.higher Second First }))
+exchanged (given None) = given None
 exchanged (refused e) = refused e
 
 -- two tanks have the same value at each mark
@@ -27,9 +27,9 @@ SameValues ts vs us ws zs hs =
 
 -- the position at which the tanks part, if they do
 abbrev pub position_in : Answer (Option Parting) → Option ℕ
-position_in (given (some p)) = some p.position
-position_in (given none) = none
-position_in (refused e) = none
+position_in (given (Some p)) = Some p.position
+position_in (given None) = None
+position_in (refused e) = None
 
 -- row k of a list of rows: of its five numbers the last is the value
 abbrev pub value_field : List ℕ → ℕ → ℕ

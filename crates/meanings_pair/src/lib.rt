@@ -1,8 +1,6 @@
 // The types that the comparison of two tanks gives. What each value has to be is defined in specs/.
 #![tactic(auto)]
 
-use meanings::Refusal;
-
 // One of the two tanks.
 #[derive(Clone, Copy)]
 pub enum Tank {
@@ -10,23 +8,17 @@ pub enum Tank {
     Second,
 }
 
-// Where two tanks part: a position among the marks and the tank that is higher there, nowhere, or the report.
+// Where two tanks part: a position among the marks and the tank that is higher there.
 #[derive(Clone, Copy)]
-pub enum Comparison {
-    Apart { point: usize, higher: Tank },
-    Alike,
-    Refused(Refusal),
+pub struct Parting {
+    pub position: usize,
+    pub higher: Tank,
 }
 
-// The same with the run of the higher tank there: positions left up to but without right of its own lists.
+// A parting with the run of the higher tank there: positions left up to but without right of its own lists.
 #[derive(Clone, Copy)]
-pub enum Split {
-    Apart {
-        point: usize,
-        higher: Tank,
-        left: usize,
-        right: usize,
-    },
-    Alike,
-    Refused(Refusal),
+pub struct Bounded {
+    pub parting: Parting,
+    pub left: usize,
+    pub right: usize,
 }

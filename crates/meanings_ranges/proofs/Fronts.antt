@@ -4,7 +4,7 @@ use Prim.Native.Nat.{ℕ}
 use mathlib.Core.Path.{◌≡◌, refl}
 use mathlib.Core.Bool.{Bool, true, false}
 use mathlib.Core.List.{List, [], ◌∷◌, ◌++◌}
-use mathlib.Core.Option.{Option, none, some}
+use Rattle.std.specs.Prelude.{Option, None, Some}
 use lib.Dec.{ltb, eqb}
 use lib.ListN.{length}
 use Rattle.meanings.specs.Lists.{pick}
@@ -22,13 +22,13 @@ module _ {A B : Type 0} (over : Answer A → Answer B) (stops : (e : Fault) → 
   pub with_point_over : (L : Limits) (p : ℕ) (zs hs : List ℕ) (m : Option EvaluationPoint) (next : List ℕ → List ℕ → Answer A)
       (next' : List ℕ → List ℕ → Answer B) → ((xs ys : List ℕ) → over (next xs ys) ≡ next' xs ys)
       → over (with_point L p zs hs m next) ≡ with_point L p zs hs m next'
-  with_point_over L p zs hs none next next' h = stops _
-  with_point_over L p zs hs (some m) next next' h = by (first_of (point_checks L p zs hs m))
+  with_point_over L p zs hs None next next' h = stops _
+  with_point_over L p zs hs (Some m) next next' h = by (first_of (point_checks L p zs hs m))
     where
       by : (o : Option Fault) → over (or_next o (next (zs ++ m.point ∷ []) (hs ++ m.bandwidth ∷ [])))
           ≡ or_next o (next' (zs ++ m.point ∷ []) (hs ++ m.bandwidth ∷ []))
-      by none = h _ _
-      by (some e) = stops e
+      by None = h _ _
+      by (Some e) = stops e
 
   pub front_points_over : (L : Limits) (p : ℕ) (zs hs : List ℕ) (ls : Lines) (next : Front → Answer A) (next' : Front → Answer B)
       → ((f : Front) → over (next f) ≡ next' f) → over (front_points L p zs hs ls next) ≡ front_points L p zs hs ls next'

@@ -5,7 +5,7 @@ use mathlib.Core.Path.{◌≡◌, refl, sym, ap, ◌∙◌}
 use mathlib.Core.Logic.{◌⊎◌, inl, inr}
 use mathlib.Core.Bool.{◌||◌}
 use mathlib.Core.List.{List, [], ◌++◌}
-use mathlib.Core.Option.{none}
+use Rattle.std.specs.Prelude.{None}
 use native.Mathlib.Nat.{not-suc-le-zero, eq-or-lt_of_le, le_of_suc-le-suc}
 use native.Mathlib.Omega.{arith}
 use borrow.Author.Tests.{ltb-false, le-ltb, ne_eqb}
@@ -72,15 +72,15 @@ with_lengths a e = record {
 
 -- what is found of the lists of an accepted sweep over ranges
 pub record RangesAccepted (L : Limits) (ts ls us zs hs rs : List ℕ) : Type 0 where
-  pub by_size : first_of (curve_size_checks L ts ls zs hs (uneven_samples ts us || uneven_rows range_row_width (length rs) (length zs))) ≡ none
+  pub by_size : first_of (curve_size_checks L ts ls zs hs (uneven_samples ts us || uneven_rows range_row_width (length rs) (length zs))) ≡ None
   pub sizes : CurveSizes L ts ls zs hs (uneven_samples ts us || uneven_rows range_row_width (length rs) (length zs))
-  pub samples_ordered : first_of (sample_order_checks ts) ≡ none
-  pub points_ordered : first_of (point_order_checks zs) ≡ none
-  pub windows : first_of (windows_checks zs hs) ≡ none
+  pub samples_ordered : first_of (sample_order_checks ts) ≡ None
+  pub points_ordered : first_of (point_order_checks zs) ≡ None
+  pub windows : first_of (windows_checks zs hs) ≡ None
   pub uncrossed : Uncrossed ls us
   pub rows_fit : length rs ≡ range_row_width * length zs
 
-pub ranges_accept : (L : Limits) (ts ls us zs hs rs : List ℕ) → range_refusal L ts ls us zs hs rs ≡ none → RangesAccepted L ts ls us zs hs rs
+pub ranges_accept : (L : Limits) (ts ls us zs hs rs : List ℕ) → range_refusal L ts ls us zs hs rs ≡ None → RangesAccepted L ts ls us zs hs rs
 ranges_accept L ts ls us zs hs rs e =
     let more = uneven_samples ts us || uneven_rows range_row_width (length rs) (length zs) in
     let points = point_order_checks zs ++ windows_checks zs hs in
@@ -103,7 +103,7 @@ ranges_accept L ts ls us zs hs rs e =
       rows_fit = differ_false (length rs) (range_row_width * length zs) o.1;
     }
 
-module _ (L : Limits) (within : LimitsWithin L full) (ts ls us zs hs rs : List ℕ) (a : range_refusal L ts ls us zs hs rs ≡ none) where
+module _ (L : Limits) (within : LimitsWithin L full) (ts ls us zs hs rs : List ℕ) (a : range_refusal L ts ls us zs hs rs ≡ None) where
   found : RangesAccepted L ts ls us zs hs rs
   found = ranges_accept L ts ls us zs hs rs a
 
@@ -116,17 +116,17 @@ module _ (L : Limits) (within : LimitsWithin L full) (ts ls us zs hs rs : List �
 
   module _ (vs : List ℕ) (c : Choice ls us vs) where
     -- a plain sweep with room for its rows refuses nothing
-    pub plain_accepts : (rs' : List ℕ) → length rs' ≡ row_width * length zs → smooth_refusal L ts vs zs hs rs' ≡ none
+    pub plain_accepts : (rs' : List ℕ) → length rs' ≡ row_width * length zs → smooth_refusal L ts vs zs hs rs' ≡ None
     plain_accepts rs' fits = by_sizes found.sizes
       where
-        later : first_of (order_checks ts zs ++ windows_checks zs hs) ≡ none
+        later : first_of (order_checks ts zs ++ windows_checks zs hs) ≡ None
         later =
             first_of_rest (sample_order_checks ts) (point_order_checks zs ++ windows_checks zs hs) found.samples_ordered
             ∙ first_of_rest (point_order_checks zs) (windows_checks zs hs) found.points_ordered
             ∙ found.windows
 
         by_sizes : CurveSizes L ts ls zs hs (uneven_samples ts us || uneven_rows range_row_width (length rs) (length zs))
-            → smooth_refusal L ts vs zs hs rs' ≡ none
+            → smooth_refusal L ts vs zs hs rs' ≡ None
         by_sizes s =
             rw (
               differ_same (length ts) (length vs) (s.even ∙ c.lows),

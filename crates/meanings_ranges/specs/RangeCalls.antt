@@ -1,23 +1,12 @@
 -- The whole outcome of the reader of both kinds: its answer, and what each lent list holds at exit, for every input. On a refusal a lent list
 -- holds what it held.
 use Rattle.std.specs.Prelude.{ℕ, ◌||◌, List, [], ◌∷◌, ◌++◌, length, drop}
+use Rattle.meanings_ranges.specs.declared.RangeCounts.{RangeCounts}
 use Rattle.meanings.specs.declared.Limits.{Limits}
-use Rattle.meanings.specs.Reports.{Answer, given, refused, fault_of, Check, check, at, first_of, differ}
+use Rattle.meanings.specs.Reports.{Answer, given, refused, Check, check, at, first_of, differ}
 use Rattle.meanings.specs.Sheet.{or_next}
 use Rattle.meanings_ranges.specs.declared.Kind.{Kind}
-use Rattle.meanings_ranges.specs.declared.RangeParsing.{RangeParsing}
-use Rattle.meanings_ranges.specs.declared.RangeParsing.TheVariants.{Used}
 use Rattle.meanings_ranges.specs.RangeSheet.{RangeContents, read_either}
-
--- how many readings are kept, how many marks there are, and the kind
-pub record RangeCounts : Type 0 where
-  pub samples : ℕ
-  pub points : ℕ
-  pub kind : Kind
-
-abbrev pub range_parsing_answer : RangeParsing → Answer RangeCounts
-range_parsing_answer (Used n m k) = given (record { samples = n; points = m; kind = k })
-range_parsing_answer (RangeParsing.Refused r) = refused (fault_of r)
 
 -- report 8: the lists of minutes, lows, highs, marks and half widths, by their lengths
 abbrev pub read_range_checks : Limits → ℕ → ℕ → ℕ → ℕ → ℕ → List Check

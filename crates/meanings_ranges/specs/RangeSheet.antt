@@ -1,7 +1,6 @@
 -- SPECIFICATION, "Ranges": the reader of both kinds of sheet, as a function from any list of bytes to a report with its place or the kind and
 -- the five lists. What stands before the second header line is read as by the reader of specs/Sheet.antt.
-use Rattle.std.specs.Prelude.{ℕ, Bool, ◌&&◌, List, [], ◌∷◌, ◌++◌, ltb, leb, eqb, length}
-use Rattle.std.proofs.Math.Option.{Option, none, some}
+use Rattle.std.specs.Prelude.{ℕ, Bool, ◌&&◌, List, [], ◌∷◌, ◌++◌, ltb, leb, eqb, length, Option, None, Some}
 use Rattle.meanings.specs.Lists.{pick}
 use Rattle.meanings.specs.declared.Limits.{Limits}
 use Rattle.meanings.specs.Limits.{max_u16, max_sheet}
@@ -46,26 +45,26 @@ pub record RangeInjection : Type 0 where
 
 -- three numbers with their ranges, and a fourth
 abbrev pub with_high : Option Injection → Option ℕ → Option RangeInjection
-with_high none u = none
-with_high (some j) none = none
-with_high (some j) (some u) =
-    pick (leb u max_u16) (some (record { minute = j.minute; injection = j.injection; low = j.value; high = u })) none
+with_high None u = None
+with_high (Some j) None = None
+with_high (Some j) (Some u) =
+    pick (leb u max_u16) (Some (record { minute = j.minute; injection = j.injection; low = j.value; high = u })) None
 
 abbrev pub four_parts : List (List ℕ) → Option RangeInjection
-four_parts [] = none
-four_parts (a ∷ []) = none
-four_parts (a ∷ b ∷ []) = none
-four_parts (a ∷ b ∷ c ∷ []) = none
+four_parts [] = None
+four_parts (a ∷ []) = None
+four_parts (a ∷ b ∷ []) = None
+four_parts (a ∷ b ∷ c ∷ []) = None
 four_parts (a ∷ b ∷ c ∷ d ∷ []) = with_high (ranged_sample (parsed a) (parsed b) (parsed c)) (parsed d)
-four_parts (a ∷ b ∷ c ∷ d ∷ e ∷ r) = none
+four_parts (a ∷ b ∷ c ∷ d ∷ e ∷ r) = None
 
 abbrev pub range_line : List ℕ → Option RangeInjection
 range_line t = four_parts (parts t)
 
 -- a plain line: its value stands as low and high
 abbrev pub standing_twice : Option Injection → Option RangeInjection
-standing_twice none = none
-standing_twice (some j) = some (record { minute = j.minute; injection = j.injection; low = j.value; high = j.value })
+standing_twice None = None
+standing_twice (Some j) = Some (record { minute = j.minute; injection = j.injection; low = j.value; high = j.value })
 
 -- a reading line of a sheet of this kind
 abbrev pub reading_line : Kind → List ℕ → Option RangeInjection
@@ -105,8 +104,8 @@ with_line r j = record {
 
 -- a line that is no reading line is refused with 3; else the first that holds; else what comes next
 abbrev pub with_reading : {A : Type 0} → Limits → ℕ → Readings → Option RangeInjection → (Readings → Answer A) → Answer A
-with_reading L p r none next = refused_at p 3
-with_reading L p r (some j) next = or_next (first_of (reading_checks L p r.all (length r.minutes) j)) (next (with_line r j))
+with_reading L p r None next = refused_at p 3
+with_reading L p r (Some j) next = or_next (first_of (reading_checks L p r.all (length r.minutes) j)) (next (with_line r j))
 
 -- what an accepted sheet holds: its kind, the kept readings, and the marks with their half widths
 pub record RangeContents : Type 0 where

@@ -1,7 +1,6 @@
 -- SPECIFICATION, "Ranges": the rows of readings of which each value is known only to lie between two, and what their sweep is refused for.
 -- ts are the minutes of the readings, ls and us the lowest and the highest values that each can have, zs and hs the marks and their half widths.
-use Rattle.std.specs.Prelude.{ℕ, zero, suc, Bool, ◌||◌, List, [], ◌∷◌, ◌++◌, ltb, length, get_or}
-use Rattle.std.proofs.Math.Option.{Option}
+use Rattle.std.specs.Prelude.{ℕ, zero, suc, Bool, ◌||◌, List, [], ◌∷◌, ◌++◌, ltb, length, get_or, Option}
 use Rattle.meanings.specs.declared.Limits.{Limits}
 use Rattle.meanings.specs.Lists.{lowest}
 use Rattle.meanings.specs.Moves.{moves}

@@ -1,8 +1,6 @@
 // The types that readings known as ranges give. What each value has to be is defined in specs/.
 #![tactic(auto)]
 
-use meanings::Refusal;
-
 // The least and the greatest that a number can be.
 #[derive(Clone, Copy)]
 pub struct Bounds {
@@ -30,13 +28,10 @@ pub enum Kind {
     Ranges,
 }
 
-// What the reader of both kinds gives: how many readings are kept, how many marks there are and the kind, or the report.
+// How many readings a sheet of either kind keeps, how many marks it has, and its kind.
 #[derive(Clone, Copy)]
-pub enum RangeParsing {
-    Used {
-        samples: usize,
-        points: usize,
-        kind: Kind,
-    },
-    Refused(Refusal),
+pub struct RangeCounts {
+    pub samples: usize,
+    pub points: usize,
+    pub kind: Kind,
 }

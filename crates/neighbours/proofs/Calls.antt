@@ -1,25 +1,24 @@
 -- What the check finds is what the call is refused for. Where it finds nothing the half widths are filled in, and the sweep with them refuses
 -- nothing either: no edge goes back, and no half width is out of range.
 use Prim.Native.Nat.{ℕ}
+use Rattle.std.specs.Prelude.{Result, Ok, Err}
+use Rattle.meanings.specs.Calls.{answer_of}
 use mathlib.Core.Path.{◌≡◌, sym, ap, ◌∙◌}
 use mathlib.Core.List.{List}
-use mathlib.Core.Option.{none}
+use Rattle.std.specs.Prelude.{None}
 use native.Mathlib.Omega.{arith}
 use mir.Val.{Fits}
 use mir.Syntax.{w16}
 use lib.ListN.{length, get_or}
 use Rattle.meanings.specs.declared.Limits.{Limits}
 use Rattle.meanings.specs.declared.Refusal.{Refusal}
-use Rattle.meanings.specs.declared.Smoothing.{Smoothing}
-use Rattle.meanings.specs.declared.Verdict.{Verdict}
-use Rattle.meanings.specs.declared.Verdict.TheVariants.{Fit, Faulty}
 use Rattle.meanings.specs.Limits.{full, max_u16}
 use Rattle.meanings.specs.Lists.{AtMost}
 use Rattle.meanings.specs.Reports.{given, refused, fault_of, verdict_fault, first_of}
 use Rattle.meanings.specs.Moves.{moves}
 use Rattle.meanings.specs.Running.{fresh, passes}
 use Rattle.meanings.specs.Estimate.{rows}
-use Rattle.meanings.specs.Calls.{smoothing_answer, smooth, smooth_refusal, smooth_rows}
+use Rattle.meanings.specs.Calls.{smooth, smooth_refusal, smooth_rows}
 use Rattle.meanings.proofs.Checks.{same_limits}
 use Rattle.meanings_neighbours.specs.Neighbours.{neighbour_bandwidths, neighbours_checks, neighbours_refusal, neighbours, bandwidths_then, rows_then}
 use Rattle.laws_neighbours.proofs.Refusals.{neighbours_accepts, sweep_accepts}
@@ -28,12 +27,13 @@ use Rattle.neighbours.specs.Nearest.{Judged, Fillable}
 of_16_bits : (xs : List ℕ) → ((i : ℕ) → Fits w16 (get_or xs i 0)) → AtMost max_u16 xs
 of_16_bits xs f i l = omega (arith, f i)
 
-pub judges : (ts vs zs : List ℕ) (k : ℕ) (hs : List ℕ) (n : ℕ) {L : Limits} {v : Verdict} → L ≡ full
+pub judges : (ts vs zs : List ℕ) (k : ℕ) (hs : List ℕ) (n : ℕ) {L : Limits} {v : Result Unit Refusal} → L ≡ full
     → verdict_fault v ≡ first_of (neighbours_checks L ts vs zs k hs n) → Judged ts vs zs k hs n v
 judges ts vs zs k hs n l f = record { refusal = f ∙ ap (λ (M : Limits). first_of (neighbours_checks M ts vs zs k hs n)) l }
 
 -- lists that the check finds nothing in
-pub fillable : {ts vs zs : List ℕ} {k : ℕ} {hs : List ℕ} {n : ℕ} {v : Verdict} → Judged ts vs zs k hs n v → v ≡ Fit → Fillable ts zs k hs
+pub fillable : {ts vs zs : List ℕ} {k : ℕ} {hs : List ℕ} {n : ℕ} {v : Result Unit Refusal} → Judged ts vs zs k hs n v → {unit : Unit {0}} → v ≡ Ok unit
+    → Fillable ts zs k hs
 fillable {ts} {vs} {zs} {k} {hs} {n} j q =
     let a = neighbours_accepts full ts vs zs k hs (same_limits full) n (sym j.refusal ∙ ap verdict_fault q) in
     record {
@@ -44,11 +44,11 @@ fillable {ts} {vs} {zs} {k} {hs} {n} j q =
       even = a.even_points;
     }
 
-module _ {ts vs zs : List ℕ} {k : ℕ} {hs : List ℕ} (rs : List ℕ) {v : Verdict} (j : Judged ts vs zs k hs (length rs) v) where
-  found : {w : Verdict} → v ≡ w → neighbours_refusal full ts vs zs k hs rs ≡ verdict_fault w
+module _ {ts vs zs : List ℕ} {k : ℕ} {hs : List ℕ} (rs : List ℕ) {v : Result Unit Refusal} (j : Judged ts vs zs k hs (length rs) v) where
+  found : {w : Result Unit Refusal} → v ≡ w → neighbours_refusal full ts vs zs k hs rs ≡ verdict_fault w
   found q = sym j.refusal ∙ ap verdict_fault q
 
-  module _ {e : Refusal} (q : v ≡ Faulty e) where
+  module _ {e : Refusal} (q : v ≡ Err e) where
     pub call_refused : refused (fault_of e) ≡ neighbours full ts vs zs k hs rs
     unfolding neighbours
     call_refused = rw (found q)
@@ -61,7 +61,7 @@ module _ {ts vs zs : List ℕ} {k : ℕ} {hs : List ℕ} (rs : List ℕ) {v : Ve
     unfolding rows_then
     rows_kept = rw (found q)
 
-  module _ (q : v ≡ Fit) where
+  module _ {unit : Unit {0}} (q : v ≡ Ok unit) where
     pub call_given : given tt ≡ neighbours full ts vs zs k hs rs
     unfolding neighbours
     call_given = rw (found q)
@@ -73,7 +73,7 @@ module _ {ts vs zs : List ℕ} {k : ℕ} {hs : List ℕ} (rs : List ℕ) {v : Ve
 
       -- the sweep with the new half widths
       module _ (minutes : (i : ℕ) → Fits w16 (get_or ts i 0)) (points : (i : ℕ) → Fits w16 (get_or zs i 0)) where
-        accepts : smooth_refusal full ts vs zs P rs ≡ none
+        accepts : smooth_refusal full ts vs zs P rs ≡ None
         accepts =
             ap (λ (h : List ℕ). smooth_refusal full ts vs zs h rs) filled
             ∙ sweep_accepts full ts vs zs k hs rs (of_16_bits ts minutes) (of_16_bits zs points) (found q)
@@ -83,9 +83,9 @@ module _ {ts vs zs : List ℕ} {k : ℕ} {hs : List ℕ} (rs : List ℕ) {v : Ve
         rows_given e = rw (found q) (e ∙ rw accepts (ap (λ (h : List ℕ). rows ts vs zs h (length zs)) filled))
 
         -- a refusal of it never comes
-        pub never_refused : {a : Smoothing} → smoothing_answer a ≡ smooth full ts vs zs P rs → (e : Refusal) → a ≡ Smoothing.Refused e → ⊥
+        pub never_refused : {a : Result ℕ Refusal} → answer_of a ≡ smooth full ts vs zs P rs → (e : Refusal) → a ≡ Err e → ⊥
         unfolding smooth
         never_refused g e m =
-            let r : refused (fault_of e) ≡ given (passes ts vs fresh (moves zs P)) = sym (ap smoothing_answer m) ∙ g ∙ rw accepts in
+            let r : refused (fault_of e) ≡ given (passes ts vs fresh (moves zs P)) = sym (ap answer_of m) ∙ g ∙ rw accepts in
             let z : ◌≡◌ {A = ℕ} 0 1 = cc in
             omega arith

@@ -8,8 +8,6 @@ use native.Mathlib.Decide.{dec_lt}
 use native.Mathlib.Nat.{eq-or-lt_of_le}
 use native.Mathlib.Numerals.{add-one}
 use native.Mathlib.Omega.{arith}
-use mir.Val.{Fits}
-use mir.Syntax.{w16, w32}
 use borrow.Author.Tests.{ltb-true, le-leb}
 use lib.Dec.{ltb, leb}
 use lib.ListN.{length, get_or, take, set, length-set}
@@ -21,23 +19,12 @@ use Rattle.meanings_neighbours.proofs.Kth.{kth_is_kth_distance}
 use Rattle.laws_neighbours.proofs.Edges.{bandwidths_length, bandwidth_at}
 use Rattle.neighbours.specs.Nearest.{StartsPassed, NearestFrom, IsBandwidth, Fillable}
 
--- minutes of 16 bits, two of them added and the distance to a mark with 1 more have 32
-module _ (ts : List ℕ) (f : (i : ℕ) → Fits w16 (get_or ts i 0)) where
-  pub minute_fits : (i : ℕ) → Fits w32 (get_or ts i 0)
-  minute_fits i = omega (arith, f i)
-
-  pub minutes_add : (i j : ℕ) → Fits w32 (get_or ts i 0 + get_or ts j 0)
-  minutes_add i j = omega (arith, f i, f j)
-
-  pub distance_adds : (i z : ℕ) → Fits w32 (get_or ts i 0 - z + 1)
-  distance_adds i z = omega (arith, f i)
-
 -- the search for the start
 module _ {ts : List ℕ} {k z a : ℕ} (w : StartsPassed ts k z a) where
   pub start_stays : 2 * z ≤ get_or ts a 0 + get_or ts (a + k) 0 → NearestFrom ts k z a
   start_stays l = record { passed = w; stays = λ m. l }
 
-  pub start_goes_on : a + k < length ts → get_or ts a 0 + get_or ts (a + k) 0 < 2 * z → StartsPassed ts k z (a + 1)
+  pub start_goes_on : a < length ts - k → get_or ts a 0 + get_or ts (a + k) 0 < 2 * z → StartsPassed ts k z (a + 1)
   start_goes_on m l = record {
     low = w.low;
     ordered = w.ordered;
@@ -49,8 +36,10 @@ module _ {ts : List ℕ} {k z a : ℕ} (w : StartsPassed ts k z a) where
       by i (inl e) = rw e l
       by i (inr b) = w.below i b
 
-  pub start_is_last : length ts ≤ a + k → NearestFrom ts k z a
-  start_is_last l = record { passed = w; stays = λ m. absurd (omega arith) }
+  pub start_is_last : length ts - k ≤ a → NearestFrom ts k z (length ts - k)
+  start_is_last l =
+      let e : length ts - k ≡ a = omega (arith, w.room) in
+      rw e (record { passed = w; stays = λ m. absurd (omega arith) })
 
 -- a reading is nearer than d, or no further, by where it lies
 not_nearer_below : (t z d : ℕ) → t + d ≤ z → ¬ (distance t z < d)
@@ -136,13 +125,6 @@ module _ {ts : List ℕ} {k z a : ℕ} (w : NearestFrom ts k z a) where
   pub last_is_bandwidth : 2 * z < t a + t (a + k - 1) → IsBandwidth ts z k (t (a + k - 1) - z + 1)
   last_is_bandwidth l = record { is = ap (λ (d : ℕ). d + 1) (kth_is_kth_distance ts z k (t (a + k - 1) - z) (last_decides l)) }
 
-  -- of the two ends one lies on either side of the mark, or the further one decides
-  pub first_not_above : t a + t (a + k - 1) ≤ 2 * z → t a ≤ z
-  first_not_above l = omega (arith, ends_in_order)
-
-  pub last_not_below : 2 * z < t a + t (a + k - 1) → z ≤ t (a + k - 1)
-  last_not_below l = omega (arith, ends_in_order)
-
 -- half widths are stored up to mark i, and the start passed so far is one that mark i passes too
 pub record StoredTo (ts zs : List ℕ) (k : ℕ) (P₀ : List ℕ) (i start : ℕ) (P : List ℕ) : Type 0 where
   pub fit : Fillable ts zs k P₀
@@ -167,7 +149,7 @@ module _ {ts zs : List ℕ} {k : ℕ} {P₀ : List ℕ} {i start : ℕ} {P : Lis
   pub can_search : i < length zs → StartsPassed ts k (get_or zs i 0) start
   can_search l = w.passed l
 
-  pub has_room : i < length zs → i < length P
+  has_room : i < length zs → i < length P
   has_room l = omega (arith, w.sized)
 
   module _ (l : i < length zs) {start' h : ℕ} (s : NearestFrom ts k (get_or zs i 0) start') (b : IsBandwidth ts (get_or zs i 0) k h) where

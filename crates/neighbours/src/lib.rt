@@ -4,14 +4,14 @@
 mod nearest;
 
 ghost use Rattle.std.specs.Prelude.{◌≡◌};
+ghost use Rattle.meanings.specs.Calls.{answer_of};
 ghost use Rattle.meanings.specs.Limits.{full as full_limits};
-ghost use Rattle.meanings.specs.Calls.{filling_answer};
 ghost use Rattle.meanings_neighbours.specs.Neighbours.{neighbours as neighbours_meaning, bandwidths_then, rows_then};
 ghost use Rattle.neighbours.specs.Nearest.{Judged};
 
 use checks::full;
 use checks_neighbours::neighbours_fault;
-use meanings::{Filling, Smoothing, Verdict};
+use meanings::Refusal;
 use sweep::smooth;
 
 // What the call is refused for, at the full limits.
@@ -22,13 +22,14 @@ fn judged(
     k: usize,
     bandwidths: &[u32],
     rows: usize,
-) -> Verdict
+) -> Result<(), Refusal>
     ensures { Judged minutes.now values.now points.now k bandwidths.now rows result }
 {
     neighbours_fault(minutes, values, points, k, bandwidths, rows, full())
 }
 
 // Fills in the half width of each mark by its k nearest readings, and the rows with them; or answers with the report, both lists as they were.
+#[tactic(auto, unfolding(meanings_neighbours::specs::Neighbours::neighbours, meanings_neighbours::specs::Neighbours::bandwidths_then, meanings_neighbours::specs::Neighbours::rows_then))]
 pub fn neighbours(
     minutes: &[u16],
     values: &[u16],
@@ -36,20 +37,14 @@ pub fn neighbours(
     k: usize,
     bandwidths: &mut [u32],
     rows: &mut [u64],
-) -> Filling
-    ensures result_value { filling_answer result ≡ neighbours_meaning full_limits minutes.now values.now points.now k bandwidths.old rows.old }
+) -> Result<(), Refusal>
+    ensures result_value { answer_of result ≡ neighbours_meaning full_limits minutes.now values.now points.now k bandwidths.old rows.old }
     ensures bandwidths_after { bandwidths.new ≡ bandwidths_then full_limits minutes.now values.now points.now k bandwidths.old rows.old }
     ensures rows_after { rows.new ≡ rows_then full_limits minutes.now values.now points.now k bandwidths.old rows.old }
 {
-    match judged(minutes, values, points, k, bandwidths, rows.len()) {
-        Verdict::Faulty(refusal) => Filling::Refused(refusal),
-        Verdict::Fit => {
-            nearest::put_bandwidths(minutes, points, k, bandwidths);
-            match smooth(minutes, values, points, bandwidths, rows) {
-                // Never: with marks in order no edge of these half widths goes back, and none is out of range.
-                Smoothing::Refused(refusal) => Filling::Refused(refusal),
-                Smoothing::Passes(_) => Filling::Filled,
-            }
-        }
-    }
+    judged(minutes, values, points, k, bandwidths, rows.len())?;
+    nearest::put_bandwidths(minutes, points, k, bandwidths);
+    // Never refused: with marks in order no edge of these half widths goes back, and none is out of range.
+    smooth(minutes, values, points, bandwidths, rows)?;
+    Ok(())
 }

@@ -10,14 +10,13 @@ pub(crate) fn nearest_start(minutes: &[u16], from: usize, k: usize, point: u16) 
     requires { StartsPassed minutes.now k point from }
     ensures { NearestFrom minutes.now k point result }
 {
-    let mut start = from;
-    while start + k < minutes.len() {
+    let last = minutes.len() - k;
+    for start in from..last {
         if 2 * point as u32 <= minutes[start] as u32 + minutes[start + k] as u32 {
             return start;
         }
-        start += 1;
     }
-    start
+    last
 }
 
 // The half width that takes in the k readings from `start` on: one more than the distance of the further of the two at their ends.
@@ -40,10 +39,8 @@ pub(crate) fn put_bandwidths(minutes: &[u16], points: &[u16], k: usize, bandwidt
     ensures { bandwidths.new ≡ neighbour_bandwidths minutes.now points.now k }
 {
     let mut start = 0;
-    let mut i = 0;
-    while i < points.len() {
+    for i in 0..points.len() {
         start = nearest_start(minutes, start, k, points[i]);
         bandwidths[i] = bandwidth_from(minutes, start, k, points[i]);
-        i += 1;
     }
 }

@@ -1,21 +1,21 @@
 -- The invariant of the search: the values of all marks before k agree, and both records are those of k steps. So the rows that they give are the
 -- mark's, and the first two whose values differ are those of the first such mark.
-use Prim.Native.Nat.{ℕ, ◌+◌, ◌^◌, ◌≤◌, ◌<◌, zero-le}
+use Prim.Native.Nat.{ℕ, ◌+◌, ◌≤◌, ◌<◌, zero-le}
 use mathlib.Core.Path.{◌≡◌, sym, ap, ◌∙◌}
 use mathlib.Core.Bool.{Bool, true, false}
 use mathlib.Core.List.{List}
-use mathlib.Core.Option.{some}
 use native.Mathlib.Omega.{arith}
 use mir.Val.{Fits}
 use mir.Syntax.{w16}
 use lib.ListN.{length, get_or}
+use Rattle.std.specs.Prelude.{None, Some}
 use Rattle.meanings.specs.declared.Estimate.{Estimate}
 use Rattle.meanings.specs.declared.RunningSums.{RunningSums}
 use Rattle.meanings.specs.Reports.{given}
 use Rattle.meanings.specs.Estimate.{estimate}
 use Rattle.meanings.proofs.Search.{NoneBelow, one_more_below, none_lowest, lowest_at}
-use Rattle.meanings_pair.specs.declared.Split.{Split}
-use Rattle.meanings_pair.specs.Comparison.{unlike, unlike_at, split_answer, split_of}
+use Rattle.meanings_pair.specs.declared.Bounded.{Bounded}
+use Rattle.meanings_pair.specs.Comparison.{unlike, unlike_at, split_of}
 use Rattle.meanings_pair.proofs.Accepted.{PairAccepted}
 use Rattle.stepping.specs.declared.Reached.{Reached}
 use Rattle.stepping.specs.Steps.{IsFresh, SteppedRow}
@@ -39,16 +39,10 @@ search_begins a t v u w f g = record {
 }
 
 module _ {ts vs us ws zs hs : List ℕ} {k : ℕ} {r s : RunningSums} (w : AlikeTo ts vs us ws zs hs k r s) where
-  pub alike_throughout : length zs ≤ k → Searched ts vs us ws zs hs Split.Alike
+  pub alike_throughout : length zs ≤ k → Searched ts vs us ws zs hs None
   alike_throughout l = record {
     answer = rw (none_lowest (unlike_at ts vs us ws zs hs) (length zs) (λ j m. w.alike j (omega arith)));
   }
-
-  pub next_fits : k < length zs → k + 1 < 2 ^ 64
-  next_fits l = omega (arith, w.first.accepted.few_points)
-
-  pub bandwidth_there : k < length zs → k < length hs
-  bandwidth_there l = omega (arith, w.first.accepted.even_points)
 
   module _ {x y : Reached} (l : k < length zs) (m : SteppedRow ts vs r (get_or zs k 0) (get_or hs k 0) x)
       (n : SteppedRow us ws s (get_or zs k 0) (get_or hs k 0) y) where
@@ -67,13 +61,12 @@ module _ {ts vs us ws zs hs : List ℕ} {k : ℕ} {r s : RunningSums} (w : Alike
       alike = one_more_below (unlike_at ts vs us ws zs hs) k w.alike (sym (tested t) ∙ q);
     }
 
-    pub parts_here : {b : Bool} {c : Split} → b ≡ unlike x.row y.row → b ≡ true → split_answer c ≡ given (some (split_of k x.row y.row))
-        → Searched ts vs us ws zs hs c
+    pub parts_here : {b : Bool} {d : Bounded} → b ≡ unlike x.row y.row → b ≡ true → d ≡ split_of k x.row y.row → Searched ts vs us ws zs hs (Some d)
     unfolding split_of estimate
     parts_here t q a = record {
       answer =
           rw (lowest_at (unlike_at ts vs us ws zs hs) (length zs) k l (sym (tested t) ∙ q) w.alike)
-          (a
-          ∙ ap (λ (e : Estimate). given (some (split_of k e y.row))) (row_there w.first l m)
-          ∙ ap (λ (e : Estimate). given (some (split_of k (estimate ts vs (get_or zs k 0) (get_or hs k 0)) e))) (row_there w.second l n));
+          (ap (λ (d : Bounded). given (Some d)) a
+          ∙ ap (λ (e : Estimate). given (Some (split_of k e y.row))) (row_there w.first l m)
+          ∙ ap (λ (e : Estimate). given (Some (split_of k (estimate ts vs (get_or zs k 0) (get_or hs k 0)) e))) (row_there w.second l n));
     }

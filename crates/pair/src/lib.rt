@@ -3,15 +3,16 @@
 #![tactic(auto)]
 
 ghost use Rattle.std.specs.Prelude.{◌≡◌, ◌+◌, ◌*◌};
+ghost use Rattle.meanings.specs.Calls.{answer_of};
 ghost use Rattle.meanings.specs.Limits.{full as full_limits};
-ghost use Rattle.meanings_pair.specs.Comparison.{comparison_answer, split_answer, of_tank, compare as compare_meaning, compare_bounds, compare_run, run_tank, run_start};
+ghost use Rattle.meanings_pair.specs.Comparison.{of_tank, compare as compare_meaning, compare_bounds, compare_run, run_tank, run_start};
 ghost use Rattle.meanings_pair.proofs.Accepted.{PairAccepted};
 ghost use Rattle.pair.specs.Search.{Searched};
 
 use checks::full;
 use checks_pair::compare_fault;
-use meanings::Verdict;
-use meanings_pair::{Comparison, Split, Tank};
+use meanings::Refusal;
+use meanings_pair::{Bounded, Parting, Tank};
 use ranking::{split_at, unlike};
 use stepping::{fresh_record, step_beside, step_to};
 
@@ -23,30 +24,28 @@ fn parted(
     values2: &[u16],
     points: &[u16],
     bandwidths: &[u32],
-) -> Split
+) -> Option<Bounded>
     requires { PairAccepted minutes1.now values1.now minutes2.now values2.now points.now bandwidths.now }
     ensures { Searched minutes1.now values1.now minutes2.now values2.now points.now bandwidths.now result }
 {
     let mut first = fresh_record();
     let mut second = fresh_record();
-    let mut k = 0;
-    while k < points.len() {
-        let point = points[k];
+    for (k, point) in points.iter().enumerate() {
         let bandwidth = bandwidths[k];
-        let one = step_to(first, minutes1, values1, point, bandwidth);
-        let two = step_beside(second, minutes2, values2, point, bandwidth);
+        let one = step_to(first, minutes1, values1, *point, bandwidth);
+        let two = step_beside(second, minutes2, values2, *point, bandwidth);
         if unlike(one.row, two.row) {
-            return split_at(k, one.row, two.row);
+            return Some(split_at(k, one.row, two.row));
         }
         first = one.running;
         second = two.running;
-        k += 1;
     }
-    Split::Alike
+    None
 }
 
 // Where two tanks part, the tank that is higher there and the bounds of its run; alike; or the report. The calls below and the exported one are made
 // of it.
+#[tactic(auto, unfolding(meanings_pair::specs::Comparison::compare, meanings_pair::specs::Comparison::compare_bounds))]
 pub fn part(
     minutes1: &[u16],
     values1: &[u16],
@@ -54,10 +53,10 @@ pub fn part(
     values2: &[u16],
     points: &[u16],
     bandwidths: &[u32],
-) -> Split
-    ensures { split_answer result ≡ compare_bounds full_limits minutes1.now values1.now minutes2.now values2.now points.now bandwidths.now }
+) -> Result<Option<Bounded>, Refusal>
+    ensures { answer_of result ≡ compare_bounds full_limits minutes1.now values1.now minutes2.now values2.now points.now bandwidths.now }
 {
-    match compare_fault(
+    compare_fault(
         minutes1,
         values1,
         minutes2,
@@ -65,10 +64,8 @@ pub fn part(
         points,
         bandwidths,
         full(),
-    ) {
-        Verdict::Faulty(refusal) => Split::Refused(refusal),
-        Verdict::Fit => parted(minutes1, values1, minutes2, values2, points, bandwidths),
-    }
+    )?;
+    Ok(parted(minutes1, values1, minutes2, values2, points, bandwidths))
 }
 
 // The first mark at which the tanks' values differ and the tank that is higher there; alike; or the report.
@@ -79,18 +76,12 @@ pub fn compare(
     values2: &[u16],
     points: &[u16],
     bandwidths: &[u32],
-) -> Comparison
-    ensures { comparison_answer result ≡ compare_meaning full_limits minutes1.now values1.now minutes2.now values2.now points.now bandwidths.now }
+) -> Result<Option<Parting>, Refusal>
+    ensures { answer_of result ≡ compare_meaning full_limits minutes1.now values1.now minutes2.now values2.now points.now bandwidths.now }
 {
-    match part(minutes1, values1, minutes2, values2, points, bandwidths) {
-        Split::Refused(refusal) => Comparison::Refused(refusal),
-        Split::Alike => Comparison::Alike,
-        Split::Apart {
-            point,
-            higher,
-            left: _,
-            right: _,
-        } => Comparison::Apart { point, higher },
+    match part(minutes1, values1, minutes2, values2, points, bandwidths)? {
+        Some(bounded) => Ok(Some(bounded.parting)),
+        None => Ok(None),
     }
 }
 
@@ -108,16 +99,12 @@ pub fn compare_run<'a>(
     ensures ref_ptr_value { (result.ref_ptr.0 ≡ of_tank (run_tank full_limits minutes1.now values1.now minutes2.now values2.now points.now bandwidths.now) values1.entry.ref_ptr.0 values2.entry.ref_ptr.0) × (result.ref_ptr.1 ≡ of_tank (run_tank full_limits minutes1.now values1.now minutes2.now values2.now points.now bandwidths.now) values1.entry.ref_ptr.1 values2.entry.ref_ptr.1 + run_start full_limits minutes1.now values1.now minutes2.now values2.now points.now bandwidths.now * 2) }
 {
     match part(minutes1, values1, minutes2, values2, points, bandwidths) {
-        Split::Refused(_) => &values1[0..0],
-        Split::Alike => &values1[0..0],
-        Split::Apart {
-            point: _,
-            higher,
-            left,
-            right,
-        } => match higher {
-            Tank::First => &values1[left..right],
-            Tank::Second => &values2[left..right],
+        // two arms for one part: behind an or-pattern or a let-else the proof is not told which of both was met
+        Err(_) => &values1[..0],
+        Ok(None) => &values1[..0],
+        Ok(Some(bounded)) => match bounded.parting.higher {
+            Tank::First => &values1[bounded.left..bounded.right],
+            Tank::Second => &values2[bounded.left..bounded.right],
         },
     }
 }

@@ -4,7 +4,7 @@
 ghost use Rattle.std.specs.Prelude.{◌≡◌};
 ghost use Rattle.list_fronts.specs.Copied.{copied};
 
-use list_fronts::{copy_u16, copy_u32};
+use list_fronts::copy_front;
 
 // Stores the kept readings at the fronts of the lent lists.
 pub fn put_samples(
@@ -20,9 +20,9 @@ pub fn put_samples(
     ensures lows_after { lows.new ≡ copied ls.now n lows.old }
     ensures highs_after { highs.new ≡ copied us.now n highs.old }
 {
-    copy_u16(ts, n, minutes);
-    copy_u16(ls, n, lows);
-    copy_u16(us, n, highs);
+    copy_front(ts, n, minutes);
+    copy_front(ls, n, lows);
+    copy_front(us, n, highs);
 }
 
 // And the marks with their half widths.
@@ -30,6 +30,6 @@ pub fn put_points(zs: &[u16], hs: &[u32], n: usize, points: &mut [u16], bandwidt
     ensures points_after { points.new ≡ copied zs.now n points.old }
     ensures bandwidths_after { bandwidths.new ≡ copied hs.now n bandwidths.old }
 {
-    copy_u16(zs, n, points);
-    copy_u32(hs, n, bandwidths);
+    copy_front(zs, n, points);
+    copy_front(hs, n, bandwidths);
 }

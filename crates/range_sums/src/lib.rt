@@ -3,10 +3,9 @@
 #![tactic(auto)]
 
 ghost use Rattle.std.specs.Prelude.{◌≡◌};
-ghost use Rattle.meanings.specs.Running.{plus, minus};
 ghost use Rattle.range_sums.specs.Both.{low_sums, high_sums, beside, RangeJoined, RowOfBoth};
 
-use arithmetic::{minus_sample, plus_sample};
+use arithmetic::{Change, sample_changed};
 use arithmetic_products::wrapping_combined;
 use arithmetic_values::value;
 use meanings::PowerSums;
@@ -88,21 +87,12 @@ pub(crate) fn side_by_side(low: PowerSums, high: PowerSums) -> BothSums
     }
 }
 
-// With one reading more.
-pub fn plus_range(s: BothSums, time: u16, low: u16, high: u16) -> BothSums
-    ensures { RangeJoined (plus 64) s time low high result }
+// With one reading taken in or let go.
+pub fn range_changed<C: Change>(s: BothSums, time: u16, low: u16, high: u16) -> BothSums
+    ensures { RangeJoined C.op s time low high result }
 {
-    let below = plus_sample(low_six(s), time, low);
-    let above = plus_sample(high_six(s), time, high);
-    side_by_side(below, above)
-}
-
-// With one reading less.
-pub fn minus_range(s: BothSums, time: u16, low: u16, high: u16) -> BothSums
-    ensures { RangeJoined (minus 64) s time low high result }
-{
-    let below = minus_sample(low_six(s), time, low);
-    let above = minus_sample(high_six(s), time, high);
+    let below = sample_changed::<C>(low_six(s), time, low);
+    let above = sample_changed::<C>(high_six(s), time, high);
     side_by_side(below, above)
 }
 

@@ -1,9 +1,8 @@
 -- What the functions over a reading line say, as an option of its values.
-use Rattle.std.proofs.Math.Option.{Option, none, some}
+use Rattle.std.specs.Prelude.{Option, Some, None}
 use Rattle.meanings_ranges.specs.RangeSheet.{RangeInjection}
 use Rattle.range_values.specs.declared.ReadingLine.{ReadingLine}
-use Rattle.range_values.specs.declared.ReadingLine.TheVariants.{Reading, NoReading}
 
-abbrev pub reading_values : ReadingLine → Option RangeInjection
-reading_values (Reading t j l u) = some (record { minute = t; injection = j; low = l; high = u })
-reading_values NoReading = none
+abbrev pub reading_values : Option ReadingLine → Option RangeInjection
+reading_values (Some j) = Some (record { minute = j.minute; injection = j.injection; low = j.low; high = j.high })
+reading_values None = None

@@ -12,7 +12,7 @@ use Rattle.estimator.proofs.Searches.{run_within, left_starts_within}
 use Rattle.range_sums.specs.declared.BothRecord.{BothRecord}
 use Rattle.range_sums.specs.declared.BothSums.{BothSums}
 use Rattle.range_sums.specs.Both.{low_sums, high_sums, low_record, high_record, RangeJoined}
-use Rattle.ranges.specs.declared.step.BothEdge.{BothEdge}
+use Rattle.arithmetic.specs.declared.Edge.{Edge}
 use Rattle.ranges.specs.Steps.{RangesWithin, BothPassed, BothAccepted, BothMoved}
 
 -- of the run from a up to b the readings before i are joined to s, which makes r, and none of their minutes is at least m
@@ -52,13 +52,13 @@ right_way_within a = record {
   high = run_within a.high.even a.high.inside (omega arith);
 }
 
-pub left_way_within : {ts ls us : List ℕ} {l₀ r₀ h m : ℕ} {s : BothSums} {e : BothEdge} → BothAccepted ts ls us l₀ r₀ h
+pub left_way_within : {ts ls us : List ℕ} {l₀ r₀ h m : ℕ} {s : BothSums} {e : Edge BothSums} → BothAccepted ts ls us l₀ r₀ h
     → BothPassed (plus 64) s ts ls us r₀ (length ts) m e → RangesWithin ts ls us l₀ e.at
 left_way_within a p =
     let w = left_starts_within a.low p.stops in
     record { low = run_within a.low.even w.ordered w.inside; high = run_within a.high.even w.ordered w.inside }
 
-pub both_ways_move : (ts ls us : List ℕ) (r : BothRecord) (z h : ℕ) {low n passes : ℕ} {right left : BothEdge}
+pub both_ways_move : (ts ls us : List ℕ) (r : BothRecord) (z h : ℕ) {low n passes : ℕ} {right left : Edge BothSums}
     → low ≡ z - h
     → BothPassed (plus 64) r.sums ts ls us r.right (length ts) (z + h + 1) right
     → BothPassed (minus 64) right.sums ts ls us r.left right.at low left

@@ -1,6 +1,7 @@
 -- The invariant of the sweep: after k marks the rows of those stand in front of what the list held, and either record is the one after k steps over
 -- its own values.
 use Prim.Native.Nat.{ℕ, suc, ◌+◌, ◌*◌, ◌^◌, ◌≤◌, ◌<◌, zero-le}
+use Rattle.std.specs.Prelude.{Result, Ok, Err}
 use mathlib.Core.Path.{◌≡◌, refl, sym, ap, ◌∙◌}
 use mathlib.Core.List.{List, ◌++◌, append-nil}
 use native.Mathlib.Numerals.{add-one}
@@ -12,8 +13,6 @@ use lib.Seq.{sets, sets-eq, take_at, drop-append-add, drop-drop}
 use Rattle.meanings.specs.declared.Limits.{Limits}
 use Rattle.meanings.specs.declared.Refusal.{Refusal}
 use Rattle.meanings.specs.declared.RunningSums.{RunningSums}
-use Rattle.meanings.specs.declared.Verdict.{Verdict}
-use Rattle.meanings.specs.declared.Verdict.TheVariants.{Fit, Faulty}
 use Rattle.meanings.specs.Limits.{full}
 use Rattle.meanings.specs.Reports.{given, refused, fault_of, verdict_fault, first_of}
 use Rattle.meanings.specs.Moves.{moves}
@@ -151,12 +150,12 @@ module _ {ts ls us zs hs R₀ : List ℕ} {k : ℕ} {R : List ℕ} {r : BothReco
         ∙ sym (passes_are_edges ts ls zs hs w.low.small w.low.accepted)
 
 -- the call, by what its checks found
-module _ (ts ls us zs hs R : List ℕ) {L : Limits} {v : Verdict} (l : L ≡ full)
+module _ (ts ls us zs hs R : List ℕ) {L : Limits} {v : Result Unit Refusal} (l : L ≡ full)
     (f : verdict_fault v ≡ first_of (range_checks L ts ls us zs hs (length R))) where
-  found : {w : Verdict} → v ≡ w → range_refusal full ts ls us zs hs R ≡ verdict_fault w
+  found : {w : Result Unit Refusal} → v ≡ w → range_refusal full ts ls us zs hs R ≡ verdict_fault w
   found q = sym (ap verdict_fault (sym q) ∙ f ∙ ap (λ (M : Limits). range_refusal M ts ls us zs hs R) l)
 
-  pub lists_accepted : v ≡ Fit → SweepAccepted ts ls us zs hs (length R)
+  pub lists_accepted : {unit : Unit {0}} → v ≡ Ok unit → SweepAccepted ts ls us zs hs (length R)
   lists_accepted q =
       let a = ranges_accept full ts ls us zs hs R (found q) in
       record {
@@ -165,18 +164,18 @@ module _ (ts ls us zs hs R : List ℕ) {L : Limits} {v : Verdict} (l : L ≡ ful
         rows_fit = a.rows_fit;
       }
 
-  pub call_refused : {e : Refusal} → v ≡ Faulty e → refused (fault_of e) ≡ smooth_ranges full ts ls us zs hs R
+  pub call_refused : {e : Refusal} → v ≡ Err e → refused (fault_of e) ≡ smooth_ranges full ts ls us zs hs R
   unfolding smooth_ranges
   call_refused q = rw (found q)
 
-  pub rows_kept : {e : Refusal} → v ≡ Faulty e → R ≡ smooth_ranges_rows full ts ls us zs hs R
+  pub rows_kept : {e : Refusal} → v ≡ Err e → R ≡ smooth_ranges_rows full ts ls us zs hs R
   unfolding smooth_ranges_rows
   rows_kept q = rw (found q)
 
-  pub call_given : {n : ℕ} → v ≡ Fit → n ≡ passes ts ls fresh (moves zs hs) → given n ≡ smooth_ranges full ts ls us zs hs R
+  pub call_given : {n : ℕ} → {unit : Unit {0}} → v ≡ Ok unit → n ≡ passes ts ls fresh (moves zs hs) → given n ≡ smooth_ranges full ts ls us zs hs R
   unfolding smooth_ranges
   call_given q e = rw (found q) (ap given e)
 
-  pub rows_given : {R' : List ℕ} → v ≡ Fit → R' ≡ range_rows ts ls us zs hs (length zs) → R' ≡ smooth_ranges_rows full ts ls us zs hs R
+  pub rows_given : {R' : List ℕ} → {unit : Unit {0}} → v ≡ Ok unit → R' ≡ range_rows ts ls us zs hs (length zs) → R' ≡ smooth_ranges_rows full ts ls us zs hs R
   unfolding smooth_ranges_rows
   rows_given q e = rw (found q) e

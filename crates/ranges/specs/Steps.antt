@@ -6,7 +6,7 @@ use Rattle.estimator.specs.Rows.{RunWithin, FoundFrom, RunJoined}
 use Rattle.range_sums.specs.declared.BothRecord.{BothRecord}
 use Rattle.range_sums.specs.declared.BothSums.{BothSums}
 use Rattle.range_sums.specs.Both.{low_sums, high_sums, low_record, high_record}
-use Rattle.ranges.specs.declared.step.BothEdge.{BothEdge}
+use Rattle.arithmetic.specs.declared.Edge.{Edge}
 
 -- positions from a up to b of three lists
 pub record RangesWithin (ts ls us : List ℕ) (a b : ℕ) : Type 0 where
@@ -15,7 +15,7 @@ pub record RangesWithin (ts ls us : List ℕ) (a b : ℕ) : Type 0 where
 
 -- e stands at the first position from a up to b whose minute is at least m, else at b, and the sums s, joined by op with the terms over the readings
 -- that were passed, make e's, of the lows and of the highs
-pub record BothPassed (op : ℕ → ℕ → ℕ) (s : BothSums) (ts ls us : List ℕ) (a b m : ℕ) (e : BothEdge) : Type 0 where
+pub record BothPassed (op : ℕ → ℕ → ℕ) (s : BothSums) (ts ls us : List ℕ) (a b m : ℕ) (e : Edge BothSums) : Type 0 where
   pub stops : FoundFrom ts a b m e.at
   pub low : RunJoined op (low_sums s) ts ls a e.at (low_sums e.sums)
   pub high : RunJoined op (high_sums s) ts us a e.at (high_sums e.sums)

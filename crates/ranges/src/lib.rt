@@ -4,18 +4,18 @@
 mod step;
 
 ghost use Rattle.std.specs.Prelude.{◌≡◌, ◌+◌, ◌*◌, ◌≤◌, length};
+ghost use Rattle.meanings.specs.Calls.{answer_of};
 ghost use Rattle.std.proofs.lemmas.List.Edits.{sets};
 ghost use Rattle.meanings.specs.Limits.{full as full_limits};
 ghost use Rattle.meanings.specs.Moves.{moves};
 ghost use Rattle.meanings.specs.Running.{fresh, passes};
-ghost use Rattle.meanings.specs.Calls.{smoothing_answer};
 ghost use Rattle.meanings_ranges.specs.Ranges.{range_fields, range_row_width, range_rows, smooth_ranges as smooth_ranges_meaning, smooth_ranges_rows};
 ghost use Rattle.ranges.specs.Steps.{BothFresh};
 ghost use Rattle.ranges.specs.Sweep.{SweepAccepted};
 
 use checks::full;
 use checks_ranges::ranges_fault;
-use meanings::{Smoothing, Verdict};
+use meanings::Refusal;
 use meanings_ranges::{RANGE_ROW_WIDTH, RangeEstimate};
 use range_sums::{BothRecord, BothSums, ValueSums, both_row};
 
@@ -74,18 +74,17 @@ pub(crate) fn sweep_rows(
     ensures rows_after { rows.new ≡ range_rows minutes.now lows.now highs.now points.now bandwidths.now (length points.now) }
 {
     let mut running = fresh_records();
-    let mut k = 0;
-    while k < points.len() {
+    for k in 0..points.len() {
         let point = points[k];
         let bandwidth = bandwidths[k];
         running = step::both_move(running, minutes, lows, highs, point, bandwidth);
         put_range_row(rows, k, both_row(running, point, bandwidth));
-        k += 1;
     }
     running.right as u64 + running.left as u64
 }
 
 // The whole sweep: rows receives seven numbers a mark, and the answer is the passes, or the report, with rows as it was.
+#[tactic(auto, unfolding(meanings_ranges::specs::Ranges::smooth_ranges, meanings_ranges::specs::Ranges::smooth_ranges_rows))]
 pub fn smooth_ranges(
     minutes: &[u16],
     lows: &[u16],
@@ -93,14 +92,10 @@ pub fn smooth_ranges(
     points: &[u16],
     bandwidths: &[u32],
     rows: &mut [u64],
-) -> Smoothing
-    ensures result_value { smoothing_answer result ≡ smooth_ranges_meaning full_limits minutes.now lows.now highs.now points.now bandwidths.now rows.old }
+) -> Result<u64, Refusal>
+    ensures result_value { answer_of result ≡ smooth_ranges_meaning full_limits minutes.now lows.now highs.now points.now bandwidths.now rows.old }
     ensures rows_after { rows.new ≡ smooth_ranges_rows full_limits minutes.now lows.now highs.now points.now bandwidths.now rows.old }
 {
-    match ranges_fault(minutes, lows, highs, points, bandwidths, rows.len(), full()) {
-        Verdict::Faulty(refusal) => Smoothing::Refused(refusal),
-        Verdict::Fit => Smoothing::Passes(sweep_rows(
-            minutes, lows, highs, points, bandwidths, rows,
-        )),
-    }
+    ranges_fault(minutes, lows, highs, points, bandwidths, rows.len(), full())?;
+    Ok(sweep_rows(minutes, lows, highs, points, bandwidths, rows))
 }

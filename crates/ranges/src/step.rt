@@ -1,20 +1,12 @@
 // One step of both records at once: each reading that an edge passes is looked at once, for lows and highs.
-ghost use Rattle.meanings.specs.Running.{plus, minus};
 ghost use Rattle.ranges.specs.Steps.{RangesWithin, BothPassed, BothAccepted, BothMoved};
 
-use arithmetic::plus_travel;
+use arithmetic::{Change, Edge, Minus, Plus, plus_travel};
 use arithmetic_values::lowest_minute;
-use range_sums::{BothRecord, BothSums, minus_range, plus_range};
+use range_sums::{BothRecord, BothSums, range_changed};
 
-// Where an edge has stopped, and the sums there.
-#[derive(Clone, Copy)]
-pub(crate) struct BothEdge {
-    pub(crate) at: usize,
-    pub(crate) sums: BothSums,
-}
-
-// Takes in the readings from `from` on, up to the first minute of at least `bound` or to `to`.
-pub(crate) fn inserted_until(
+// Takes in or lets go the readings from `from` on, up to the first minute of at least `bound` or to `to`.
+pub(crate) fn passed_until<C: Change>(
     s: BothSums,
     minutes: &[u16],
     lows: &[u16],
@@ -22,45 +14,18 @@ pub(crate) fn inserted_until(
     from: usize,
     to: usize,
     bound: u64,
-) -> BothEdge
+) -> Edge<BothSums>
     requires { RangesWithin minutes.now lows.now highs.now from to }
-    ensures { BothPassed (plus 64) s minutes.now lows.now highs.now from to bound result }
+    ensures { BothPassed C.op s minutes.now lows.now highs.now from to bound result }
 {
     let mut sums = s;
-    let mut i = from;
-    while i < to {
+    for i in from..to {
         if bound <= minutes[i] as u64 {
-            return BothEdge { at: i, sums };
+            return Edge { at: i, sums };
         }
-        sums = plus_range(sums, minutes[i], lows[i], highs[i]);
-        i += 1;
+        sums = range_changed::<C>(sums, minutes[i], lows[i], highs[i]);
     }
-    BothEdge { at: to, sums }
-}
-
-// Lets go the readings from `from` on, up to the first minute of at least `least` or to `to`.
-pub(crate) fn evicted_until(
-    s: BothSums,
-    minutes: &[u16],
-    lows: &[u16],
-    highs: &[u16],
-    from: usize,
-    to: usize,
-    least: u64,
-) -> BothEdge
-    requires { RangesWithin minutes.now lows.now highs.now from to }
-    ensures { BothPassed (minus 64) s minutes.now lows.now highs.now from to least result }
-{
-    let mut sums = s;
-    let mut i = from;
-    while i < to {
-        if least <= minutes[i] as u64 {
-            return BothEdge { at: i, sums };
-        }
-        sums = minus_range(sums, minutes[i], lows[i], highs[i]);
-        i += 1;
-    }
-    BothEdge { at: to, sums }
+    Edge { at: to, sums }
 }
 
 // The records after an accepted step: the right edge moves on, then the left one, up to the new right.
@@ -77,9 +42,8 @@ pub(crate) fn both_move(
 {
     let over = point as u64 + bandwidth as u64 + 1;
     let low = lowest_minute(point, bandwidth);
-    let sums = running.sums;
-    let right = inserted_until(
-        sums,
+    let right = passed_until::<Plus>(
+        running.sums,
         minutes,
         lows,
         highs,
@@ -87,15 +51,21 @@ pub(crate) fn both_move(
         minutes.len(),
         over,
     );
-    let sums = right.sums;
-    let left = evicted_until(sums, minutes, lows, highs, running.left, right.at, low);
+    let left = passed_until::<Minus>(
+        right.sums,
+        minutes,
+        lows,
+        highs,
+        running.left,
+        right.at,
+        low,
+    );
     let passes = plus_travel(running.passes, running.left, left.at);
     let passes = plus_travel(passes, running.right, right.at);
-    let sums = left.sums;
     BothRecord {
         left: left.at,
         right: right.at,
-        sums,
+        sums: left.sums,
         passes,
     }
 }

@@ -1,24 +1,23 @@
 -- What the tests of the code say of two rows.
-use Prim.Native.Nat.{ℕ, ◌≤◌, ◌<◌}
-use mathlib.Core.Path.{◌≡◌, sym, ap, ◌∙◌}
-use mathlib.Core.Bool.{true, false}
-use mathlib.Core.Option.{Option, some}
-use borrow.Author.Tests.{lt-ltb, le-ltb, eq-eqb, ne_eqb}
+use Prim.Native.Nat.{◌≤◌, ◌<◌}
+use mathlib.Core.Path.{◌≡◌, refl, sym}
+use mathlib.Core.Bool.{Bool, true, false, not}
+use borrow.Author.Tests.{eqb-true, eqb-false, lt-ltb, le-ltb, eq-eqb, ne_eqb}
+use lib.Dec.{eqb}
 use Rattle.meanings.specs.declared.Estimate.{Estimate}
-use Rattle.meanings.specs.Reports.{Answer, given}
+use Rattle.meanings.specs.Reports.{differ}
 use Rattle.meanings.proofs.Checks.{differ_same, differ_true}
-use Rattle.meanings_pair.specs.declared.Tank.{Tank}
 use Rattle.meanings_pair.specs.declared.Tank.TheVariants.{First, Second}
-use Rattle.meanings_pair.specs.Comparison.{of_tank, above, higher_of, unlike, Bounded, split_of}
+use Rattle.meanings_pair.specs.Comparison.{above, higher_of, unlike}
 
 module _ (e f : Estimate) where
-  pub same_value : e.value ≡ f.value → false ≡ unlike e f
+  pub values_unlike : not (eqb e.value f.value) ≡ unlike e f
   unfolding unlike
-  same_value q = sym (differ_same _ _ q)
-
-  pub other_value : ¬ (e.value ≡ f.value) → true ≡ unlike e f
-  unfolding unlike
-  other_value q = sym (differ_true _ _ q)
+  values_unlike = by (eqb e.value f.value) refl
+    where
+      by : (b : Bool) → eqb e.value f.value ≡ b → not b ≡ differ e.value f.value
+      by true q = sym (differ_same _ _ (eqb-true _ _ q))
+      by false q = sym (differ_true _ _ (eqb-false _ _ q))
 
   pub second_missing : f.weight ≡ 0 → Second ≡ higher_of e f
   unfolding higher_of above
@@ -37,22 +36,3 @@ module _ (e f : Estimate) where
       pub first_not_higher : e.value ≤ f.value → Second ≡ higher_of e f
       unfolding higher_of above
       first_not_higher l = rw (ne_eqb f.weight 0 present, ne_eqb e.weight 0 both, le-ltb f.value e.value l)
-
--- the bounds are those of the tank that the code has met
-module _ (k : ℕ) (e f : Estimate) {t : Tank} (h : t ≡ higher_of e f) where
-  abbrev split_by : Tank → Bounded
-  split_by u = record { parting = record { position = k; higher = u }; left = of_tank u e.left f.left; right = of_tank u e.right f.right }
-
-  split_met : {u : Tank} → t ≡ u → ◌≡◌ {A = Answer (Option Bounded)} (given (some (split_by u))) (given (some (split_of k e f)))
-  unfolding split_of
-  split_met q = ap (λ (u : Tank). given (some (split_by u))) (sym q ∙ h)
-
-  pub split_first : t ≡ First
-      → ◌≡◌ {A = Answer (Option Bounded)}
-      (given (some (record { parting = record { position = k; higher = First }; left = e.left; right = e.right }))) (given (some (split_of k e f)))
-  split_first q = split_met q
-
-  pub split_second : t ≡ Second
-      → ◌≡◌ {A = Answer (Option Bounded)}
-      (given (some (record { parting = record { position = k; higher = Second }; left = f.left; right = f.right }))) (given (some (split_of k e f)))
-  split_second q = split_met q

@@ -2,24 +2,21 @@
 #![tactic(auto)]
 
 ghost use Rattle.std.specs.Prelude.{◌≡◌};
-ghost use Rattle.std.proofs.Math.Option.{some};
-ghost use Rattle.meanings.specs.Reports.{given};
-ghost use Rattle.meanings_pair.specs.Comparison.{unlike as unlike_meaning, higher_of, split_answer, split_of};
+ghost use Rattle.meanings_pair.specs.Comparison.{unlike as unlike_meaning, higher_of, split_of};
 
 use meanings::Estimate;
-use meanings_pair::{Split, Tank};
+use meanings_pair::{Bounded, Parting, Tank};
 
 // Whether two rows have different values. Two missing ones are the same number.
+#[tactic(auto, using(crate::proofs::Ranks::values_unlike))]
 pub fn unlike(row: Estimate, other: Estimate) -> bool
     ensures { result ≡ unlike_meaning row other }
 {
-    if row.value == other.value {
-        return false;
-    }
-    true
+    row.value != other.value
 }
 
 // The tank that reads higher, of the first one's row and the second one's: a missing value is above every other.
+#[tactic(auto, using(crate::proofs::Ranks::second_missing, crate::proofs::Ranks::first_missing, crate::proofs::Ranks::first_higher, crate::proofs::Ranks::first_not_higher))]
 pub fn higher(row: Estimate, other: Estimate) -> Tank
     ensures { result ≡ higher_of row other }
 {
@@ -36,21 +33,21 @@ pub fn higher(row: Estimate, other: Estimate) -> Tank
 }
 
 // The tanks part at mark `point` with these rows: the higher one's edges are its run's bounds.
-pub fn split_at(point: usize, row: Estimate, other: Estimate) -> Split
-    ensures { split_answer result ≡ given (some (split_of point row other)) }
+#[tactic(auto, unfolding(meanings_pair::specs::Comparison::split_of))]
+pub fn split_at(point: usize, row: Estimate, other: Estimate) -> Bounded
+    ensures { result ≡ split_of point row other }
 {
-    match higher(row, other) {
-        Tank::First => Split::Apart {
-            point,
-            higher: Tank::First,
-            left: row.left as usize,
-            right: row.right as usize,
+    let higher = higher(row, other);
+    let run = match higher {
+        Tank::First => row,
+        Tank::Second => other,
+    };
+    Bounded {
+        parting: Parting {
+            position: point,
+            higher,
         },
-        Tank::Second => Split::Apart {
-            point,
-            higher: Tank::Second,
-            left: other.left as usize,
-            right: other.right as usize,
-        },
+        left: run.left as usize,
+        right: run.right as usize,
     }
 }

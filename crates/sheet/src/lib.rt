@@ -3,15 +3,14 @@
 
 ghost use Rattle.std.specs.Prelude.{◌≡◌, length};
 ghost use Rattle.meanings.specs.Limits.{full};
-ghost use Rattle.meanings.specs.Calls.{parsing_answer, counts, read, read_minutes, read_values, read_evaluation_points, read_bandwidths};
+ghost use Rattle.meanings.specs.Calls.{answer_of, counts, read, read_minutes, read_values, read_evaluation_points, read_bandwidths};
 ghost use Rattle.sheet.specs.Stages.{Scanned, ReadInto};
 
 use checks::uneven_lists;
-use list_fronts::{copy_u16, copy_u32};
-use meanings::{Parsing, Refusal, Report};
-use sheet_front::points::FrontRead;
+use list_fronts::copy_front;
+use meanings::{Counts, Refusal, Report};
 use sheet_front::read_front;
-use sheet_samples::{SamplesRead, read_samples};
+use sheet_samples::read_samples;
 
 // Reads the sheet into lists of full length. What they hold after a refusal is left open: they are the reader's own.
 pub(crate) fn scan(
@@ -20,20 +19,16 @@ pub(crate) fn scan(
     values: &mut [u16],
     points: &mut [u16],
     bandwidths: &mut [u32],
-) -> Parsing
+) -> Result<Counts, Refusal>
     requires { (length minutes.old ≡ 1024) × (length values.old ≡ 1024) × (length points.old ≡ 512) × (length bandwidths.old ≡ 512) }
     ensures { Scanned sheet.now result minutes.new values.new points.new bandwidths.new }
 {
-    match read_front(sheet, points, bandwidths) {
-        FrontRead::Refused(refusal) => Parsing::Refused(refusal),
-        FrontRead::Points { count, next } => match read_samples(sheet, next, minutes, values) {
-            SamplesRead::Refused(refusal) => Parsing::Refused(refusal),
-            SamplesRead::Kept(kept) => Parsing::Used {
-                samples: kept,
-                points: count,
-            },
-        },
-    }
+    let front = read_front(sheet, points, bandwidths)?;
+    let samples = read_samples(sheet, front.next, minutes, values)?;
+    Ok(Counts {
+        samples,
+        points: front.count,
+    })
 }
 
 // Reads the sheet into lists of its own, so that a refusal leaves the lent ones as they were.
@@ -43,7 +38,7 @@ pub(crate) fn read_into(
     values: &mut [u16],
     points: &mut [u16],
     bandwidths: &mut [u32],
-) -> Parsing
+) -> Result<Counts, Refusal>
     requires { (length minutes.old ≡ 1024) × (length values.old ≡ 1024) × (length points.old ≡ 512) × (length bandwidths.old ≡ 512) }
     ensures { ReadInto sheet.now minutes.old values.old points.old bandwidths.old result minutes.new values.new points.new bandwidths.new }
 {
@@ -51,22 +46,12 @@ pub(crate) fn read_into(
     let mut vs = [0u16; 1024];
     let mut zs = [0u16; 512];
     let mut hs = [0u32; 512];
-    match scan(sheet, &mut ts, &mut vs, &mut zs, &mut hs) {
-        Parsing::Refused(refusal) => Parsing::Refused(refusal),
-        Parsing::Used {
-            samples: n,
-            points: m,
-        } => {
-            copy_u16(&ts, n, minutes);
-            copy_u16(&vs, n, values);
-            copy_u16(&zs, m, points);
-            copy_u32(&hs, m, bandwidths);
-            Parsing::Used {
-                samples: n,
-                points: m,
-            }
-        }
-    }
+    let used = scan(sheet, &mut ts, &mut vs, &mut zs, &mut hs)?;
+    copy_front(&ts, used.samples, minutes);
+    copy_front(&vs, used.samples, values);
+    copy_front(&zs, used.points, points);
+    copy_front(&hs, used.points, bandwidths);
+    Ok(used)
 }
 
 // The reader, for lent lists of any lengths.
@@ -76,18 +61,15 @@ pub fn read_sheet(
     values: &mut [u16],
     points: &mut [u16],
     bandwidths: &mut [u32],
-) -> Parsing
-    ensures result_value { parsing_answer result ≡ counts (read full sheet.now minutes.old values.old points.old bandwidths.old) }
+) -> Result<Counts, Refusal>
+    ensures result_value { answer_of result ≡ counts (read full sheet.now minutes.old values.old points.old bandwidths.old) }
     ensures minutes_after { minutes.new ≡ read_minutes (read full sheet.now minutes.old values.old points.old bandwidths.old) minutes.old }
     ensures values_after { values.new ≡ read_values (read full sheet.now minutes.old values.old points.old bandwidths.old) values.old }
     ensures points_after { points.new ≡ read_evaluation_points (read full sheet.now minutes.old values.old points.old bandwidths.old) points.old }
     ensures bandwidths_after { bandwidths.new ≡ read_bandwidths (read full sheet.now minutes.old values.old points.old bandwidths.old) bandwidths.old }
 {
     if uneven_lists(minutes.len(), values.len(), points.len(), bandwidths.len()) {
-        return Parsing::Refused(Refusal {
-            report: Report::LengthMismatch,
-            place: 0,
-        });
+        return Err(Report::LengthMismatch.at(0));
     }
     read_into(sheet, minutes, values, points, bandwidths)
 }

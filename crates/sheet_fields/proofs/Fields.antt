@@ -1,13 +1,13 @@
 -- The number before the next comma: a part with a byte that is no digit is no number, nor is one that goes on after digits that say 10,000 or
 -- more, since they are five at least; one that ends after its digits is the number that they say, if it has a digit and no leading zero. Digits
 -- without a leading zero that say less than 100,000 are at most five.
-use Rattle.std.proofs.Common.{◌≡◌, ℕ, suc, ◌+◌, ◌-◌, ◌*◌, ◌%◌, ◌^◌, ◌<◌, ◌≤◌, Bool, true, false, ◌&&◌, ltb, leb, ◌⊎◌, List, [], ◌∷◌, ◌++◌, length}
+use Rattle.std.proofs.Common.{◌≡◌, ℕ, suc, ◌+◌, ◌-◌, ◌*◌, ◌^◌, ◌<◌, ◌≤◌, Bool, true, false, ◌&&◌, ltb, leb, ◌⊎◌, List, [], ◌∷◌, ◌++◌, length}
 use Rattle.std.proofs.Common.{get_or, drop, sym, refl, ap, ◌∙◌, inl, inr, append_assoc, append-nil, mul-le-mul_right, mul_assoc, eq-or-lt_of_le}
 use Rattle.std.proofs.Common.{add-one, arith, length-append, length-drop, drop_of_length-le, drop-cons, ltb-false, ltb-true, eq-eqb, ne_eqb, le-leb}
-use Rattle.std.proofs.Common.{leb-false, leb-true}
-use mathlib.Core.Option.{none, some}
+use Rattle.std.proofs.Common.{leb-false, leb-true, Some, None}
 use native.Mathlib.Nat.{pow-succ', pow-le-pow_right}
 use borrow.Author.Tests.{lt-leb}
+use Rattle.std.specs.Char.{IsNotAsciiDigit}
 use Rattle.meanings.specs.Bytes.{comma, zero_digit, nine_digit}
 use Rattle.meanings.specs.Sheet.{digit, digits, digits_value, number_form}
 use Rattle.laws_text.proofs.Decimal.{digits_value_append}
@@ -21,10 +21,6 @@ and_false false = refl
 
 digit_in_range : (b : ℕ) → zero_digit ≤ b → b ≤ nine_digit → digit b ≡ true
 digit_in_range b l h = rw (le-leb zero_digit b l, le-leb b nine_digit h)
-
--- a byte less the digit zero, modulo 256
-wrapped_digit : (b d : ℕ) → (d + zero_digit) % 2 ^ 8 ≡ b → d ≤ 9 → (zero_digit ≤ b) × (b ≤ nine_digit) × (d ≡ b - zero_digit)
-wrapped_digit b d e m = (omega arith, omega arith, omega arith)
 
 below_is_no_digit : (b : ℕ) → b < zero_digit → digit b ≡ false
 below_is_no_digit b l = rw (lt-leb zero_digit b l)
@@ -128,40 +124,34 @@ module _ {t : List ℕ} {p q v : ℕ} (s : Passed t p q v) where
   passed_first : ¬ (q ≡ p) → get_or t p 0 ∷ drop (suc p) t ≡ s.front ++ drop q t
   passed_first n = sym (drop-cons t p 0 (passed_inside n)) ∙ s.seen
 
--- one byte more, which is no comma, and the byte less the digit zero
+-- one byte more, which is no comma
 module _ {t : List ℕ} {p q v : ℕ} (s : Passed t p q v) (l : q < length t) where
-  pub passed_goes_on : {d : ℕ} → (d + zero_digit) % 2 ^ 8 ≡ get_or t q 0 → d ≤ 9 → v ≤ 9999 → Passed t p (q + 1) (v * 10 + d)
-  passed_goes_on {d} e nine few =
-      let w = wrapped_digit (get_or t q 0) d e nine in
-      record {
-        front = s.front ++ get_or t q 0 ∷ [];
-        seen = s.seen ∙ rw (append_assoc, add-one, drop-cons t q 0 l);
-        front_digits = digits_more s.front (get_or t q 0) s.front_digits (digit_in_range (get_or t q 0) w.0 w.1);
-        front_says = omega (arith, digits_value_append 0 s.front (get_or t q 0), s.front_says, w.2);
-        front_length = simp length-append (omega (arith, s.front_length));
-        small = omega arith;
-      }
+  pub passed_goes_on : {d : ℕ} → d ≡ get_or t q 0 - zero_digit → zero_digit ≤ get_or t q 0 → get_or t q 0 ≤ nine_digit → v ≤ 9999
+      → Passed t p (q + 1) (v * 10 + d)
+  passed_goes_on e low high few = record {
+    front = s.front ++ get_or t q 0 ∷ [];
+    seen = s.seen ∙ rw (append_assoc, add-one, drop-cons t q 0 l);
+    front_digits = digits_more s.front (get_or t q 0) s.front_digits (digit_in_range (get_or t q 0) low high);
+    front_says = omega (arith, digits_value_append 0 s.front (get_or t q 0), s.front_says);
+    front_length = simp length-append (omega (arith, s.front_length));
+    small = omega arith;
+  }
 
   part_goes_on : ¬ (get_or t q 0 ≡ comma) → first_part (drop q t) ≡ get_or t q 0 ∷ first_part (drop (suc q) t)
   part_goes_on n = rw (drop-cons t q 0 l, ne_eqb (get_or t q 0) comma n)
 
-  no_digit_no_number : ¬ (get_or t q 0 ≡ comma) → digit (get_or t q 0) ≡ false → none ≡ field_at t p
+  no_digit_no_number : ¬ (get_or t q 0 ≡ comma) → digit (get_or t q 0) ≡ false → None ≡ field_at t p
   no_digit_no_number n f =
       sym
       (passed_field s
       ∙ rw (part_goes_on n, no_digits_no_number _ (digits_then_none s.front (get_or t q 0) _ s.front_digits f)))
 
-  pub no_digit_here : (d : ℕ) → ¬ (get_or t q 0 ≡ comma) → (d + zero_digit) % 2 ^ 8 ≡ get_or t q 0 → 9 < d → d < 2 ^ 8 → none ≡ field_at t p
-  no_digit_here d n e l m = by (ltb (get_or t q 0) zero_digit) refl
-    where
-      by : (b : Bool) → ltb (get_or t q 0) zero_digit ≡ b → none ≡ field_at t p
-      by true low = no_digit_no_number n (below_is_no_digit (get_or t q 0) (ltb-true (get_or t q 0) zero_digit low))
-      by false low =
-          let k = ltb-false (get_or t q 0) zero_digit low in
-          no_digit_no_number n (above_is_no_digit (get_or t q 0) (omega arith))
+  pub no_digit_here : ¬ (get_or t q 0 ≡ comma) → IsNotAsciiDigit (get_or t q 0) → None ≡ field_at t p
+  no_digit_here n (inl low) = no_digit_no_number n (below_is_no_digit (get_or t q 0) low)
+  no_digit_here n (inr high) = no_digit_no_number n (above_is_no_digit (get_or t q 0) high)
 
   -- digits that say 10,000 or more are five at least, and here comes another byte
-  pub sixth_byte_no_number : ¬ (get_or t q 0 ≡ comma) → 9999 < v → none ≡ field_at t p
+  pub sixth_byte_no_number : ¬ (get_or t q 0 ≡ comma) → 9999 < v → None ≡ field_at t p
   sixth_byte_no_number n many =
       sym
       (passed_field s
@@ -179,43 +169,56 @@ module _ {t : List ℕ} {p q v : ℕ} (s : Passed t p q v) (l : q < length t) wh
               absurd (omega (arith, s.front_says))
           by false long = let k = ltb-false (length s.front) 5 long in omega arith
 
-pub part_ends_at_end : (t : List ℕ) (q : ℕ) → length t ≤ q → first_part (drop q t) ≡ []
-part_ends_at_end t q l = rw (drop_of_length-le t l)
+pub behind_no_number : (t : List ℕ) (p : ℕ) → length t ≤ p → None ≡ field_at t p
+unfolding field_at
+behind_no_number t p l = rw (drop_of_length-le t l)
 
-pub part_ends_at_comma : (t : List ℕ) (q : ℕ) → q < length t → get_or t q 0 ≡ comma → first_part (drop q t) ≡ []
-part_ends_at_comma t q l e = rw (drop-cons t q 0 l, eq-eqb (get_or t q 0) comma e)
+-- the part from byte p ends at byte e, and its digits say v; it is empty where e is not behind p
+pub record PartEnd (t : List ℕ) (p e v : ℕ) : Type 0 where
+  pub none_there : e ≤ p → None ≡ field_at t p
+  pub passed : p < e → Passed t p e v
+  pub ends : p < e → first_part (drop e t) ≡ []
 
-module _ {t : List ℕ} {p q v : ℕ} (s : Passed t p q v) (e : first_part (drop q t) ≡ []) where
-  passed_ends : field_at t p ≡ number_of p s.front
-  passed_ends = passed_field s ∙ rw (e, append-nil)
+module _ {t : List ℕ} {p q v : ℕ} (s : Passed t p q v) where
+  passed_ends : first_part (drop q t) ≡ [] → field_at t p ≡ number_of p s.front
+  passed_ends e = passed_field s ∙ rw (e, append-nil)
 
-  pub no_byte_no_number : q ≡ p → none ≡ field_at t p
-  no_byte_no_number n = sym (passed_ends ∙ rw (no_bytes_no_number s.front (omega (arith, s.front_length))))
+  pub part_ends_at_end : length t ≤ q → (p ≤ length t → q ≤ length t) → PartEnd t p (length t) v
+  part_ends_at_end l m = record {
+    none_there = λ h. behind_no_number t p h;
+    passed = λ h. let e : q ≡ length t = omega arith in rw e at s;
+    ends = λ h. rw (drop_of_length-le t {i = length t} (omega arith));
+  }
 
-  pub leading_zero_no_field : ¬ (q ≡ p) → 1 < q - p → get_or t p 0 ≡ zero_digit → none ≡ field_at t p
-  leading_zero_no_field n l z =
-      let long : 1 < length s.front = omega (arith, s.front_length) in
-      sym (passed_ends ∙ rw (leading_zero_no_number s.front (drop q t) (drop (suc p) t) (get_or t p 0) (passed_first s n) long z))
-
-  passed_number : ¬ (q ≡ p) → (1 < q - p → ¬ (get_or t p 0 ≡ zero_digit)) → some (record { value = v; text_end = q }) ≡ field_at t p
-  passed_number n plain =
-      let first = passed_first s n in
-      let some_byte : 1 ≤ length s.front = omega (arith, s.front_length) in
-      let says : digits_value 0 s.front < 100000 = omega (arith, s.front_says, s.small) in
-      let few = plain_digits_few s.front (drop q t) (drop (suc p) t) (get_or t p 0) first s.front_digits says front_plain in
-      sym
-      (passed_ends
-      ∙ rw (
-        plain_digits_number s.front (drop q t) (drop (suc p) t) (get_or t p 0) first s.front_digits some_byte few front_plain,
-        s.front_says,
-        ← s.front_length,
-      ))
+  pub part_ends_at_comma : q < length t → get_or t q 0 ≡ comma → PartEnd t p q v
+  part_ends_at_comma l e = record {
+    none_there = λ h. sym (passed_ends comma_here ∙ rw (no_bytes_no_number s.front (omega (arith, s.front_length))));
+    passed = λ h. s;
+    ends = λ h. comma_here;
+  }
     where
-      front_plain : 1 < length s.front → ¬ (get_or t p 0 ≡ zero_digit)
-      front_plain l = plain (omega (arith, s.front_length))
+      comma_here : first_part (drop q t) ≡ []
+      comma_here = rw (drop-cons t q 0 l, eq-eqb (get_or t q 0) comma e)
 
-  pub one_digit_number : ¬ (q ≡ p) → q - p ≤ 1 → some (record { value = v; text_end = q }) ≡ field_at t p
-  one_digit_number n few = passed_number n (λ l z. omega arith)
+module _ {t : List ℕ} {p e v : ℕ} (s : PartEnd t p e v) (n : p < e) where
+  pub leading_zero_no_field : 1 < e - p → get_or t p 0 ≡ zero_digit → None ≡ field_at t p
+  leading_zero_no_field l z =
+      let f = s.passed n in
+      let long : 1 < length f.front = omega (arith, f.front_length) in
+      sym (passed_ends f (s.ends n) ∙ rw (leading_zero_no_number f.front (drop e t) (drop (suc p) t) (get_or t p 0) (passed_first f (omega arith)) long z))
 
-  pub plain_number : ¬ (q ≡ p) → ¬ (get_or t p 0 ≡ zero_digit) → some (record { value = v; text_end = q }) ≡ field_at t p
-  plain_number n plain = passed_number n (λ l. plain)
+  pub plain_number : (1 < e - p → ¬ (get_or t p 0 ≡ zero_digit)) → Some (record { value = v; end = e }) ≡ field_at t p
+  plain_number plain =
+      let f = s.passed n in
+      let first = passed_first f (omega arith) in
+      let some_byte : 1 ≤ length f.front = omega (arith, f.front_length) in
+      let says : digits_value 0 f.front < 100000 = omega (arith, f.front_says, f.small) in
+      let front_plain : 1 < length f.front → ¬ (get_or t p 0 ≡ zero_digit) = λ l. plain (omega (arith, f.front_length)) in
+      let few = plain_digits_few f.front (drop e t) (drop (suc p) t) (get_or t p 0) first f.front_digits says front_plain in
+      sym
+      (passed_ends f (s.ends n)
+      ∙ rw (
+        plain_digits_number f.front (drop e t) (drop (suc p) t) (get_or t p 0) first f.front_digits some_byte few front_plain,
+        f.front_says,
+        ← f.front_length,
+      ))

@@ -1,50 +1,65 @@
-// A number in the text of a line, up to the next comma. The function takes every input.
+// The numbers in the text of a line, with commas between. Every function takes every input.
 #![tactic(auto)]
 
 ghost use Rattle.std.specs.Prelude.{◌≡◌};
-ghost use Rattle.sheet_fields.specs.Fields.{field_number, field_at};
+ghost use Rattle.meanings.specs.Sheet.{parts};
+ghost use Rattle.sheet_fields.specs.Fields.{field_at, numbers_of};
 
-// What stands before the next comma or the text's end: a number and where it ends, or no number.
+// A number that stands before a comma or the text's end, and where it ends.
 #[derive(Clone, Copy)]
-pub enum Field {
-    Number { value: u32, end: usize },
-    NoNumber,
+pub struct Field {
+    pub value: u32,
+    pub end: usize,
 }
 
-const COMMA: u8 = 44;
-
-const ZERO: u8 = 48;
+// The digit with which no number of more digits begins.
+const ZERO: u8 = b'0';
 
 // The number that begins at byte `from` of a text and goes up to the next comma or the text's end: 1 to 5 digits, no leading zero except
 // 0 itself.
-pub fn number_at(text: &[u8], from: usize) -> Field
-    ensures { field_number result ≡ field_at text.now from }
+pub fn number_at(text: &[u8], from: usize) -> Option<Field>
+    ensures { result ≡ field_at text.now from }
 {
-    let mut at = from;
+    let mut end = text.len();
     let mut value = 0u32;
-    while at < text.len() {
+    for at in from..text.len() {
         let b = text[at];
-        if b == COMMA {
+        if b == b',' {
+            end = at;
             break;
         }
-        let digit = std::num::wrapping_sub_u8(b, ZERO);
-        if 9 < digit {
-            return Field::NoNumber;
+        if !b.is_ascii_digit() {
+            return None;
         }
         // Digits that say 10,000 or more are five at least.
         if 9999 < value {
-            return Field::NoNumber;
+            return None;
         }
-        value = value * 10 + digit as u32;
-        at += 1;
+        value = value * 10 + u32::from(b - b'0');
     }
-    if at == from {
-        return Field::NoNumber;
+    if end <= from {
+        return None;
     }
-    if 1 < at - from {
-        if text[from] == ZERO {
-            return Field::NoNumber;
-        }
+    if 1 < end - from && text[from] == ZERO {
+        return None;
     }
-    Field::Number { value, end: at }
+    Some(Field { value, end })
+}
+
+// The numbers of a text of N numbers with commas between.
+pub fn numbers<const N: usize>(text: &[u8]) -> Option<[u32; N]>
+    ensures { result ≡ numbers_of N (parts text.now) }
+{
+    let mut numbers = [0; N];
+    let mut from = 0;
+    for number in &mut numbers {
+        let field = number_at(text, from)?;
+        *number = field.value;
+        // Behind the comma, or behind the text's end, where no number begins.
+        from = field.end + 1;
+    }
+    if from <= text.len() {
+        return None;
+    }
+    Some(numbers)
 }

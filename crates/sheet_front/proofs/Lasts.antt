@@ -1,6 +1,6 @@
 -- What stands last of the first n elements of a list is the element at position n - 1: the checks of one more against it, in their order.
 use Prim.Native.Nat.{ℕ, ◌-◌, ◌≤◌, ◌<◌}
-use mathlib.Core.Path.{◌≡◌, sym, ap, ◌∙◌}
+use mathlib.Core.Path.{◌≡◌, sym, ◌∙◌}
 use mathlib.Core.Bool.{Bool, true, false}
 use mathlib.Core.List.{List, [], ◌∷◌, ◌++◌}
 use native.Mathlib.Omega.{arith}
@@ -9,10 +9,10 @@ use lib.Dec.{ltb, leb}
 use lib.ListN.{length, get_or, take, get_or-append}
 use lib.Seq.{length-take-le, get_or-take, get_or_at}
 use Rattle.meanings.specs.declared.Report.TheVariants.{PointOutOfOrder, BandwidthOutOfRange, EdgeDecreases, TooMany}
-use Rattle.meanings.specs.declared.Verdict.{Verdict}
-use Rattle.meanings.specs.declared.Verdict.TheVariants.{Fit, Faulty}
+use Rattle.meanings.specs.declared.Refusal.{Refusal}
+use Rattle.std.specs.Prelude.{Ok, Err}
 use Rattle.meanings.specs.Limits.{full}
-use Rattle.meanings.specs.Reports.{verdict_fault, bad_bandwidth, edge_below}
+use Rattle.meanings.specs.Reports.{bad_bandwidth, edge_below}
 use Rattle.meanings.specs.Sheet.{point_checks}
 use Rattle.meanings.proofs.Checks.{none_holds, at_none, decreases_at, edge_decreases_at}
 use Rattle.sheet_front.specs.Stages.{below_last, edge_below_last, PointChecked}
@@ -54,38 +54,38 @@ edge_below_at_last zs hs n z h o l m e =
 
 -- the checks of a mark line: each is made where those before it have found nothing
 module _ {p : ℕ} {zs hs : List ℕ} {n z h : ℕ} {a : Bool} (falls : a ≡ below_last zs n z) where
-  pub point_falls : a ≡ true → PointChecked p zs hs n z h (Faulty (record { report = PointOutOfOrder; place = p }))
+  pub point_falls : a ≡ true → {r : Refusal} → r ≡ (record { report = PointOutOfOrder; place = p }) → PointChecked p zs hs n z h (Err r)
   unfolding below_last
-  point_falls t = record { found = sym (rw (← falls, t)) }
+  point_falls t e = record { found = rw e (sym (rw (← falls, t))) }
 
   module _ {b : Bool} (a-false : a ≡ false) (off : b ≡ bad_bandwidth h) where
-    pub bandwidth_off : b ≡ true → PointChecked p zs hs n z h (Faulty (record { report = BandwidthOutOfRange; place = p }))
+    pub bandwidth_off : b ≡ true → {r : Refusal} → r ≡ (record { report = BandwidthOutOfRange; place = p }) → PointChecked p zs hs n z h (Err r)
     unfolding below_last
-    bandwidth_off t = record { found = sym (rw (← falls, a-false, ← off, t)) }
+    bandwidth_off t e = record { found = rw e (sym (rw (← falls, a-false, ← off, t))) }
 
     module _ {c : Bool} (b-false : b ≡ false) (edge : c ≡ edge_below_last zs hs n z h) where
-      pub edge_falls : c ≡ true → PointChecked p zs hs n z h (Faulty (record { report = EdgeDecreases; place = p }))
+      pub edge_falls : c ≡ true → {r : Refusal} → r ≡ (record { report = EdgeDecreases; place = p }) → PointChecked p zs hs n z h (Err r)
       unfolding below_last edge_below_last
-      edge_falls t = record { found = sym (rw (← falls, a-false, ← off, b-false, ← edge, t)) }
+      edge_falls t e = record { found = rw e (sym (rw (← falls, a-false, ← off, b-false, ← edge, t))) }
 
-      pub points_full : c ≡ false → n ≤ length zs → 512 ≤ n → PointChecked p zs hs n z h (Faulty (record { report = TooMany; place = p }))
+      pub points_full : c ≡ false → n ≤ length zs → 512 ≤ n → {r : Refusal} → r ≡ (record { report = TooMany; place = p }) → PointChecked p zs hs n z h (Err r)
       unfolding below_last edge_below_last
-      points_full f l m =
-          record { found = sym (rw (← falls, a-false, ← off, b-false, ← edge, f, length-take-le n zs l, le-leb 512 n m)) }
+      points_full f l m e =
+          record { found = rw e (sym (rw (← falls, a-false, ← off, b-false, ← edge, f, length-take-le n zs l, le-leb 512 n m))) }
 
-      pub point_fits : c ≡ false → n ≤ length zs → n < 512 → PointChecked p zs hs n z h Fit
+      pub point_fits : c ≡ false → n ≤ length zs → n < 512 → PointChecked p zs hs n z h (Ok tt)
       unfolding below_last edge_below_last
       point_fits f l m = record { found = sym (rw (← falls, a-false, ← off, b-false, ← edge, f, length-take-le n zs l, lt-leb 512 n m)) }
 
 -- a mark line that earns nothing finds room
-pub point_room : {p : ℕ} {zs hs : List ℕ} {n z h : ℕ} {v : Verdict} → PointChecked p zs hs n z h v → v ≡ Fit → length zs ≡ 512 → n ≤ 512
+pub point_room : {p : ℕ} {zs hs : List ℕ} {n z h : ℕ} {u : Unit {0}} → PointChecked p zs hs n z h (Ok u) → length zs ≡ 512 → n ≤ 512
     → n < 512
-point_room {p} {zs} {hs} {n} {z} {h} o e s l =
+point_room {p} {zs} {hs} {n} {z} {h} o s l =
     let k = length-take-le n zs (omega arith) in
-    let f = none_holds (point_checks full p (take n zs) (take n hs) (record { point = z; bandwidth = h })) (sym o.found ∙ ap verdict_fault e) in
+    let f = none_holds (point_checks full p (take n zs) (take n hs) (record { point = z; bandwidth = h })) (sym o.found) in
     let r = leb-false 512 (length (take n zs)) (at_none p (leb 512 (length (take n zs))) f.1.1.1.0) in
     omega arith
 
-pub point_list_room : {p : ℕ} {zs hs : List ℕ} {n z h : ℕ} {v : Verdict} (xs : List ℕ) → PointChecked p zs hs n z h v → v ≡ Fit
+pub point_list_room : {p : ℕ} {zs hs : List ℕ} {n z h : ℕ} {u : Unit {0}} (xs : List ℕ) → PointChecked p zs hs n z h (Ok u)
     → length zs ≡ 512 → n ≤ 512 → length xs ≡ 512 → n < length xs
-point_list_room xs o e s l k = let r = point_room o e s l in omega arith
+point_list_room xs o s l k = let r = point_room o s l in omega arith

@@ -2,4 +2,3 @@ pub mod Fronts
 pub mod Lasts
 pub mod LineSteps
 pub mod PointLoop
-pub mod Stores

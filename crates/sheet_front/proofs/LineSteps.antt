@@ -1,23 +1,20 @@
 -- What the meaning does at the line that begins at byte p, where there is one and where there is none.
 use Prim.Native.Nat.{ℕ, ◌-◌, ◌<◌}
-use mathlib.Core.Path.{◌≡◌, refl, ◌∙◌}
+use mathlib.Core.Path.{◌≡◌, refl, sym, ◌∙◌}
 use mathlib.Core.Bool.{Bool, true, false}
 use mathlib.Core.List.{List, [], ◌∷◌}
-use mathlib.Core.Option.{none}
+use Rattle.std.specs.Prelude.{Option, Some, None}
 use native.Mathlib.Omega.{arith}
 use lib.Dec.{eqb}
 use lib.ListN.{length, take, drop}
 use Rattle.meanings.specs.declared.Limits.{Limits}
-use Rattle.meanings.specs.declared.Found.{Found}
-use Rattle.meanings.specs.declared.Found.TheVariants.{At, Nothing}
 use Rattle.meanings.specs.Lists.{pick}
 use Rattle.meanings.specs.Reports.{Answer, given, refused}
 use Rattle.meanings.specs.Sheet.{Lines, end, unended, line, lines, next_place, same, refused_at, header, point_line, with_point}
 use Rattle.meanings_ranges.specs.RangeSheet.{Front, front_points}
 use Rattle.sheet_lines.specs.declared.Line.{Line}
-use Rattle.sheet_lines.specs.declared.Line.TheVariants.{Ended, Unended}
-use Rattle.sheet_lines.specs.Lines.{line_bounds, first_end, line_at}
-use Rattle.sheet_lines.proofs.LineEnds.{LineFound, ended_line, unended_line}
+use Rattle.sheet_lines.specs.Lines.{first_end, line_at}
+use Rattle.sheet_lines.proofs.LineEnds.{LineFound, ended_line}
 use Rattle.sheet_front.specs.Stages.{Passed, passed_to, HeaderTried}
 
 -- a header line, and then what follows
@@ -36,45 +33,44 @@ module _ {A : Type 0} (next : ℕ → Lines → Answer A) where
       by false = refl
 
   -- where it stands the meaning goes on behind it, and where it does not it stops
-  pub header_goes_on : {names s : List ℕ} {p q : ℕ} {r : Found} → HeaderTried names s p r → r ≡ At q
+  pub header_goes_on : {names s : List ℕ} {p q : ℕ} → HeaderTried names s p (Some q)
       → header names p (lines (drop p s)) next ≡ next q (lines (drop q s))
-  header_goes_on {names} {s} {p} h e = header_then names p (lines (drop p s)) ∙ rw (h.outcome, e)
+  header_goes_on {names} {s} {p} h = header_then names p (lines (drop p s)) ∙ rw h.outcome
 
-  pub header_stops : {names s : List ℕ} {p : ℕ} {r : Found} → HeaderTried names s p r → r ≡ Nothing
-      → header names p (lines (drop p s)) next ≡ refused_at p 2
-  header_stops {names} {s} {p} h e = header_then names p (lines (drop p s)) ∙ rw (h.outcome, e)
+  pub header_stops : {names s : List ℕ} {p : ℕ} → HeaderTried names s p None → header names p (lines (drop p s)) next ≡ refused_at p 2
+  header_stops {names} {s} {p} h = header_then names p (lines (drop p s)) ∙ rw h.outcome
 
-header_without_line : (names s : List ℕ) (p : ℕ) → line_at s p ≡ none → header names p (lines (drop p s)) passed_to ≡ refused_at p 2
+header_without_line : (names s : List ℕ) (p : ℕ) → line_at s p ≡ None → header names p (lines (drop p s)) passed_to ≡ refused_at p 2
 unfolding line_at
 header_without_line names s p h = by (lines (drop p s)) h
   where
-    by : (ls : Lines) → first_end p ls ≡ none → header names p ls passed_to ≡ refused_at p 2
+    by : (ls : Lines) → first_end p ls ≡ None → header names p ls passed_to ≡ refused_at p 2
     by end h = refl
     by (unended t) h = refl
     by (line t d ls) h = let z : ◌≡◌ {A = ℕ} 0 1 = cc in absurd (omega arith)
 
-pub header_missing : {names s : List ℕ} {p : ℕ} {l : Line} → line_bounds l ≡ line_at s p → l ≡ Unended → HeaderTried names s p Nothing
-header_missing t u = record { outcome = header_without_line _ _ _ (unended_line _ _ t u) }
+pub header_missing : {names s : List ℕ} {p : ℕ} {r : Option ℕ} → r ≡ None → None ≡ line_at s p → HeaderTried names s p r
+header_missing e t = rw e (record { outcome = header_without_line _ _ _ (sym t) })
 
 -- the line's text compared with the names
 header_at_line : (names s : List ℕ) (p e n : ℕ) (b : Bool) → LineFound s p e n → b ≡ same (take (e - p) (drop p s)) names
     → header names p (lines (drop p s)) passed_to ≡ pick b (passed_to n (lines (drop n s))) (refused_at p 2)
 header_at_line names s p e n b f h = rw (f.first_of_lines, f.passes, ← h)
 
-module _ {names s : List ℕ} {p e n : ℕ} {l : Line} {b : Bool} (line-given : line_bounds l ≡ line_at s p) (ended : l ≡ Ended e n)
-    (compared : b ≡ same (take (e - p) (drop p s)) names) where
-  pub header_passed : b ≡ true → HeaderTried names s p (At n)
-  header_passed h = record { outcome = header_at_line names s p e n b (ended_line line-given ended) compared ∙ rw h }
+module _ {names s : List ℕ} {p : ℕ} {l : Line} {b : Bool} (line-given : Some l ≡ line_at s p)
+    (compared : b ≡ same (take (l.end - p) (drop p s)) names) where
+  pub header_passed : b ≡ true → HeaderTried names s p (Some l.next)
+  header_passed h = record { outcome = header_at_line names s p l.end l.next b (ended_line line-given) compared ∙ rw h }
 
-  pub header_differs : b ≡ false → HeaderTried names s p Nothing
-  header_differs h = record { outcome = header_at_line names s p e n b (ended_line line-given ended) compared ∙ rw h }
+  pub header_differs : b ≡ false → HeaderTried names s p None
+  header_differs h = record { outcome = header_at_line names s p l.end l.next b (ended_line line-given) compared ∙ rw h }
 
-pub points_without_line : (L : Limits) (s zs hs : List ℕ) (p : ℕ) → line_at s p ≡ none
+pub points_without_line : (L : Limits) (s zs hs : List ℕ) (p : ℕ) → line_at s p ≡ None
     → front_points L p zs hs (lines (drop p s)) given ≡ refused_at p 3
 unfolding line_at
 points_without_line L s zs hs p h = by (lines (drop p s)) h
   where
-    by : (ls : Lines) → first_end p ls ≡ none → front_points L p zs hs ls given ≡ refused_at p 3
+    by : (ls : Lines) → first_end p ls ≡ None → front_points L p zs hs ls given ≡ refused_at p 3
     by end h = refl
     by (unended t) h = refl
     by (line t d ls) h = let z : ◌≡◌ {A = ℕ} 0 1 = cc in absurd (omega arith)

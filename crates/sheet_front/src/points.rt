@@ -3,15 +3,13 @@ ghost use Rattle.std.specs.Prelude.{◌≡◌, ◌≤◌, length};
 ghost use Rattle.sheet_front.specs.Stages.{below_last, edge_below_last, PointChecked, PointTried, PointsFound};
 
 use checks::{edge_below, out_of_range};
-use meanings::{Refusal, Report, Verdict};
-use sheet_lines::Line;
-use sheet_values::PointLine;
+use meanings::{Refusal, Report};
 
-// What the mark lines give: how many there are and where the line after the empty line begins, or the report.
+// What the mark lines give: how many there are and where the line after the empty line begins.
 #[derive(Clone, Copy)]
-pub enum FrontRead {
-    Points { count: usize, next: usize },
-    Refused(Refusal),
+pub struct Front {
+    pub count: usize,
+    pub next: usize,
 }
 
 // Whether a mark is below the last of the first `count`.
@@ -50,35 +48,23 @@ pub(crate) fn point_fault(
     point: u16,
     bandwidth: u32,
     place: usize,
-) -> Verdict
+) -> Result<(), Refusal>
     requires { (count ≤ length points.now) × (count ≤ length bandwidths.now) }
     ensures { PointChecked place points.now bandwidths.now count point bandwidth result }
 {
     if below_last(points, count, point) {
-        return Verdict::Faulty(Refusal {
-            report: Report::PointOutOfOrder,
-            place,
-        });
+        return Err(Report::PointOutOfOrder.at(place));
     }
     if out_of_range(bandwidth) {
-        return Verdict::Faulty(Refusal {
-            report: Report::BandwidthOutOfRange,
-            place,
-        });
+        return Err(Report::BandwidthOutOfRange.at(place));
     }
     if edge_below_last(points, bandwidths, count, point, bandwidth) {
-        return Verdict::Faulty(Refusal {
-            report: Report::EdgeDecreases,
-            place,
-        });
+        return Err(Report::EdgeDecreases.at(place));
     }
     if 512 <= count {
-        return Verdict::Faulty(Refusal {
-            report: Report::TooMany,
-            place,
-        });
+        return Err(Report::TooMany.at(place));
     }
-    Verdict::Fit
+    Ok(())
 }
 
 // Stores the mark of a line's text behind the first `count`, or says what the line earns.
@@ -88,61 +74,45 @@ pub(crate) fn store_point(
     points: &mut [u16],
     bandwidths: &mut [u32],
     count: usize,
-) -> Verdict
+) -> Result<(), Refusal>
     requires { (length points.old ≡ 512) × (length bandwidths.old ≡ 512) × (count ≤ 512) }
     ensures { PointTried text.now place points.old bandwidths.old count result points.new bandwidths.new }
 {
-    let PointLine::Point { point, bandwidth } = sheet_values::point_line(text) else {
-        return Verdict::Faulty(Refusal {
-            report: Report::MalformedLine,
-            place,
-        });
+    let Some(line) = sheet_values::point_line(text) else {
+        return Err(Report::MalformedLine.at(place));
     };
-    match point_fault(points, bandwidths, count, point, bandwidth, place) {
-        Verdict::Faulty(refusal) => Verdict::Faulty(refusal),
-        Verdict::Fit => {
-            points[count] = point;
-            bandwidths[count] = bandwidth;
-            Verdict::Fit
-        }
-    }
+    point_fault(points, bandwidths, count, line.point, line.bandwidth, place)?;
+    points[count] = line.point;
+    bandwidths[count] = line.bandwidth;
+    Ok(())
 }
 
 // The mark lines from byte `from` on, to the empty line.
+#[tactic(auto, using(crate::proofs::PointLoop::no_points))]
 pub(crate) fn read_points(
     sheet: &[u8],
     from: usize,
     points: &mut [u16],
     bandwidths: &mut [u32],
-) -> FrontRead
+) -> Result<Front, Refusal>
     requires { (length points.old ≡ 512) × (length bandwidths.old ≡ 512) }
     ensures { PointsFound sheet.now from result points.new bandwidths.new }
 {
     let mut at = from;
     let mut count = 0;
-    while at < sheet.len() {
-        let Line::Ended { end, next } = sheet_lines::find_line(sheet, at) else {
-            break;
-        };
-        if end == at {
+    while let Some(line) = sheet_lines::find_line(sheet, at) {
+        if line.end == at {
             if count == 0 {
-                return FrontRead::Refused(Refusal {
-                    report: Report::NoPoints,
-                    place: at,
-                });
+                return Err(Report::NoPoints.at(at));
             }
-            return FrontRead::Points { count, next };
+            return Ok(Front {
+                count,
+                next: line.next,
+            });
         }
-        match store_point(&sheet[at..end], at, points, bandwidths, count) {
-            Verdict::Faulty(refusal) => return FrontRead::Refused(refusal),
-            Verdict::Fit => {
-                count += 1;
-                at = next;
-            }
-        }
+        store_point(&sheet[at..line.end], at, points, bandwidths, count)?;
+        count += 1;
+        at = line.next;
     }
-    FrontRead::Refused(Refusal {
-        report: Report::MalformedLine,
-        place: at,
-    })
+    Err(Report::MalformedLine.at(at))
 }

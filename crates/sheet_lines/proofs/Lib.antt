@@ -1,3 +1,2 @@
 pub mod LineEnds
-pub mod SameTexts
 pub mod WordSearch

@@ -6,7 +6,7 @@ use mathlib.Core.Path.{◌≡◌, refl, sym, ap, ◌∙◌}
 use mathlib.Core.Logic.{◌⊎◌, inl, inr}
 use mathlib.Core.Bool.{Bool, true, false}
 use mathlib.Core.List.{List, [], ◌∷◌, ◌++◌}
-use mathlib.Core.Option.{Option, none, some}
+use Rattle.std.specs.Prelude.{Option, None, Some}
 use native.Mathlib.Nat.{eq-or-lt_of_le}
 use native.Mathlib.Omega.{arith}
 use native.Mathlib.Numerals.{add-one}
@@ -20,24 +20,36 @@ use Rattle.meanings.specs.Sheet.{Lines, end, unended, line, with_text_byte, line
 use Rattle.meanings.proofs.Search.{IsFirst, first_is_first}
 use Rattle.laws_text.proofs.Texts.{ending_some, FirstByte, is_feed, is_return, is_text, first_byte, first_line}
 use Rattle.sheet_lines.specs.declared.Line.{Line}
-use Rattle.sheet_lines.specs.declared.Line.TheVariants.{Ended, Unended}
-use Rattle.sheet_lines.specs.Lines.{LineEnd, line_bounds, first_end, line_at, feed_from, text_before}
+use Rattle.sheet_lines.specs.Lines.{first_end, line_at, feed_within, feed_from, text_before}
 
 -- a search for a line feed that began at byte `from` has come to byte p
 module _ (s : List ℕ) (from p : ℕ) (still : feed_from s from ≡ feed_from s p) where
-  pub no_feed_left : length s ≤ p → p ≡ feed_from s from
-  unfolding feed_from
-  no_feed_left l = let e : length s - p ≡ 0 = omega arith in sym (still ∙ rw e)
-
   pub no_feed_here : p < length s → ¬ (get_or s p 0 ≡ line_feed) → feed_from s from ≡ feed_from s (p + 1)
   unfolding feed_from
   no_feed_here l n =
       let e : length s - p ≡ suc (length s - suc p) = omega arith in still ∙ rw (add-one p, e, ne_eqb (get_or s p 0) line_feed n)
 
-  pub feed_here : p < length s → get_or s p 0 ≡ line_feed → p ≡ feed_from s from
+  pub feed_here : p < length s → get_or s p 0 ≡ line_feed → Some p ≡ feed_from s from
   unfolding feed_from
   feed_here l h =
-      let e : length s - p ≡ suc (length s - suc p) = omega arith in sym (still ∙ rw (e, eq-eqb (get_or s p 0) line_feed h))
+      let e : length s - p ≡ suc (length s - suc p) = omega arith in
+      sym (still ∙ rw (e, eq-eqb (get_or s p 0) line_feed h, lt-ltb p (length s) l))
+
+  pub no_feed_behind : length s ≤ p → None ≡ feed_from s from
+  unfolding feed_from
+  no_feed_behind l = let e : length s - p ≡ 0 = omega arith in sym (still ∙ rw (e, le-ltb p (length s) l))
+
+-- a line feed that is found stands within the sheet
+found_within : (s : List ℕ) (k m : ℕ) → Some k ≡ feed_within s m → (k ≡ m) × (m < length s)
+found_within s k m e = by (ltb m (length s)) refl e
+  where
+    by : (b : Bool) → ltb m (length s) ≡ b → Some k ≡ pick b (Some m) None → (k ≡ m) × (m < length s)
+    by true h e = (cc, ltb-true m (length s) h)
+    by false h e = let z : ◌≡◌ {A = ℕ} 0 1 = cc in absurd (omega arith)
+
+pub feed_inside : (s : List ℕ) (from k : ℕ) → Some k ≡ feed_from s from → k < length s
+unfolding feed_from
+feed_inside s from k e = let o = found_within s k _ e in omega (arith, o.0, o.1)
 
 -- the text of a line from byte p to the line feed at byte k
 module _ (s : List ℕ) (p k : ℕ) where
@@ -66,15 +78,15 @@ module _ (s : List ℕ) (p : ℕ) where
       text_without_return s p (suc p) (omega arith) (rw d n)
 
 -- a line whose first line feed stands at byte k, if that is within the sheet
-abbrev line_to : List ℕ → ℕ → ℕ → Option LineEnd
-line_to s p k = pick (ltb k (length s)) (some (record { text_end = text_before s p k; next = k + 1 })) none
+abbrev line_to : List ℕ → ℕ → ℕ → Option Line
+line_to s p k = pick (ltb k (length s)) (Some (record { end = text_before s p k; next = k + 1 })) None
 
 byte_in_front : (p b : ℕ) (ls : Lines) → first_end p (with_text_byte b ls) ≡ first_end (suc p) ls
 byte_in_front p b end = refl
 byte_in_front p b (unended t) = refl
-byte_in_front p b (line t e ls) = ap (λ (n : ℕ). some (record { text_end = n; next = n + length (ending_bytes e) })) (omega arith)
+byte_in_front p b (line t e ls) = ap (λ (n : ℕ). Some (record { end = n; next = n + length (ending_bytes e) })) (omega arith)
 
-pub no_line_at_end : (s : List ℕ) (p : ℕ) → length s ≤ p → line_at s p ≡ none
+pub no_line_at_end : (s : List ℕ) (p : ℕ) → length s ≤ p → line_at s p ≡ None
 unfolding line_at
 no_line_at_end s p l = rw (drop_of_length-le s l)
 
@@ -83,17 +95,17 @@ module _ (s : List ℕ) (p : ℕ) (l : p < length s) where
   feed_ends_line h = rw (drop-cons s p 0 l, eq-eqb (get_or s p 0) line_feed h)
 
   line_ends_here : lines (get_or s p 0 ∷ drop (suc p) s) ≡ line [] feed (lines (drop (suc p) s))
-      → line_at s p ≡ some (record { text_end = p; next = p + 1 })
+      → line_at s p ≡ Some (record { end = p; next = p + 1 })
   unfolding line_at
-  line_ends_here g = rw (drop-cons s p 0 l, g) (ap (λ (n : ℕ). some (record { text_end = n; next = n + 1 })) (omega arith))
+  line_ends_here g = rw (drop-cons s p 0 l, g) (ap (λ (n : ℕ). Some (record { end = n; next = n + 1 })) (omega arith))
 
   line_ends_with_return : (ls : Lines) → lines (get_or s p 0 ∷ drop (suc p) s) ≡ line [] return_feed ls
-      → line_at s p ≡ some (record { text_end = p; next = suc p + 1 })
+      → line_at s p ≡ Some (record { end = p; next = suc p + 1 })
   unfolding line_at
   line_ends_with_return ls g =
       rw (drop-cons s p 0 l, g)
-      (ap (λ (n : ℕ). some (record { text_end = n; next = n + 2 })) (omega arith)
-      ∙ ap (λ (n : ℕ). some (record { text_end = p; next = n })) (omega arith))
+      (ap (λ (n : ℕ). Some (record { end = n; next = n + 2 })) (omega arith)
+      ∙ ap (λ (n : ℕ). Some (record { end = p; next = n })) (omega arith))
 
   line_goes_on : lines (get_or s p 0 ∷ drop (suc p) s) ≡ with_text_byte (get_or s p 0) (lines (drop (suc p) s)) → line_at s p ≡ line_at s (suc p)
   unfolding line_at
@@ -162,19 +174,35 @@ line_to_first s (suc n) p e = by (first_byte (get_or s p 0) (drop (suc p) s)) (l
                 let h = eqb-true (get_or s k 0) line_feed (i.there (omega arith)) in
                 rw (text_end_after s p k a (λ j c. w c (lines (drop (suc (suc p)) s)) (feed_ends_line s (suc p) (omega arith) (rw j at h))))
 
+-- a line whose first line feed is told
+abbrev line_from : List ℕ → ℕ → Option ℕ → Option Line
+line_from s p None = None
+line_from s p (Some k) = Some (record { end = text_before s p k; next = k + 1 })
+
 -- the line at byte p, if a line feed follows: its text ends at that line feed or at a carriage return directly before it, and the next line
 -- begins behind the line feed
-line_to_feed : (s : List ℕ) (p : ℕ) → line_at s p ≡ line_to s p (feed_from s p)
+line_to_feed : (s : List ℕ) (p : ℕ) → line_at s p ≡ line_from s p (feed_from s p)
 unfolding feed_from
-line_to_feed s p = line_to_first s (length s - p) p refl
+line_to_feed s p = line_to_first s (length s - p) p refl ∙ by (ltb (first (λ k. eqb (get_or s k 0) line_feed) p (length s - p)) (length s))
+  where
+    by : (b : Bool)
+        → pick b
+        (Some
+        (record {
+          end = text_before s p (first (λ k. eqb (get_or s k 0) line_feed) p (length s - p));
+          next = first (λ k. eqb (get_or s k 0) line_feed) p (length s - p) + 1;
+        }))
+        None
+        ≡ line_from s p (pick b (Some (first (λ k. eqb (get_or s k 0) line_feed) p (length s - p))) None)
+    by true = refl
+    by false = refl
 
--- the search has come to byte k
-module _ (s : List ℕ) (from k : ℕ) (found : k ≡ feed_from s from) where
-  pub line_ended : {e : ℕ} → k < length s → e ≡ text_before s from k → some (record { text_end = e; next = k + 1 }) ≡ line_at s from
-  line_ended l t = sym (line_to_feed s from ∙ rw (← found, lt-ltb k (length s) l, ← t))
+pub line_ended : (s : List ℕ) (from : ℕ) {k e : ℕ} → Some k ≡ feed_from s from → e ≡ text_before s from k
+    → Some (record { end = e; next = k + 1 }) ≡ line_at s from
+line_ended s from found t = sym (line_to_feed s from ∙ rw (← found, ← t))
 
-  pub line_unended : length s ≤ k → none ≡ line_at s from
-  line_unended l = sym (line_to_feed s from ∙ rw (← found, le-ltb k (length s) l))
+pub line_unended : (s : List ℕ) (from : ℕ) → None ≡ feed_from s from → None ≡ line_at s from
+line_unended s from e = sym (line_to_feed s from ∙ rw (← e))
 
 -- the line at byte p has its text from p up to e, and the lines from byte n on follow its ending
 pub record LineFound (s : List ℕ) (p e n : ℕ) : Type 0 where
@@ -186,19 +214,19 @@ pub record LineFound (s : List ℕ) (p e n : ℕ) : Type 0 where
   pub passes : next_place p (take (e - p) (drop p s)) ending ≡ n
   pub first_of_lines : lines (drop p s) ≡ line (take (e - p) (drop p s)) ending (lines (drop n s))
 
-line_found : (s : List ℕ) (p e n : ℕ) → line_at s p ≡ some (record { text_end = e; next = n }) → LineFound s p e n
+line_found : (s : List ℕ) (p e n : ℕ) → line_at s p ≡ Some (record { end = e; next = n }) → LineFound s p e n
 unfolding line_at
 line_found s p e n h = by (lines (drop p s)) refl h
   where
-    by : (ls : Lines) → lines (drop p s) ≡ ls → first_end p ls ≡ some (record { text_end = e; next = n }) → LineFound s p e n
+    by : (ls : Lines) → lines (drop p s) ≡ ls → first_end p ls ≡ Some (record { end = e; next = n }) → LineFound s p e n
     by end g h = let z : ◌≡◌ {A = ℕ} 0 1 = cc in absurd (omega arith)
     by (unended t) g h = let z : ◌≡◌ {A = ℕ} 0 1 = cc in absurd (omega arith)
     by (line t d ls) g h =
         let o = first_line (drop p s) t d ls g in
         let r = o.0 in
-        let q : ◌≡◌ {A = LineEnd} (record { text_end = p + length t; next = next_place p t d }) (record { text_end = e; next = n }) = cc in
-        let at_end : p + length t ≡ e = ap (λ (x : LineEnd). x.text_end) q in
-        let at_next : next_place p t d ≡ n = ap (λ (x : LineEnd). x.next) q in
+        let q : ◌≡◌ {A = Line} (record { end = p + length t; next = next_place p t d }) (record { end = e; next = n }) = cc in
+        let at_end : p + length t ≡ e = ap (λ (x : Line). x.end) q in
+        let at_next : next_place p t d ≡ n = ap (λ (x : Line). x.next) q in
         let some_byte = ending_some d in
         let long : length s - p ≡ length t + (length (ending_bytes d) + length r) =
         sym (length-drop p s) ∙ ap length o.1.0 ∙ length-append t (ending_bytes d ++ r)
@@ -223,18 +251,15 @@ line_found s p e n h = by (lines (drop p s)) refl h
             ∙ drop_at (ending_bytes d) r (length (ending_bytes d)) refl
 
 -- a line as find_line tells it
-pub ended_line : {s : List ℕ} {p e n : ℕ} {l : Line} → line_bounds l ≡ line_at s p → l ≡ Ended e n → LineFound s p e n
-ended_line t f = line_found _ _ _ _ (sym t ∙ ap line_bounds f)
+pub ended_line : {s : List ℕ} {p : ℕ} {l : Line} → Some l ≡ line_at s p → LineFound s p l.end l.next
+ended_line {s} {p} {l} t = line_found s p l.end l.next (sym t)
 
-module _ (s : List ℕ) (p : ℕ) {e n : ℕ} {l : Line} (line-given : line_bounds l ≡ line_at s p) (ended : l ≡ Ended e n) where
-  pub text_begins : p ≤ e
-  text_begins = (ended_line line-given ended).begins
+module _ (s : List ℕ) (p : ℕ) {l : Line} (line-given : Some l ≡ line_at s p) where
+  pub text_begins : p ≤ l.end
+  text_begins = (ended_line line-given).begins
 
-  pub text_within : e ≤ length s
-  text_within = let f = ended_line {s = s} line-given ended in omega arith
+  pub text_within : l.end ≤ length s
+  text_within = let f = ended_line {s = s} line-given in omega arith
 
-  pub line_shortens : length s - n < length s - p
-  line_shortens = let f = ended_line {s = s} line-given ended in omega arith
-
-pub unended_line : (s : List ℕ) (p : ℕ) {l : Line} → line_bounds l ≡ line_at s p → l ≡ Unended → line_at s p ≡ none
-unended_line s p t u = sym t ∙ ap line_bounds u
+  pub line_shortens : length s - l.next < length s - p
+  line_shortens = let f = ended_line {s = s} line-given in omega arith

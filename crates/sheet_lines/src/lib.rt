@@ -1,54 +1,45 @@
 // The lines of the tank sheet: where a line ends, and whether its text is a given one. Every function takes every input.
 #![tactic(auto)]
 
-ghost use Rattle.std.specs.Prelude.{◌≡◌, ◌<◌, length};
+ghost use Rattle.std.specs.Prelude.{◌≡◌, ◌<◌, ◌==◌, length, position};
+ghost use Rattle.meanings.specs.Bytes.{line_feed};
 ghost use Rattle.meanings.specs.Sheet.{same};
-ghost use Rattle.sheet_lines.specs.Lines.{line_bounds, line_at, feed_from, text_before};
+ghost use Rattle.sheet_lines.specs.Lines.{line_at, feed_from, text_before};
 
-use sheet_words::{WordAt, feed_bits, word_at};
+use sheet_words::{feed_bits, word_at};
 
-// What a search for a line finds: the end of its text with the start of the next line, or no line feed.
+// A line with a line feed: where its text ends, and where the next line begins.
 #[derive(Clone, Copy)]
-pub enum Line {
-    Ended { end: usize, next: usize },
-    Unended,
+pub struct Line {
+    pub end: usize,
+    pub next: usize,
 }
 
-const LINE_FEED: u8 = 10;
+const LINE_FEED: u8 = b'\n';
 
-const CARRIAGE_RETURN: u8 = 13;
+const CARRIAGE_RETURN: u8 = b'\r';
 
-// What find_feed finds, byte by byte.
-fn find_feed_bytewise(sheet: &[u8], from: usize) -> usize
+// Where the first line feed stands in these bytes.
+fn first_feed(bytes: &[u8]) -> Option<usize>
+    ensures { result ≡ position (λ b. b == line_feed) bytes.now }
+{
+    bytes.iter().position(|b| *b == LINE_FEED)
+}
+
+// The first line feed from byte `from` on. It looks at eight bytes as one word; the last ones, fewer than eight, are looked at byte by byte.
+pub(crate) fn find_feed(sheet: &[u8], from: usize) -> Option<usize>
     ensures { result ≡ feed_from sheet.now from }
 {
     let mut at = from;
-    while at < sheet.len() {
-        if sheet[at] == LINE_FEED {
-            return at;
-        }
-        at += 1;
-    }
-    at
-}
-
-// The first line feed from byte `from` on, or where the search ends without one. It looks at eight bytes as one word; the last ones, fewer than
-// eight, are looked at byte by byte.
-pub(crate) fn find_feed(sheet: &[u8], from: usize) -> usize
-    ensures { result ≡ feed_from sheet.now from }
-{
-    let mut at = from;
-    loop {
-        let word = word_at(sheet, at);
-        let WordAt::Whole(w) = word else {
-            return find_feed_bytewise(sheet, at);
-        };
-        let bits = feed_bits(w);
+    while let Some(word) = word_at(sheet, at) {
+        let bits = feed_bits(word);
         if bits != 0 {
-            return at + (u64::trailing_zeros(bits) / 8) as usize;
+            return Some(at + (bits.trailing_zeros() / 8) as usize);
         }
         at += 8;
     }
+    let place = first_feed(sheet.get(at..)?)?;
+    Some(at + place)
 }
 
 // Where the text ends of the line that begins at byte `from` and has its line feed at byte `feed`.
@@ -65,34 +56,22 @@ pub(crate) fn text_end(sheet: &[u8], from: usize, feed: usize) -> usize
     feed
 }
 
-// The line that begins at byte `from`.
-pub fn find_line(sheet: &[u8], from: usize) -> Line
-    ensures { line_bounds result ≡ line_at sheet.now from }
+// The line that begins at byte `from`, if a line feed ends it.
+#[tactic(auto, using(crate::proofs::LineEnds::feed_inside, crate::proofs::LineEnds::line_ended, crate::proofs::LineEnds::line_unended))]
+pub fn find_line(sheet: &[u8], from: usize) -> Option<Line>
+    ensures { result ≡ line_at sheet.now from }
 {
-    let feed = find_feed(sheet, from);
-    if feed < sheet.len() {
-        let end = text_end(sheet, from, feed);
-        return Line::Ended {
-            end,
-            next: feed + 1,
-        };
-    }
-    Line::Unended
+    let feed = find_feed(sheet, from)?;
+    let end = text_end(sheet, from, feed);
+    Some(Line {
+        end,
+        next: feed + 1,
+    })
 }
 
 // Whether two texts are the same.
 pub fn same_text(text: &[u8], names: &[u8]) -> bool
     ensures { result ≡ same text.now names.now }
 {
-    if text.len() != names.len() {
-        return false;
-    }
-    let mut i = 0;
-    while i < text.len() {
-        if text[i] != names[i] {
-            return false;
-        }
-        i += 1;
-    }
-    true
+    text == names
 }

@@ -7,8 +7,7 @@ use native.Mathlib.Omega.{arith}
 use lib.ListN.{drop}
 use Rattle.meanings.specs.declared.Report.TheVariants.{BadHeader}
 use Rattle.meanings.specs.declared.Refusal.{Refusal}
-use Rattle.meanings.specs.declared.Found.{Found}
-use Rattle.meanings.specs.declared.Found.TheVariants.{At, Nothing}
+use Rattle.std.specs.Prelude.{Option, Some, None, Result, Ok, Err}
 use Rattle.meanings.specs.Lists.{pick}
 use Rattle.meanings.specs.Limits.{full}
 use Rattle.meanings.specs.Bytes.{sample_header}
@@ -21,13 +20,9 @@ use Rattle.meanings_ranges.specs.RangeSheet.{range_header, second_header, no_rea
 use Rattle.meanings_ranges.proofs.ReadingLines.{read_readings_over}
 use Rattle.sheet_front.specs.Stages.{Passed, passed_to, HeaderTried}
 use Rattle.sheet_front.proofs.LineSteps.{header_goes_on, header_stops}
-use Rattle.sheet_readings.specs.declared.ReadingsRead.{ReadingsRead}
-use Rattle.sheet_readings.specs.declared.ReadingsRead.TheVariants.{Kept as LinesKept}
 use Rattle.sheet_readings.specs.Stages.{size_refusal, kept_readings, readings_read, readings_call, ReadingsOutcome}
 use Rattle.sheet_names.specs.declared.Names.{Names}
-use Rattle.sheet_names.specs.declared.Names.TheVariants.{Named, Unnamed}
-use Rattle.sheet_names.specs.declared.NamedRead.{NamedRead}
-use Rattle.sheet_names.specs.declared.NamedRead.TheVariants.{Kept}
+use Rattle.sheet_names.specs.declared.Named.{Named}
 use Rattle.sheet_names.specs.Stages.{after_names, NamesTried, named_read, with_front, named_call, NamedOutcome}
 
 -- the plain header line first, and where it does not stand the one of ranges
@@ -54,19 +49,19 @@ module _ (p : ℕ) (next : Kind → ℕ → Lines → Answer RangeContents) wher
       by true h = let z : ◌≡◌ {A = ℕ} 0 1 = cc in absurd (omega arith)
       by false h = refl
 
-module _ {s : List ℕ} {p : ℕ} {f : Found} (tried : HeaderTried sample_header s p f) where
-  pub named_plain : {q : ℕ} → f ≡ At q → NamesTried s p (Named Plain q)
-  named_plain {q} e =
-      record { goes_on = λ next. names_plain p next (lines (drop p s)) (record { place = q; rest = lines (drop q s) }) (tried.outcome ∙ rw e) }
+module _ {s : List ℕ} {p : ℕ} where
+  pub named_plain : {q : ℕ} → HeaderTried sample_header s p (Some q) → NamesTried s p (Some (record { kind = Plain; next = q }))
+  named_plain {q} tried =
+      record { goes_on = λ next. names_plain p next (lines (drop p s)) (record { place = q; rest = lines (drop q s) }) tried.outcome }
 
-  module _ {g : Found} (other : f ≡ Nothing) (again : HeaderTried range_header s p g) where
-    pub named_ranges : {q : ℕ} → g ≡ At q → NamesTried s p (Named Ranges q)
-    named_ranges {q} e =
-        record { goes_on = λ next. names_other p next (lines (drop p s)) (tried.outcome ∙ rw other) ∙ header_goes_on (next Ranges) again e }
+  module _ (other : HeaderTried sample_header s p None) where
+    pub named_ranges : {q : ℕ} → HeaderTried range_header s p (Some q) → NamesTried s p (Some (record { kind = Ranges; next = q }))
+    named_ranges again =
+        record { goes_on = λ next. names_other p next (lines (drop p s)) other.outcome ∙ header_goes_on (next Ranges) again }
 
-    pub named_neither : g ≡ Nothing → NamesTried s p Unnamed
-    named_neither e =
-        record { goes_on = λ next. names_other p next (lines (drop p s)) (tried.outcome ∙ rw other) ∙ header_stops (next Ranges) again e }
+    pub named_neither : {r : Option Names} → r ≡ None → HeaderTried range_header s p None → NamesTried s p r
+    named_neither e again =
+        rw e (record { goes_on = λ next. names_other p next (lines (drop p s)) other.outcome ∙ header_stops (next Ranges) again })
 
 -- what comes behind the header line, into lists of so many minutes, lows and highs
 abbrev behind : ℕ → ℕ → ℕ → List ℕ → List ℕ → Kind → ℕ → Lines → Answer RangeContents
@@ -74,25 +69,27 @@ behind a b c zs hs k q ls =
     with_front k zs hs
     (or_next (size_refusal full a b c) (read_readings full k q no_readings ls kept_readings))
 
-after : (s : List ℕ) (p a b c : ℕ) (r : Names) → NamesTried s p r → (zs hs : List ℕ) (x : Names) → r ≡ x
-    → named_call full s p a b c zs hs ≡ after_names x s p (behind a b c zs hs)
+after : (s : List ℕ) (p a b c : ℕ) (r : Option Names) → NamesTried s p r → (zs hs : List ℕ)
+    → named_call full s p a b c zs hs ≡ after_names r s p (behind a b c zs hs)
 unfolding named_call
-after s p a b c r tried zs hs x e = tried.goes_on _ ∙ ap (λ (r : Names). after_names r s p (behind a b c zs hs)) e
+after s p a b c r tried zs hs = tried.goes_on _
 
-module _ {s : List ℕ} {p a b c : ℕ} {r : Names} (tried : NamesTried s p r) where
-  pub names_missing : {ts ls us : List ℕ} → r ≡ Unnamed → NamedOutcome s p a b c (NamedRead.Refused (record { report = BadHeader; place = p })) ts ls us
-  names_missing e = record { outcome = λ zs hs. after s p a b c r tried zs hs Unnamed e; within = tt }
+module _ {s : List ℕ} {p a b c : ℕ} {ts ls us : List ℕ} where
+  pub names_missing : {r : Refusal} → NamesTried s p None → r ≡ (record { report = BadHeader; place = p }) → NamedOutcome s p a b c (Err r) ts ls us
+  names_missing tried e = record { outcome = λ zs hs. after s p a b c None tried zs hs ∙ rw e; within = tt }
 
-  module _ {k : Kind} {q : ℕ} {x : ReadingsRead} {ts ls us : List ℕ} (named : r ≡ Named k q) (call : ReadingsOutcome s q k a b c x ts ls us) where
-    after_lines : (zs hs : List ℕ) → named_call full s p a b c zs hs ≡ with_front k zs hs (readings_read x ts ls us)
+  module _ {x : Names} (tried : NamesTried s p (Some x)) where
+    after_lines : {r : Result ℕ Refusal} → ReadingsOutcome s x.next x.kind a b c r ts ls us → (zs hs : List ℕ)
+        → named_call full s p a b c zs hs ≡ with_front x.kind zs hs (readings_read r ts ls us)
     unfolding readings_call
-    after_lines zs hs = after s p a b c r tried zs hs (Named k q) named ∙ ap (with_front k zs hs) call.outcome
+    after_lines call zs hs = after s p a b c (Some x) tried zs hs ∙ ap (with_front x.kind zs hs) call.outcome
 
-    pub lines_refused : {y : Refusal} → x ≡ ReadingsRead.Refused y → NamedOutcome s p a b c (NamedRead.Refused y) ts ls us
-    lines_refused e = record { outcome = λ zs hs. after_lines zs hs ∙ rw e; within = tt }
+    pub lines_refused : {r : Refusal} → ReadingsOutcome s x.next x.kind a b c (Err r) ts ls us → NamedOutcome s p a b c (Err r) ts ls us
+    lines_refused call = record { outcome = after_lines call; within = tt }
 
-    pub lines_kept : {n : ℕ} → x ≡ LinesKept n → NamedOutcome s p a b c (Kept k n) ts ls us
-    lines_kept e = record { outcome = λ zs hs. after_lines zs hs ∙ rw e; within = rw e at call.within }
+    pub lines_kept : {n : ℕ} → ReadingsOutcome s x.next x.kind a b c (Ok n) ts ls us
+        → NamedOutcome s p a b c (Ok (record { kind = x.kind; count = n })) ts ls us
+    lines_kept call = record { outcome = after_lines call; within = call.within }
 
 -- from the header line on, whatever stands behind it
 names_over : (p : ℕ) (ls : Lines) (next next' : Kind → ℕ → Lines → Answer RangeContents) → ((k : Kind) (q : ℕ) (r : Lines) → next k q r ≡ next' k q r)
@@ -109,7 +106,7 @@ names_over p (line t e ls) next next' h = by (same t sample_header) (same t rang
     by false false = refl
 
 -- the call with lists of full length says what the sheet is from there on
-module _ {s : List ℕ} {p a b c : ℕ} {r : NamedRead} {ts ls us : List ℕ} (call : NamedOutcome s p a b c r ts ls us) where
+module _ {s : List ℕ} {p a b c : ℕ} {r : Result Named Refusal} {ts ls us : List ℕ} (call : NamedOutcome s p a b c r ts ls us) where
   pub named_of_call : a ≡ 1024 → b ≡ 1024 → c ≡ 1024 → (zs hs : List ℕ)
       → read_either_from full (record { place = p; rest = lines (drop p s); points = zs; bandwidths = hs }) ≡ named_read r ts ls us zs hs
   unfolding named_call

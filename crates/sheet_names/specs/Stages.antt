@@ -1,6 +1,7 @@
 -- What the second header line tells, and what stands behind it, as what is left of the sheet's meaning. Each contract is one record.
-use Rattle.std.specs.Prelude.{ℕ, ◌≤◌, ◌≡◌, List, take, drop}
+use Rattle.std.specs.Prelude.{ℕ, ◌≤◌, ◌≡◌, List, take, drop, Option, Some, None, Result, Ok, Err}
 use Rattle.meanings.specs.declared.Limits.{Limits}
+use Rattle.meanings.specs.declared.Refusal.{Refusal}
 use Rattle.meanings.specs.Limits.{full}
 use Rattle.meanings.specs.Reports.{Answer, given, refused, fault_of}
 use Rattle.meanings.specs.Sheet.{Lines, lines, refused_at, or_next}
@@ -8,27 +9,25 @@ use Rattle.meanings_ranges.specs.declared.Kind.{Kind}
 use Rattle.meanings_ranges.specs.RangeSheet.{second_header, no_readings, RangeContents, read_readings}
 use Rattle.sheet_readings.specs.Stages.{KeptReadings, kept_readings, size_refusal}
 use Rattle.sheet_names.specs.declared.Names.{Names}
-use Rattle.sheet_names.specs.declared.Names.TheVariants.{Named, Unnamed}
-use Rattle.sheet_names.specs.declared.NamedRead.{NamedRead}
-use Rattle.sheet_names.specs.declared.NamedRead.TheVariants.{Kept}
+use Rattle.sheet_names.specs.declared.Named.{Named}
 
 -- after the second header line at byte p
-abbrev pub after_names : Names → List ℕ → ℕ → (Kind → ℕ → Lines → Answer RangeContents) → Answer RangeContents
-after_names (Named k q) s p next = next k q (lines (drop q s))
-after_names Unnamed s p next = refused_at p 2
+abbrev pub after_names : Option Names → List ℕ → ℕ → (Kind → ℕ → Lines → Answer RangeContents) → Answer RangeContents
+after_names (Some n) s p next = next n.kind n.next (lines (drop n.next s))
+after_names None s p next = refused_at p 2
 
-pub record NamesTried (s : List ℕ) (p : ℕ) (r : Names) : Type 0 where
+pub record NamesTried (s : List ℕ) (p : ℕ) (r : Option Names) : Type 0 where
   pub goes_on : (next : Kind → ℕ → Lines → Answer RangeContents) → second_header p (lines (drop p s)) next ≡ after_names r s p next
 
 -- after the reading lines, behind marks zs with half widths hs
-abbrev pub named_read : NamedRead → List ℕ → List ℕ → List ℕ → List ℕ → List ℕ → Answer RangeContents
-named_read (Kept k n) ts ls us zs hs =
-    given (record { kind = k; minutes = take n ts; lows = take n ls; highs = take n us; points = zs; bandwidths = hs })
-named_read (NamedRead.Refused r) ts ls us zs hs = refused (fault_of r)
+abbrev pub named_read : Result Named Refusal → List ℕ → List ℕ → List ℕ → List ℕ → List ℕ → Answer RangeContents
+named_read (Ok n) ts ls us zs hs =
+    given (record { kind = n.kind; minutes = take n.count ts; lows = take n.count ls; highs = take n.count us; points = zs; bandwidths = hs })
+named_read (Err r) ts ls us zs hs = refused (fault_of r)
 
-abbrev pub named_within : NamedRead → Type 0
-named_within (Kept k n) = n ≤ 1024
-named_within (NamedRead.Refused r) = Unit {0}
+abbrev pub named_within : Result Named Refusal → Type 0
+named_within (Ok n) = n.count ≤ 1024
+named_within (Err r) = Unit {0}
 
 -- the kept readings with the kind and the marks
 abbrev pub with_front : Kind → List ℕ → List ℕ → Answer KeptReadings → Answer RangeContents
@@ -45,6 +44,6 @@ named_call L s p a b c zs hs =
     (or_next (size_refusal L a b c) (read_readings L k q no_readings ls kept_readings)))
 
 -- what it gives, and what its lists hold; after a refusal that is left open
-pub record NamedOutcome (s : List ℕ) (p a b c : ℕ) (r : NamedRead) (ts ls us : List ℕ) : Type 0 where
+pub record NamedOutcome (s : List ℕ) (p a b c : ℕ) (r : Result Named Refusal) (ts ls us : List ℕ) : Type 0 where
   pub outcome : (zs hs : List ℕ) → named_call full s p a b c zs hs ≡ named_read r ts ls us zs hs
   pub within : named_within r

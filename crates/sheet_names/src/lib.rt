@@ -4,42 +4,40 @@
 ghost use Rattle.std.specs.Prelude.{length};
 ghost use Rattle.sheet_names.specs.Stages.{NamesTried, NamedOutcome};
 
-use meanings::{Found, Refusal, Report};
+use meanings::{Refusal, Report};
 use meanings_ranges::Kind;
 use sheet_front::skip_header;
-use sheet_readings::{ReadingsRead, read_readings};
+use sheet_readings::read_readings;
 
-// What the second header line tells: the kind, and where the next line begins; or it is another line.
+// What the second header line tells: the kind, and where the next line begins.
 #[derive(Clone, Copy)]
-pub(crate) enum Names {
-    Named { kind: Kind, next: usize },
-    Unnamed,
+pub(crate) struct Names {
+    pub kind: Kind,
+    pub next: usize,
 }
 
-// What stands from the second header line on: the kind and how many readings are kept, or the report.
+// What stands from the second header line on: the kind and how many readings are kept.
 #[derive(Clone, Copy)]
-pub enum NamedRead {
-    Kept { kind: Kind, count: usize },
-    Refused(Refusal),
+pub struct Named {
+    pub kind: Kind,
+    pub count: usize,
 }
 
-// The second header line at byte `from`, which alone tells the kind.
-pub(crate) fn second_header(sheet: &[u8], from: usize) -> Names
+// The second header line at byte `from`, which alone tells the kind, if it is one.
+pub(crate) fn second_header(sheet: &[u8], from: usize) -> Option<Names>
     ensures { NamesTried sheet.now from result }
 {
-    match skip_header(sheet, from, b"minute,inj,vdk") {
-        Found::At(next) => Names::Named {
+    if let Some(next) = skip_header(sheet, from, b"minute,inj,vdk") {
+        return Some(Names {
             kind: Kind::Plain,
             next,
-        },
-        Found::Nothing => match skip_header(sheet, from, b"minute,inj,low,high") {
-            Found::At(next) => Names::Named {
-                kind: Kind::Ranges,
-                next,
-            },
-            Found::Nothing => Names::Unnamed,
-        },
+        });
     }
+    let next = skip_header(sheet, from, b"minute,inj,low,high")?;
+    Some(Names {
+        kind: Kind::Ranges,
+        next,
+    })
 }
 
 // From the second header line at byte `from` on, into lists of any lengths. What they hold after a refusal is left open: they are a reader's own.
@@ -49,19 +47,15 @@ pub fn read_named(
     minutes: &mut [u16],
     lows: &mut [u16],
     highs: &mut [u16],
-) -> NamedRead
+) -> Result<Named, Refusal>
     ensures { NamedOutcome sheet.now from (length minutes.old) (length lows.old) (length highs.old) result minutes.new lows.new highs.new }
 {
-    match second_header(sheet, from) {
-        Names::Unnamed => NamedRead::Refused(Refusal {
-            report: Report::BadHeader,
-            place: from,
-        }),
-        Names::Named { kind, next } => match read_readings(
-            sheet, next, kind, minutes, lows, highs,
-        ) {
-            ReadingsRead::Refused(refusal) => NamedRead::Refused(refusal),
-            ReadingsRead::Kept(count) => NamedRead::Kept { kind, count },
-        },
-    }
+    let Some(names) = second_header(sheet, from) else {
+        return Err(Report::BadHeader.at(from));
+    };
+    let count = read_readings(sheet, names.next, names.kind, minutes, lows, highs)?;
+    Ok(Named {
+        kind: names.kind,
+        count,
+    })
 }

@@ -1,13 +1,15 @@
 -- What the reader of both kinds leaves in lists of the right lengths, as one record.
-use Rattle.std.specs.Prelude.{ℕ, ◌≡◌, List}
+use Rattle.std.specs.Prelude.{ℕ, ◌≡◌, List, Result}
 use Rattle.meanings.specs.Limits.{full}
-use Rattle.meanings_ranges.specs.declared.RangeParsing.{RangeParsing}
+use Rattle.meanings.specs.declared.Refusal.{Refusal}
+use Rattle.meanings.specs.Calls.{answer_of}
+use Rattle.meanings_ranges.specs.declared.RangeCounts.{RangeCounts}
 use Rattle.meanings_ranges.specs.RangeSheet.{read_either}
-use Rattle.meanings_ranges.specs.RangeCalls.{range_parsing_answer, range_counts, range_front, minutes_of, lows_of, highs_of, points_of, bandwidths_of}
+use Rattle.meanings_ranges.specs.RangeCalls.{range_counts, range_front, minutes_of, lows_of, highs_of, points_of, bandwidths_of}
 
 -- the sheet read into lists of the right lengths, which hold what the meaning says afterwards
-pub record ReadInto (s ts ls us zs hs : List ℕ) (r : RangeParsing) (ts' ls' us' zs' hs' : List ℕ) : Type 0 where
-  pub answer : range_parsing_answer r ≡ range_counts (read_either full s)
+pub record ReadInto (s ts ls us zs hs : List ℕ) (r : Result RangeCounts Refusal) (ts' ls' us' zs' hs' : List ℕ) : Type 0 where
+  pub answer : answer_of r ≡ range_counts (read_either full s)
   pub minutes : ts' ≡ range_front (read_either full s) minutes_of ts
   pub lows : ls' ≡ range_front (read_either full s) lows_of ls
   pub highs : us' ≡ range_front (read_either full s) highs_of us

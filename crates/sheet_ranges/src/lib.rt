@@ -3,13 +3,14 @@
 
 ghost use Rattle.std.specs.Prelude.{◌≡◌, length};
 ghost use Rattle.meanings.specs.Limits.{full};
-ghost use Rattle.meanings_ranges.specs.RangeCalls.{range_parsing_answer, range_counts, range_front, read_ranges, minutes_of, lows_of};
+ghost use Rattle.meanings.specs.Calls.{answer_of};
+ghost use Rattle.meanings_ranges.specs.RangeCalls.{range_counts, range_front, read_ranges, minutes_of, lows_of};
 ghost use Rattle.meanings_ranges.specs.RangeCalls.{highs_of, points_of, bandwidths_of};
 ghost use Rattle.sheet_ranges.specs.Stages.{ReadInto};
 
 use checks_reader::uneven_reader;
 use meanings::{Refusal, Report};
-use meanings_ranges::RangeParsing;
+use meanings_ranges::RangeCounts;
 use range_fronts::{put_points, put_samples};
 use sheet_scan::scan_sheet;
 
@@ -21,7 +22,7 @@ pub(crate) fn read_into(
     highs: &mut [u16],
     points: &mut [u16],
     bandwidths: &mut [u32],
-) -> RangeParsing
+) -> Result<RangeCounts, Refusal>
     requires { (length minutes.old ≡ 1024) × (length lows.old ≡ 1024) × (length highs.old ≡ 1024) × (length points.old ≡ 512) × (length bandwidths.old ≡ 512) }
     ensures { ReadInto sheet.now minutes.old lows.old highs.old points.old bandwidths.old result minutes.new lows.new highs.new points.new bandwidths.new }
 {
@@ -30,22 +31,10 @@ pub(crate) fn read_into(
     let mut us = [0u16; 1024];
     let mut zs = [0u16; 512];
     let mut hs = [0u32; 512];
-    match scan_sheet(sheet, &mut ts, &mut ls, &mut us, &mut zs, &mut hs) {
-        RangeParsing::Refused(refusal) => RangeParsing::Refused(refusal),
-        RangeParsing::Used {
-            samples: n,
-            points: m,
-            kind,
-        } => {
-            put_samples(&ts, &ls, &us, n, minutes, lows, highs);
-            put_points(&zs, &hs, m, points, bandwidths);
-            RangeParsing::Used {
-                samples: n,
-                points: m,
-                kind,
-            }
-        }
-    }
+    let used = scan_sheet(sheet, &mut ts, &mut ls, &mut us, &mut zs, &mut hs)?;
+    put_samples(&ts, &ls, &us, used.samples, minutes, lows, highs);
+    put_points(&zs, &hs, used.points, points, bandwidths);
+    Ok(used)
 }
 
 // The reader, for lent lists of any lengths.
@@ -56,8 +45,8 @@ pub fn read_ranges(
     highs: &mut [u16],
     points: &mut [u16],
     bandwidths: &mut [u32],
-) -> RangeParsing
-    ensures result_value { range_parsing_answer result ≡ range_counts (read_ranges full sheet.now minutes.old lows.old highs.old points.old bandwidths.old) }
+) -> Result<RangeCounts, Refusal>
+    ensures result_value { answer_of result ≡ range_counts (read_ranges full sheet.now minutes.old lows.old highs.old points.old bandwidths.old) }
     ensures minutes_after { minutes.new ≡ range_front (read_ranges full sheet.now minutes.old lows.old highs.old points.old bandwidths.old) minutes_of minutes.old }
     ensures lows_after { lows.new ≡ range_front (read_ranges full sheet.now minutes.old lows.old highs.old points.old bandwidths.old) lows_of lows.old }
     ensures highs_after { highs.new ≡ range_front (read_ranges full sheet.now minutes.old lows.old highs.old points.old bandwidths.old) highs_of highs.old }
@@ -71,10 +60,7 @@ pub fn read_ranges(
         points.len(),
         bandwidths.len(),
     ) {
-        return RangeParsing::Refused(Refusal {
-            report: Report::LengthMismatch,
-            place: 0,
-        });
+        return Err(Report::LengthMismatch.at(0));
     }
     read_into(sheet, minutes, lows, highs, points, bandwidths)
 }

@@ -2,7 +2,7 @@
 use Prim.Native.Nat.{ℕ}
 use mathlib.Core.Path.{◌≡◌, refl, sym, ◌∙◌}
 use mathlib.Core.List.{List, [], ◌∷◌, ◌++◌}
-use mathlib.Core.Option.{Option, none, some}
+use Rattle.std.specs.Prelude.{Option, None, Some}
 use native.Mathlib.Omega.{arith}
 use borrow.Author.Tests.{le-ltb}
 use lib.Dec.{ltb}
@@ -44,8 +44,8 @@ alike_lines L k p a b ts ls us (line t d r) e =
         ≡ read_readings L k q (after (b ++ m ∷ []) ts' ls' us') r kept_readings)
         → with_reading L p (after a ts ls us) o (λ w. read_readings L k q w r kept_readings)
         ≡ with_reading L p (after b ts ls us) o (λ w. read_readings L k q w r kept_readings)
-    by none h = refl
-    by (some j) h =
+    by None h = refl
+    by (Some j) h =
         rw (
           e j.minute,
           h j.minute (add_kept (kept_range j) j.minute ts) (add_kept (kept_range j) j.low ls) (add_kept (kept_range j) j.high us),

@@ -1,3 +1,2 @@
 pub mod LastMinutes
 pub mod ReadingLoop
-pub mod Stores

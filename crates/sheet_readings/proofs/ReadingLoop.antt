@@ -2,7 +2,7 @@
 use Prim.Native.Nat.{ℕ, ◌-◌, ◌≤◌, ◌<◌}
 use mathlib.Core.Path.{◌≡◌, refl, sym, ap, ◌∙◌}
 use mathlib.Core.List.{List, [], ◌∷◌}
-use mathlib.Core.Option.{none}
+use Rattle.std.specs.Prelude.{Result, Some, None, Ok, Err}
 use native.Mathlib.Omega.{arith}
 use lib.ListN.{length, take, drop, drop_of_length-le, length-drop}
 use Rattle.meanings.specs.declared.Report.TheVariants.{MalformedLine, LengthMismatch}
@@ -14,22 +14,18 @@ use Rattle.laws_text.proofs.Texts.{no_lines}
 use Rattle.meanings_ranges.specs.declared.Kind.{Kind}
 use Rattle.meanings_ranges.specs.RangeSheet.{Readings, no_readings, reading_line, with_reading, read_readings}
 use Rattle.sheet_lines.specs.declared.Line.{Line}
-use Rattle.sheet_lines.specs.declared.Line.TheVariants.{Ended, Unended}
-use Rattle.sheet_lines.specs.Lines.{line_bounds, first_end, line_at}
-use Rattle.sheet_lines.proofs.LineEnds.{LineFound, ended_line, unended_line}
-use Rattle.sheet_readings.specs.declared.ReadingStored.{ReadingStored}
-use Rattle.sheet_readings.specs.declared.ReadingStored.TheVariants.{Stored}
-use Rattle.sheet_readings.specs.declared.ReadingsRead.{ReadingsRead}
-use Rattle.sheet_readings.specs.declared.ReadingsRead.TheVariants.{Kept}
+use Rattle.sheet_lines.specs.Lines.{first_end, line_at}
+use Rattle.sheet_lines.proofs.LineEnds.{LineFound, ended_line}
+use Rattle.sheet_readings.specs.declared.Progress.{Progress}
 use Rattle.sheet_readings.specs.Stages.{read_so_far, kept_readings, ReadingTried, ReadingsFound, readings_call, ReadingsOutcome}
 use Rattle.sheet_readings.proofs.LastMinutes.{first_minute, last_minute}
 
-readings_without_line : (s : List ℕ) (k : Kind) (p : ℕ) (w : Readings) → p < length s → line_at s p ≡ none
+readings_without_line : (s : List ℕ) (k : Kind) (p : ℕ) (w : Readings) → p < length s → line_at s p ≡ None
     → read_readings full k p w (lines (drop p s)) kept_readings ≡ refused_at p 3
 unfolding line_at
 readings_without_line s k p w l h = by (lines (drop p s)) refl h
   where
-    by : (r : Lines) → lines (drop p s) ≡ r → first_end p r ≡ none → read_readings full k p w r kept_readings ≡ refused_at p 3
+    by : (r : Lines) → lines (drop p s) ≡ r → first_end p r ≡ None → read_readings full k p w r kept_readings ≡ refused_at p 3
     by end g h = let m = sym (length-drop p s) ∙ ap length (no_lines (drop p s) g) in absurd (omega arith)
     by (unended t) g h = refl
     by (line t d r) g h = let z : ◌≡◌ {A = ℕ} 0 1 = cc in absurd (omega arith)
@@ -39,21 +35,21 @@ readings_at_line : (s : List ℕ) (k : Kind) (p e n : ℕ) (w : Readings) → Li
     ≡ with_reading full p w (reading_line k (take (e - p) (drop p s))) (λ w'. read_readings full k n w' (lines (drop n s)) kept_readings)
 readings_at_line s k p e n w f = rw (f.first_of_lines, f.passes)
 
--- the lines from byte `from` up to byte p are read, count of them are kept in three lists, and the last one's minute is `last`; the lists have
--- their lengths, those of the lent ones
-pub record ReadingsSoFar (s : List ℕ) (from : ℕ) (k : Kind) (ts₀ ls₀ us₀ ts ls us : List ℕ) (p count last : ℕ) : Type 0 where
+-- the lines from byte `from` up to byte p are read, as far as f tells; those that are kept stand in three lists; the lists have their lengths,
+-- those of the lent ones
+pub record ReadingsSoFar (s : List ℕ) (from : ℕ) (k : Kind) (ts₀ ls₀ us₀ ts ls us : List ℕ) (p : ℕ) (f : Progress) : Type 0 where
   pub minute_list : length ts ≡ 1024
   pub low_list : length ls ≡ 1024
   pub high_list : length us ≡ 1024
   pub minutes_lent : length ts ≡ length ts₀
   pub lows_lent : length ls ≡ length ls₀
   pub highs_lent : length us ≡ length us₀
-  pub few : count ≤ 1024
+  pub few : f.count ≤ 1024
   pub left : read_readings full k from no_readings (lines (drop from s)) kept_readings
-      ≡ read_readings full k p (read_so_far (last ∷ []) count ts ls us) (lines (drop p s)) kept_readings
+      ≡ read_readings full k p (read_so_far (f.last ∷ []) f.count ts ls us) (lines (drop p s)) kept_readings
 
 pub readings_begin : {s : List ℕ} {from : ℕ} {k : Kind} {ts ls us : List ℕ} → length ts ≡ 1024 → length ls ≡ 1024 → length us ≡ 1024
-    → ReadingsSoFar s from k ts ls us ts ls us from 0 0
+    → ReadingsSoFar s from k ts ls us ts ls us from (record { count = 0; last = 0 })
 readings_begin {s} {from} {k} a b c =
     record {
       minute_list = a;
@@ -66,24 +62,24 @@ readings_begin {s} {from} {k} a b c =
       left = first_minute full k from [] [] [] (lines (drop from s));
     }
 
-module _ {s : List ℕ} {from : ℕ} {k : Kind} {ts₀ ls₀ us₀ ts ls us : List ℕ} {p count last : ℕ}
-    (w : ReadingsSoFar s from k ts₀ ls₀ us₀ ts ls us p count last) where
-  pub readings_end : length s ≤ p → ReadingsFound s from k (Kept count) ts ls us
+module _ {s : List ℕ} {from : ℕ} {k : Kind} {ts₀ ls₀ us₀ ts ls us : List ℕ} {p : ℕ} {f : Progress}
+    (w : ReadingsSoFar s from k ts₀ ls₀ us₀ ts ls us p f) where
+  pub readings_end : length s ≤ p → ReadingsFound s from k (Ok f.count) ts ls us
   readings_end l = record { outcome = w.left ∙ rw (drop_of_length-le s l); within = w.few }
 
-  pub reading_line_unended : {l : Line} → p < length s → line_bounds l ≡ line_at s p → l ≡ Unended
-      → ReadingsFound s from k (ReadingsRead.Refused (record { report = MalformedLine; place = p })) ts ls us
-  reading_line_unended l t u = record { outcome = w.left ∙ readings_without_line s k p _ l (unended_line _ _ t u); within = tt }
+  pub reading_line_unended : {r : Refusal} → p < length s → None ≡ line_at s p → r ≡ (record { report = MalformedLine; place = p })
+      → ReadingsFound s from k (Err r) ts ls us
+  reading_line_unended l t e = record { outcome = w.left ∙ readings_without_line s k p _ l (sym t) ∙ rw e; within = tt }
 
   -- a line, tried
-  module _ {l : Line} {e n : ℕ} {r : ReadingStored} {ts' ls' us' : List ℕ} (t : line_bounds l ≡ line_at s p) (f : l ≡ Ended e n)
-      (tried : ReadingTried k (take (e - p) (drop p s)) p ts ls us count last r ts' ls' us') where
-    pub reading_line_refused : {x : Refusal} → r ≡ ReadingStored.Refused x → ReadingsFound s from k (ReadingsRead.Refused x) ts' ls' us'
-    reading_line_refused u = record { outcome = w.left ∙ readings_at_line s k p e n _ (ended_line t f) ∙ tried.goes_on _ ∙ rw u; within = tt }
+  module _ {l : Line} (t : Some l ≡ line_at s p) {ts' ls' us' : List ℕ} where
+    pub reading_line_refused : {r : Refusal} → ReadingTried k (take (l.end - p) (drop p s)) p ts ls us f (Err r) ts' ls' us'
+        → ReadingsFound s from k (Err r) ts' ls' us'
+    reading_line_refused tried = record { outcome = w.left ∙ readings_at_line s k p _ _ _ (ended_line t) ∙ tried.goes_on _; within = tt }
 
-    pub readings_go_on : {count' m : ℕ} → r ≡ Stored count' m → length ts' ≡ length ts → length ls' ≡ length ls → length us' ≡ length us
-        → ReadingsSoFar s from k ts₀ ls₀ us₀ ts' ls' us' n count' m
-    readings_go_on {count'} {m} u a b c =
+    pub readings_go_on : {g : Progress} → ReadingTried k (take (l.end - p) (drop p s)) p ts ls us f (Ok g) ts' ls' us' → length ts' ≡ length ts
+        → length ls' ≡ length ls → length us' ≡ length us → ReadingsSoFar s from k ts₀ ls₀ us₀ ts' ls' us' l.next g
+    readings_go_on {g} tried a b c =
         record {
           minute_list = a ∙ w.minute_list;
           low_list = b ∙ w.low_list;
@@ -91,29 +87,29 @@ module _ {s : List ℕ} {from : ℕ} {k : Kind} {ts₀ ls₀ us₀ ts ls us : Li
           minutes_lent = a ∙ w.minutes_lent;
           lows_lent = b ∙ w.lows_lent;
           highs_lent = c ∙ w.highs_lent;
-          few = rw u at tried.within;
+          few = tried.within;
           left =
-              w.left ∙ readings_at_line s k p e n _ (ended_line t f) ∙ tried.goes_on _
-              ∙ rw u (last_minute full k n last m (take count' ts') (take count' ls') (take count' us') (lines (drop n s)));
+              w.left ∙ readings_at_line s k p _ _ _ (ended_line t) ∙ tried.goes_on _
+              ∙ last_minute full k l.next f.last g.last (take g.count ts') (take g.count ls') (take g.count us') (lines (drop l.next s));
         }
 
 -- the lengths of the lists, tested
 module _ {s : List ℕ} {from : ℕ} {k : Kind} {ts ls us : List ℕ} {a b c : ℕ} where
-  pub minutes_uneven : ¬ (a ≡ 1024) → ReadingsOutcome s from k a b c (ReadingsRead.Refused (record { report = LengthMismatch; place = 0 })) ts ls us
+  pub minutes_uneven : {r : Refusal} → ¬ (a ≡ 1024) → r ≡ (record { report = LengthMismatch; place = 0 }) → ReadingsOutcome s from k a b c (Err r) ts ls us
   unfolding readings_call
-  minutes_uneven e = record { outcome = rw (differ_true a 1024 e); within = tt }
+  minutes_uneven d e = record { outcome = rw (differ_true a 1024 d, e); within = tt }
 
   module _ (x : a ≡ 1024) where
-    pub lows_uneven : ¬ (b ≡ 1024) → ReadingsOutcome s from k a b c (ReadingsRead.Refused (record { report = LengthMismatch; place = 0 })) ts ls us
+    pub lows_uneven : {r : Refusal} → ¬ (b ≡ 1024) → r ≡ (record { report = LengthMismatch; place = 0 }) → ReadingsOutcome s from k a b c (Err r) ts ls us
     unfolding readings_call
-    lows_uneven e = record { outcome = rw (differ_same a 1024 x, differ_true b 1024 e); within = tt }
+    lows_uneven d e = record { outcome = rw (differ_same a 1024 x, differ_true b 1024 d, e); within = tt }
 
     module _ (y : b ≡ 1024) where
-      pub highs_uneven : ¬ (c ≡ 1024) → ReadingsOutcome s from k a b c (ReadingsRead.Refused (record { report = LengthMismatch; place = 0 })) ts ls us
+      pub highs_uneven : {r : Refusal} → ¬ (c ≡ 1024) → r ≡ (record { report = LengthMismatch; place = 0 }) → ReadingsOutcome s from k a b c (Err r) ts ls us
       unfolding readings_call
-      highs_uneven e = record { outcome = rw (differ_same a 1024 x, differ_same b 1024 y, differ_true c 1024 e); within = tt }
+      highs_uneven d e = record { outcome = rw (differ_same a 1024 x, differ_same b 1024 y, differ_true c 1024 d, e); within = tt }
 
-      pub even_outcome : {r : ReadingsRead} → c ≡ 1024 → ReadingsFound s from k r ts ls us → ReadingsOutcome s from k a b c r ts ls us
+      pub even_outcome : {r : Result ℕ Refusal} → c ≡ 1024 → ReadingsFound s from k r ts ls us → ReadingsOutcome s from k a b c r ts ls us
       unfolding readings_call
       even_outcome z f =
           record { outcome = rw (differ_same a 1024 x, differ_same b 1024 y, differ_same c 1024 z) f.outcome; within = f.within }

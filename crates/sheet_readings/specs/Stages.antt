@@ -1,18 +1,16 @@
 -- What the reading lines have given, as what is left of their meaning: a contract says that the meaning before a stage is the meaning of what the
 -- stage gives. Each contract is one record.
 use Rattle.std.specs.Prelude.{ℕ, ◌≤◌, ◌≡◌, ◌||◌, List, [], ◌∷◌, take, drop}
-use Rattle.std.proofs.Math.Option.{Option}
+use Rattle.std.specs.Prelude.{Option, Result, Ok, Err}
 use Rattle.meanings.specs.declared.Limits.{Limits}
+use Rattle.meanings.specs.declared.Refusal.{Refusal}
 use Rattle.meanings.specs.Limits.{full}
 use Rattle.meanings.specs.Reports.{Fault, Answer, given, refused, fault_of, check, at, first_of, differ}
 use Rattle.meanings.specs.Sheet.{lines, or_next}
 use Rattle.meanings_ranges.specs.declared.Kind.{Kind}
 use Rattle.meanings_ranges.specs.RangeSheet.{Readings, no_readings, reading_line, with_reading}
 use Rattle.meanings_ranges.specs.RangeSheet.{read_readings as read_readings_meaning}
-use Rattle.sheet_readings.specs.declared.ReadingStored.{ReadingStored}
-use Rattle.sheet_readings.specs.declared.ReadingStored.TheVariants.{Stored}
-use Rattle.sheet_readings.specs.declared.ReadingsRead.{ReadingsRead}
-use Rattle.sheet_readings.specs.declared.ReadingsRead.TheVariants.{Kept}
+use Rattle.sheet_readings.specs.declared.Progress.{Progress}
 
 -- of all lines their minutes ms, and the first n of three lists
 abbrev pub read_so_far : List ℕ → ℕ → List ℕ → List ℕ → List ℕ → Readings
@@ -28,30 +26,30 @@ abbrev pub kept_readings : Readings → Answer KeptReadings
 kept_readings r = given (record { minutes = r.minutes; lows = r.lows; highs = r.highs })
 
 -- after a reading line; last is the minute of the line before it
-abbrev pub reading_stored : ReadingStored → ℕ → List ℕ → List ℕ → List ℕ → (Readings → Answer KeptReadings) → Answer KeptReadings
-reading_stored (Stored n minute) last ts ls us next = next (read_so_far (last ∷ minute ∷ []) n ts ls us)
-reading_stored (ReadingStored.Refused r) last ts ls us next = refused (fault_of r)
+abbrev pub reading_stored : Result Progress Refusal → ℕ → List ℕ → List ℕ → List ℕ → (Readings → Answer KeptReadings) → Answer KeptReadings
+reading_stored (Ok w) last ts ls us next = next (read_so_far (last ∷ w.last ∷ []) w.count ts ls us)
+reading_stored (Err r) last ts ls us next = refused (fault_of r)
 
-abbrev pub stored_within : ReadingStored → Type 0
-stored_within (Stored n minute) = n ≤ 1024
-stored_within (ReadingStored.Refused r) = Unit {0}
+abbrev pub stored_within : Result Progress Refusal → Type 0
+stored_within (Ok w) = w.count ≤ 1024
+stored_within (Err r) = Unit {0}
 
--- a reading line with text t at byte p, after the first n readings of three lists, which are ts', ls' and us' afterwards
-pub record ReadingTried (k : Kind) (t : List ℕ) (p : ℕ) (ts ls us : List ℕ) (n last : ℕ) (r : ReadingStored) (ts' ls' us' : List ℕ) : Type 0 where
-  pub goes_on : (next : Readings → Answer KeptReadings) → with_reading full p (read_so_far (last ∷ []) n ts ls us) (reading_line k t) next
-      ≡ reading_stored r last ts' ls' us' next
+-- a reading line with text t at byte p, after the first readings of three lists, as many as w says, which are ts', ls' and us' afterwards
+pub record ReadingTried (k : Kind) (t : List ℕ) (p : ℕ) (ts ls us : List ℕ) (w : Progress) (r : Result Progress Refusal) (ts' ls' us' : List ℕ) : Type 0 where
+  pub goes_on : (next : Readings → Answer KeptReadings) → with_reading full p (read_so_far (w.last ∷ []) w.count ts ls us) (reading_line k t) next
+      ≡ reading_stored r w.last ts' ls' us' next
   pub within : stored_within r
 
 -- after the reading lines
-abbrev pub readings_read : ReadingsRead → List ℕ → List ℕ → List ℕ → Answer KeptReadings
-readings_read (Kept n) ts ls us = given (record { minutes = take n ts; lows = take n ls; highs = take n us })
-readings_read (ReadingsRead.Refused r) ts ls us = refused (fault_of r)
+abbrev pub readings_read : Result ℕ Refusal → List ℕ → List ℕ → List ℕ → Answer KeptReadings
+readings_read (Ok n) ts ls us = given (record { minutes = take n ts; lows = take n ls; highs = take n us })
+readings_read (Err r) ts ls us = refused (fault_of r)
 
-abbrev pub readings_within : ReadingsRead → Type 0
-readings_within (Kept n) = n ≤ 1024
-readings_within (ReadingsRead.Refused r) = Unit {0}
+abbrev pub readings_within : Result ℕ Refusal → Type 0
+readings_within (Ok n) = n ≤ 1024
+readings_within (Err r) = Unit {0}
 
-pub record ReadingsFound (s : List ℕ) (from : ℕ) (k : Kind) (r : ReadingsRead) (ts ls us : List ℕ) : Type 0 where
+pub record ReadingsFound (s : List ℕ) (from : ℕ) (k : Kind) (r : Result ℕ Refusal) (ts ls us : List ℕ) : Type 0 where
   pub outcome : read_readings_meaning full k from no_readings (lines (drop from s)) kept_readings ≡ readings_read r ts ls us
   pub within : readings_within r
 
@@ -65,6 +63,6 @@ readings_call L s from k a b c =
     or_next (size_refusal L a b c) (read_readings_meaning L k from no_readings (lines (drop from s)) kept_readings)
 
 -- what it gives, and what its lists hold; after a refusal that is left open
-pub record ReadingsOutcome (s : List ℕ) (from : ℕ) (k : Kind) (a b c : ℕ) (r : ReadingsRead) (ts ls us : List ℕ) : Type 0 where
+pub record ReadingsOutcome (s : List ℕ) (from : ℕ) (k : Kind) (a b c : ℕ) (r : Result ℕ Refusal) (ts ls us : List ℕ) : Type 0 where
   pub outcome : readings_call full s from k a b c ≡ readings_read r ts ls us
   pub within : readings_within r

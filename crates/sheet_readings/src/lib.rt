@@ -6,25 +6,16 @@ ghost use Rattle.sheet_readings.specs.Stages.{ReadingTried, ReadingsFound, Readi
 
 use meanings::{Refusal, Report};
 use meanings_ranges::Kind;
-use range_values::{ReadingLine, reading_line};
-use sheet_lines::Line;
+use range_values::reading_line;
 
-// What a reading line gives: how many readings are kept with it, and its minute, or the report.
+// How far the reading lines are read: how many readings are kept, and the minute of the line before, 0 at the first.
 #[derive(Clone, Copy)]
-pub(crate) enum ReadingStored {
-    Stored { count: usize, minute: u16 },
-    Refused(Refusal),
+pub(crate) struct Progress {
+    pub count: usize,
+    pub last: u16,
 }
 
-// What the reading lines give: how many are kept, or the report.
-#[derive(Clone, Copy)]
-pub enum ReadingsRead {
-    Kept(usize),
-    Refused(Refusal),
-}
-
-// Stores the reading of a line's text behind the first `count` if it is kept, or says what the line earns: 3, 4, 15, 6. `last` is the minute of
-// the line before, 0 at the first.
+// Stores the reading of a line's text behind those that are kept, if it is kept too, or says what the line earns: 3, 4, 15, 6.
 pub(crate) fn store_reading(
     kind: Kind,
     text: &[u8],
@@ -32,55 +23,40 @@ pub(crate) fn store_reading(
     minutes: &mut [u16],
     lows: &mut [u16],
     highs: &mut [u16],
-    count: usize,
-    last: u16,
-) -> ReadingStored
-    requires { (length minutes.old ≡ 1024) × (length lows.old ≡ 1024) × (length highs.old ≡ 1024) × (count ≤ 1024) }
-    ensures { ReadingTried kind text.now place minutes.old lows.old highs.old count last result minutes.new lows.new highs.new }
+    so_far: Progress,
+) -> Result<Progress, Refusal>
+    requires { (length minutes.old ≡ 1024) × (length lows.old ≡ 1024) × (length highs.old ≡ 1024) × (so_far.count ≤ 1024) }
+    ensures { ReadingTried kind text.now place minutes.old lows.old highs.old so_far result minutes.new lows.new highs.new }
 {
-    let ReadingLine::Reading {
-        minute,
-        injection,
-        low,
-        high,
-    } = reading_line(kind, text)
-    else {
-        return ReadingStored::Refused(Refusal {
-            report: Report::MalformedLine,
-            place,
-        });
+    let Some(line) = reading_line(kind, text) else {
+        return Err(Report::MalformedLine.at(place));
     };
-    if minute < last {
-        return ReadingStored::Refused(Refusal {
-            report: Report::SampleOutOfOrder,
-            place,
-        });
+    let Progress { count, last } = so_far;
+    if line.minute < last {
+        return Err(Report::SampleOutOfOrder.at(place));
     }
-    if high < low {
-        return ReadingStored::Refused(Refusal {
-            report: Report::CrossedRange,
-            place,
-        });
+    if line.high < line.low {
+        return Err(Report::CrossedRange.at(place));
     }
-    if injection <= 2 {
-        return ReadingStored::Stored { count, minute };
+    if line.injection <= 2 {
+        return Ok(Progress {
+            count,
+            last: line.minute,
+        });
     }
     if 1024 <= count {
-        return ReadingStored::Refused(Refusal {
-            report: Report::TooMany,
-            place,
-        });
+        return Err(Report::TooMany.at(place));
     }
-    minutes[count] = minute;
-    lows[count] = low;
-    highs[count] = high;
-    ReadingStored::Stored {
+    minutes[count] = line.minute;
+    lows[count] = line.low;
+    highs[count] = line.high;
+    Ok(Progress {
         count: count + 1,
-        minute,
-    }
+        last: line.minute,
+    })
 }
 
-// The reading lines from byte `from` on, to the sheet's end, into lists of full length.
+// The reading lines from byte `from` on, to the sheet's end, into lists of full length: how many readings are kept.
 pub(crate) fn scan_readings(
     sheet: &[u8],
     from: usize,
@@ -88,30 +64,20 @@ pub(crate) fn scan_readings(
     minutes: &mut [u16],
     lows: &mut [u16],
     highs: &mut [u16],
-) -> ReadingsRead
+) -> Result<usize, Refusal>
     requires { (length minutes.old ≡ 1024) × (length lows.old ≡ 1024) × (length highs.old ≡ 1024) }
     ensures { ReadingsFound sheet.now from kind result minutes.new lows.new highs.new }
 {
     let mut at = from;
-    let mut count = 0;
-    let mut last = 0u16;
+    let mut so_far = Progress { count: 0, last: 0 };
     while at < sheet.len() {
-        let Line::Ended { end, next } = sheet_lines::find_line(sheet, at) else {
-            return ReadingsRead::Refused(Refusal {
-                report: Report::MalformedLine,
-                place: at,
-            });
+        let Some(line) = sheet_lines::find_line(sheet, at) else {
+            return Err(Report::MalformedLine.at(at));
         };
-        match store_reading(kind, &sheet[at..end], at, minutes, lows, highs, count, last) {
-            ReadingStored::Refused(refusal) => return ReadingsRead::Refused(refusal),
-            ReadingStored::Stored { count: n, minute } => {
-                count = n;
-                last = minute;
-                at = next;
-            }
-        }
+        so_far = store_reading(kind, &sheet[at..line.end], at, minutes, lows, highs, so_far)?;
+        at = line.next;
     }
-    ReadingsRead::Kept(count)
+    Ok(so_far.count)
 }
 
 // The same for lists of any lengths. What the lists hold after a refusal is left open: they are a reader's own.
@@ -122,26 +88,17 @@ pub fn read_readings(
     minutes: &mut [u16],
     lows: &mut [u16],
     highs: &mut [u16],
-) -> ReadingsRead
+) -> Result<usize, Refusal>
     ensures { ReadingsOutcome sheet.now from kind (length minutes.old) (length lows.old) (length highs.old) result minutes.new lows.new highs.new }
 {
     if minutes.len() != 1024 {
-        return ReadingsRead::Refused(Refusal {
-            report: Report::LengthMismatch,
-            place: 0,
-        });
+        return Err(Report::LengthMismatch.at(0));
     }
     if lows.len() != 1024 {
-        return ReadingsRead::Refused(Refusal {
-            report: Report::LengthMismatch,
-            place: 0,
-        });
+        return Err(Report::LengthMismatch.at(0));
     }
     if highs.len() != 1024 {
-        return ReadingsRead::Refused(Refusal {
-            report: Report::LengthMismatch,
-            place: 0,
-        });
+        return Err(Report::LengthMismatch.at(0));
     }
     scan_readings(sheet, from, kind, minutes, lows, highs)
 }

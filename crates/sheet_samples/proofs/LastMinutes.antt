@@ -2,7 +2,7 @@
 use Prim.Native.Nat.{ℕ}
 use mathlib.Core.Path.{◌≡◌, refl, sym, ◌∙◌}
 use mathlib.Core.List.{List, [], ◌∷◌, ◌++◌}
-use mathlib.Core.Option.{Option, none, some}
+use Rattle.std.specs.Prelude.{Option, None, Some}
 use native.Mathlib.Omega.{arith}
 use borrow.Author.Tests.{le-ltb}
 use lib.Dec.{ltb}
@@ -34,8 +34,8 @@ alike_lines L zs hs p a b ts vs (line t d ls) e =
         → ((m : ℕ) (ts' vs' : List ℕ) → read_samples L zs hs q (a ++ m ∷ []) ts' vs' ls ≡ read_samples L zs hs q (b ++ m ∷ []) ts' vs' ls)
         → with_sample L p a ts vs o (λ all' ts' vs'. read_samples L zs hs q all' ts' vs' ls)
         ≡ with_sample L p b ts vs o (λ all' ts' vs'. read_samples L zs hs q all' ts' vs' ls)
-    by none k = refl
-    by (some j) k = rw (e j.minute, k j.minute (add_kept (kept j) j.minute ts) (add_kept (kept j) j.value vs))
+    by None k = refl
+    by (Some j) k = rw (e j.minute, k j.minute (add_kept (kept j) j.minute ts) (add_kept (kept j) j.value vs))
 
 pub first_minute : (L : Limits) (zs hs : List ℕ) (p : ℕ) (ts vs : List ℕ) (ls : Lines)
     → read_samples L zs hs p [] ts vs ls ≡ read_samples L zs hs p (0 ∷ []) ts vs ls

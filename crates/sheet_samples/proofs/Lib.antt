@@ -1,4 +1,3 @@
 pub mod LastMinutes
 pub mod LineSteps
 pub mod SampleLoop
-pub mod Stores

@@ -2,7 +2,7 @@
 use Prim.Native.Nat.{ℕ, ◌-◌, ◌<◌}
 use mathlib.Core.Path.{◌≡◌, refl, sym, ap, ◌∙◌}
 use mathlib.Core.List.{List}
-use mathlib.Core.Option.{none}
+use Rattle.std.specs.Prelude.{None}
 use native.Mathlib.Omega.{arith}
 use lib.ListN.{length, take, drop, length-drop}
 use Rattle.meanings.specs.declared.Limits.{Limits}
@@ -11,12 +11,12 @@ use Rattle.laws_text.proofs.Texts.{no_lines}
 use Rattle.sheet_lines.specs.Lines.{first_end, line_at}
 use Rattle.sheet_lines.proofs.LineEnds.{LineFound}
 
-pub samples_without_line : (L : Limits) (s zs hs : List ℕ) (p : ℕ) (all ts vs : List ℕ) → p < length s → line_at s p ≡ none
+pub samples_without_line : (L : Limits) (s zs hs : List ℕ) (p : ℕ) (all ts vs : List ℕ) → p < length s → line_at s p ≡ None
     → read_samples L zs hs p all ts vs (lines (drop p s)) ≡ refused_at p 3
 unfolding line_at
 samples_without_line L s zs hs p all ts vs l h = by (lines (drop p s)) refl h
   where
-    by : (ls : Lines) → lines (drop p s) ≡ ls → first_end p ls ≡ none → read_samples L zs hs p all ts vs ls ≡ refused_at p 3
+    by : (ls : Lines) → lines (drop p s) ≡ ls → first_end p ls ≡ None → read_samples L zs hs p all ts vs ls ≡ refused_at p 3
     by end g h = let m = sym (length-drop p s) ∙ ap length (no_lines (drop p s) g) in absurd (omega arith)
     by (unended t) g h = refl
     by (line t d ls) g h = let z : ◌≡◌ {A = ℕ} 0 1 = cc in absurd (omega arith)

@@ -4,102 +4,72 @@
 ghost use Rattle.std.specs.Prelude.{◌≡◌, ◌≤◌, length};
 ghost use Rattle.sheet_samples.specs.Stages.{SampleTried, SamplesFound, SamplesOutcome};
 
-use meanings::{Found, Refusal, Report};
+use meanings::{Refusal, Report};
 use sheet_front::skip_header;
-use sheet_lines::Line;
-use sheet_values::SampleLine;
 
-// What a reading line gives: how many readings are kept with it, and its minute, or the report.
+// How far the reading lines are read: how many readings are kept, and the minute of the line before, 0 at the first. What reads them stands beside
+// that of crates/sheet_readings: one for both kinds would take a third list of 1,024 numbers from the stack of the plain reader.
 #[derive(Clone, Copy)]
-pub(crate) enum SampleStored {
-    Stored { count: usize, minute: u16 },
-    Refused(Refusal),
+pub(crate) struct Progress {
+    pub count: usize,
+    pub last: u16,
 }
 
-// What the reading lines give: how many are kept, or the report.
-#[derive(Clone, Copy)]
-pub enum SamplesRead {
-    Kept(usize),
-    Refused(Refusal),
-}
-
-// Stores the reading of a line's text behind the first `count` if it is kept, or says what the line earns: 3, 4, 6. `last` is the minute of
-// the line before, 0 at the first.
+// Stores the reading of a line's text behind those that are kept, if it is kept too, or says what the line earns: 3, 4, 6.
 pub(crate) fn store_sample(
     text: &[u8],
     place: usize,
     minutes: &mut [u16],
     values: &mut [u16],
-    count: usize,
-    last: u16,
-) -> SampleStored
-    requires { (length minutes.old ≡ 1024) × (length values.old ≡ 1024) × (count ≤ 1024) }
-    ensures { SampleTried text.now place minutes.old values.old count last result minutes.new values.new }
+    so_far: Progress,
+) -> Result<Progress, Refusal>
+    requires { (length minutes.old ≡ 1024) × (length values.old ≡ 1024) × (so_far.count ≤ 1024) }
+    ensures { SampleTried text.now place minutes.old values.old so_far result minutes.new values.new }
 {
-    let SampleLine::Sample {
-        minute,
-        injection,
-        value,
-    } = sheet_values::sample_line(text)
-    else {
-        return SampleStored::Refused(Refusal {
-            report: Report::MalformedLine,
-            place,
-        });
+    let Some(line) = sheet_values::sample_line(text) else {
+        return Err(Report::MalformedLine.at(place));
     };
-    if minute < last {
-        return SampleStored::Refused(Refusal {
-            report: Report::SampleOutOfOrder,
-            place,
-        });
+    let Progress { count, last } = so_far;
+    if line.minute < last {
+        return Err(Report::SampleOutOfOrder.at(place));
     }
-    if injection <= 2 {
-        return SampleStored::Stored { count, minute };
+    if line.injection <= 2 {
+        return Ok(Progress {
+            count,
+            last: line.minute,
+        });
     }
     if 1024 <= count {
-        return SampleStored::Refused(Refusal {
-            report: Report::TooMany,
-            place,
-        });
+        return Err(Report::TooMany.at(place));
     }
-    minutes[count] = minute;
-    values[count] = value;
-    SampleStored::Stored {
+    minutes[count] = line.minute;
+    values[count] = line.value;
+    Ok(Progress {
         count: count + 1,
-        minute,
-    }
+        last: line.minute,
+    })
 }
 
-// The reading lines from byte `from` on, to the sheet's end, into lists of full length.
+// The reading lines from byte `from` on, to the sheet's end, into lists of full length: how many readings are kept.
 pub(crate) fn scan_samples(
     sheet: &[u8],
     from: usize,
     minutes: &mut [u16],
     values: &mut [u16],
-) -> SamplesRead
+) -> Result<usize, Refusal>
     requires { (length minutes.old ≡ 1024) × (length values.old ≡ 1024) }
     ensures { SamplesFound sheet.now from result minutes.new values.new }
 {
     let mut at = from;
-    let mut count = 0;
-    let mut last = 0u16;
+    let mut so_far = Progress { count: 0, last: 0 };
     while at < sheet.len() {
-        let Line::Ended { end, next } = sheet_lines::find_line(sheet, at) else {
-            return SamplesRead::Refused(Refusal {
-                report: Report::MalformedLine,
-                place: at,
-            });
+        let Some(line) = sheet_lines::find_line(sheet, at) else {
+            return Err(Report::MalformedLine.at(at));
         };
-        match store_sample(&sheet[at..end], at, minutes, values, count, last) {
-            SampleStored::Refused(refusal) => return SamplesRead::Refused(refusal),
-            SampleStored::Stored { count: n, minute } => {
-                count = n;
-                last = minute;
-                at = next;
-            }
-        }
+        so_far = store_sample(&sheet[at..line.end], at, minutes, values, so_far)?;
+        at = line.next;
     }
-    SamplesRead::Kept(count)
+    Ok(so_far.count)
 }
 
 // The second header line at byte `from` and the reading lines behind it, into lists of any lengths. What the lists hold after a refusal is left
@@ -109,26 +79,17 @@ pub fn read_samples(
     from: usize,
     minutes: &mut [u16],
     values: &mut [u16],
-) -> SamplesRead
+) -> Result<usize, Refusal>
     ensures { SamplesOutcome sheet.now from (length minutes.old) (length values.old) result minutes.new values.new }
 {
     if minutes.len() != 1024 {
-        return SamplesRead::Refused(Refusal {
-            report: Report::LengthMismatch,
-            place: 0,
-        });
+        return Err(Report::LengthMismatch.at(0));
     }
     if values.len() != 1024 {
-        return SamplesRead::Refused(Refusal {
-            report: Report::LengthMismatch,
-            place: 0,
-        });
+        return Err(Report::LengthMismatch.at(0));
     }
-    match skip_header(sheet, from, b"minute,inj,vdk") {
-        Found::At(first) => scan_samples(sheet, first, minutes, values),
-        Found::Nothing => SamplesRead::Refused(Refusal {
-            report: Report::BadHeader,
-            place: from,
-        }),
-    }
+    let Some(first) = skip_header(sheet, from, b"minute,inj,vdk") else {
+        return Err(Report::BadHeader.at(from));
+    };
+    scan_samples(sheet, first, minutes, values)
 }

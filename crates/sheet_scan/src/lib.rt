@@ -6,10 +6,9 @@ ghost use Rattle.sheet_scan.specs.Stages.{EitherScanned, ScanOutcome};
 
 use checks_reader::uneven_reader;
 use meanings::{Refusal, Report};
-use meanings_ranges::RangeParsing;
-use sheet_front::points::FrontRead;
+use meanings_ranges::RangeCounts;
 use sheet_front::read_front;
-use sheet_names::{NamedRead, read_named};
+use sheet_names::read_named;
 
 // The whole sheet, into lists of full length.
 pub(crate) fn scan(
@@ -19,21 +18,17 @@ pub(crate) fn scan(
     highs: &mut [u16],
     points: &mut [u16],
     bandwidths: &mut [u32],
-) -> RangeParsing
+) -> Result<RangeCounts, Refusal>
     requires { (length minutes.old ≡ 1024) × (length lows.old ≡ 1024) × (length highs.old ≡ 1024) × (length points.old ≡ 512) × (length bandwidths.old ≡ 512) }
     ensures { EitherScanned sheet.now result minutes.new lows.new highs.new points.new bandwidths.new }
 {
-    match read_front(sheet, points, bandwidths) {
-        FrontRead::Refused(refusal) => RangeParsing::Refused(refusal),
-        FrontRead::Points { count, next } => match read_named(sheet, next, minutes, lows, highs) {
-            NamedRead::Refused(refusal) => RangeParsing::Refused(refusal),
-            NamedRead::Kept { kind, count: kept } => RangeParsing::Used {
-                samples: kept,
-                points: count,
-                kind,
-            },
-        },
-    }
+    let front = read_front(sheet, points, bandwidths)?;
+    let named = read_named(sheet, front.next, minutes, lows, highs)?;
+    Ok(RangeCounts {
+        samples: named.count,
+        points: front.count,
+        kind: named.kind,
+    })
 }
 
 // The same for lists of any lengths. What the lists hold after a refusal is left open: they are a reader's own.
@@ -44,7 +39,7 @@ pub fn scan_sheet(
     highs: &mut [u16],
     points: &mut [u16],
     bandwidths: &mut [u32],
-) -> RangeParsing
+) -> Result<RangeCounts, Refusal>
     ensures { ScanOutcome sheet.now minutes.old lows.old highs.old points.old bandwidths.old result minutes.new lows.new highs.new points.new bandwidths.new }
 {
     if uneven_reader(
@@ -54,10 +49,7 @@ pub fn scan_sheet(
         points.len(),
         bandwidths.len(),
     ) {
-        return RangeParsing::Refused(Refusal {
-            report: Report::LengthMismatch,
-            place: 0,
-        });
+        return Err(Report::LengthMismatch.at(0));
     }
     scan(sheet, minutes, lows, highs, points, bandwidths)
 }

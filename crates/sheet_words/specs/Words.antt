@@ -1,10 +1,7 @@
 -- What the functions over words say: bytes as one number, the bytes of a number, and where a byte stands first among them.
-use Rattle.std.specs.Prelude.{◌≡◌, ℕ, ◌+◌, ◌*◌, ◌/◌, ◌%◌, ◌^◌, ◌<◌, List, length, nat_le, slice_index}
-use Rattle.std.proofs.Math.Option.{Option, none, some}
+use Rattle.std.specs.Prelude.{◌≡◌, ℕ, ◌+◌, ◌*◌, ◌/◌, ◌%◌, ◌^◌, ◌<◌, List, length, nat_le, slice_index, Option, Some, None}
 use Rattle.std.specs.Int.Count.{count_trailing_zeros}
 use Rattle.meanings.specs.Lists.{pick, total}
-use Rattle.sheet_words.specs.declared.WordAt.{WordAt}
-use Rattle.sheet_words.specs.declared.WordAt.TheVariants.{Whole, Short}
 
 -- n bytes as one number, the first lowest: byte k counts 256 to the k
 unfoldable pub word : (ℕ → ℕ) → ℕ → ℕ
@@ -14,13 +11,9 @@ word d n = total (λ k. d k * 256 ^ k) 0 n
 unfoldable pub byte : ℕ → ℕ → ℕ
 byte w k = w / 256 ^ k % 256
 
-abbrev pub whole_word : WordAt → Option ℕ
-whole_word (Whole w) = some w
-whole_word Short = none
-
 -- the eight bytes of a list from byte p on, as one number; none where fewer are left
 unfoldable pub word_at : List ℕ → ℕ → Option ℕ
-word_at s p = pick (nat_le (p + 8) (length s)) (some (word (λ k. slice_index s (p + k)) 8)) none
+word_at s p = pick (nat_le (p + 8) (length s)) (Some (word (λ k. slice_index s (p + k)) 8)) None
 
 -- byte j is the first of the n bytes that is b
 pub record FirstByte (b : ℕ) (d : ℕ → ℕ) (n j : ℕ) : Type 0 where

@@ -1,16 +1,9 @@
 // Eight bytes as one word, and where a line feed stands in one. Every function takes every input.
 #![tactic(auto)]
 
-ghost use Rattle.std.specs.Prelude.{◌≡◌, ◌+◌, ◌-◌, ◌*◌};
+ghost use Rattle.std.specs.Prelude.{◌≡◌};
 ghost use Rattle.meanings.specs.Bytes.{line_feed};
-ghost use Rattle.sheet_words.specs.Words.{byte, whole_word, word_at, Marks};
-
-// What stands at a byte of a list: eight bytes as one word, the first lowest, or fewer than eight.
-#[derive(Clone, Copy)]
-pub enum WordAt {
-    Whole(u64),
-    Short,
-}
+ghost use Rattle.sheet_words.specs.Words.{byte, word_at, Marks};
 
 // Eight times one byte.
 const ONES: u64 = 0x0101010101010101;
@@ -19,47 +12,25 @@ const LINE_FEEDS: u64 = 0x0a0a0a0a0a0a0a0a;
 
 const HIGH_BITS: u64 = 0x8080808080808080;
 
-fn joined(a: u8, b: u8, c: u8, d: u8, e: u8, f: u8, g: u8, h: u8) -> u64
-    ensures { result ≡ a + b * 256 + c * 65536 + d * 16777216 + e * 4294967296 + f * 1099511627776 + g * 281474976710656 + h * 72057594037927936 }
+// The eight bytes from byte `at` on as one number, the first lowest, if as many follow. The length less 7 is the same for each word of a list, so
+// a word takes one comparison: by get and first_chunk it took two, and the reader more instructions.
+#[tactic(auto, using(crate::proofs::Joining::eight_follow, crate::proofs::Joining::fewer_follow))]
+pub fn word_at(s: &[u8], at: usize) -> Option<u64>
+    ensures { result ≡ word_at s.now at }
 {
-    a as u64
-        | (b as u64) << 8
-        | (c as u64) << 16
-        | (d as u64) << 24
-        | (e as u64) << 32
-        | (f as u64) << 40
-        | (g as u64) << 48
-        | (h as u64) << 56
-}
-
-// At how many places of n bytes eight bytes follow.
-fn word_starts(n: usize) -> usize
-    ensures { result ≡ n - 7 }
-{
-    if 7 < n {
-        return n - 7;
+    if s.len().saturating_sub(7) <= at {
+        return None;
     }
-    0
-}
-
-// The eight bytes from byte `at` on.
-pub fn word_at(s: &[u8], at: usize) -> WordAt
-    ensures { whole_word result ≡ word_at s.now at }
-{
-    let starts = word_starts(s.len());
-    if at < starts {
-        return WordAt::Whole(joined(
-            s[at],
-            s[at + 1],
-            s[at + 2],
-            s[at + 3],
-            s[at + 4],
-            s[at + 5],
-            s[at + 6],
-            s[at + 7],
-        ));
-    }
-    WordAt::Short
+    Some(u64::from_le_bytes([
+        s[at],
+        s[at + 1],
+        s[at + 2],
+        s[at + 3],
+        s[at + 4],
+        s[at + 5],
+        s[at + 6],
+        s[at + 7],
+    ]))
 }
 
 // Bits that tell whether a byte of the word is a line feed: 0 if none is, and otherwise the lowest set bit stands in the first such byte.
@@ -68,5 +39,5 @@ pub fn feed_bits(w: u64) -> u64
     ensures { Marks line_feed (byte w) 8 result }
 {
     let x = w ^ LINE_FEEDS;
-    std::num::wrapping_sub_u64(x, ONES) & !x & HIGH_BITS
+    x.wrapping_sub(ONES) & !x & HIGH_BITS
 }

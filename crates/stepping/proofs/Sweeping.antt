@@ -1,5 +1,7 @@
 -- Over accepted lists each step lands on its mark's window, so the row that the record gives there is the mark's.
 use Prim.Native.Nat.{ℕ, suc, ◌+◌, ◌^◌, ◌≤◌, ◌<◌}
+use Rattle.std.specs.Prelude.{Result, Ok, Err}
+use Rattle.meanings.specs.Calls.{answer_of}
 use mathlib.Core.Path.{◌≡◌, refl, sym, ap, ◌∙◌}
 use mathlib.Core.List.{List}
 use native.Mathlib.Numerals.{add-one}
@@ -7,15 +9,12 @@ use native.Mathlib.Omega.{arith}
 use mir.Val.{Fits}
 use mir.Syntax.{w16}
 use lib.ListN.{length, get_or}
-use Rattle.meanings.specs.declared.Advance.{Advance}
-use Rattle.meanings.specs.declared.Advance.TheVariants.{Moved}
 use Rattle.meanings.specs.declared.Estimate.{Estimate}
 use Rattle.meanings.specs.declared.PowerSums.{PowerSums}
 use Rattle.meanings.specs.declared.Refusal.{Refusal}
 use Rattle.meanings.specs.declared.RunningSums.{RunningSums}
 use Rattle.meanings.specs.Estimate.{estimate}
 use Rattle.meanings.specs.Running.{six, advance, next_record, after_step, record_row}
-use Rattle.meanings.specs.Calls.{advance_answer}
 use Rattle.meanings.proofs.Steps.{Small, at_window}
 use Rattle.meanings.proofs.SmoothSteps.{CurveAccepted, running_at, running_within, step_accepted}
 use Rattle.meanings.proofs.SmoothRows.{record_of_window_gives_row}
@@ -28,12 +27,12 @@ pub zeros_fresh : {q : PowerSums} → q ≡ six (λ a b. 0) → IsFresh (record 
 zeros_fresh e = record { zeros = ap (λ (q : PowerSums). record { left = 0; right = 0; sums = q; passes = 0 }) e }
 
 -- the record after a step, by what the step answered
-module _ (ts vs : List ℕ) (r : RunningSums) (z h : ℕ) (a : Advance) (answer : advance_answer a ≡ advance ts vs r z h) where
-  pub refused_stays : (e : Refusal) → a ≡ Advance.Refused e → Stepped ts vs r z h r
-  refused_stays e q = record { after = ap (next_record r) (sym (ap advance_answer q) ∙ answer) }
+module _ (ts vs : List ℕ) (r : RunningSums) (z h : ℕ) (a : Result RunningSums Refusal) (answer : answer_of a ≡ advance ts vs r z h) where
+  pub refused_stays : (e : Refusal) → a ≡ Err e → Stepped ts vs r z h r
+  refused_stays e q = record { after = ap (next_record r) (sym (ap answer_of q) ∙ answer) }
 
-  pub moved_goes : (r' : RunningSums) → a ≡ Moved r' → Stepped ts vs r z h r'
-  moved_goes r' q = record { after = ap (next_record r) (sym (ap advance_answer q) ∙ answer) }
+  pub moved_goes : (r' : RunningSums) → a ≡ Ok r' → Stepped ts vs r z h r'
+  moved_goes r' q = record { after = ap (next_record r) (sym (ap answer_of q) ∙ answer) }
 
 -- the row of the record that a step has given, also where the step is told by an equation
 pub row_of_step : (ts vs : List ℕ) (r : RunningSums) (z h : ℕ) {r' : RunningSums} {e : Estimate} → Stepped ts vs r z h r' → e ≡ record_row r' z h

@@ -5,7 +5,7 @@ ghost use Rattle.stepping.specs.Steps.{IsFresh, Stepped, SteppedRow};
 
 use arithmetic::zero_sums;
 use estimator::advance;
-use meanings::{Advance, Estimate, RunningSums};
+use meanings::{Estimate, RunningSums};
 use row::record_row;
 use stepping_fused::fused_step;
 
@@ -38,10 +38,7 @@ pub fn stepped(
 ) -> RunningSums
     ensures { Stepped minutes.now values.now running point bandwidth result }
 {
-    match advance(running, minutes, values, point, bandwidth) {
-        Advance::Refused(_) => running,
-        Advance::Moved(next) => next,
-    }
+    advance(running, minutes, values, point, bandwidth).unwrap_or(running)
 }
 
 // The record after a step, and the row that it gives there.

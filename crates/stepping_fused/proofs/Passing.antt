@@ -1,5 +1,6 @@
 -- Searching and summing in one loop find what they find one after the other, so a step of two such ways is the meaning's.
 use Prim.Native.Nat.{ℕ, ◌+◌, ◌-◌, ◌^◌, ◌≤◌, ◌<◌}
+use Rattle.std.specs.Prelude.{Result, Ok, Err}
 use mathlib.Core.Path.{◌≡◌, ap}
 use mathlib.Core.List.{List}
 use lib.ListN.{length, get_or}
@@ -7,8 +8,6 @@ use Rattle.meanings.specs.declared.Limits.{Limits}
 use Rattle.meanings.specs.declared.PowerSums.{PowerSums}
 use Rattle.meanings.specs.declared.Refusal.{Refusal}
 use Rattle.meanings.specs.declared.RunningSums.{RunningSums}
-use Rattle.meanings.specs.declared.Verdict.{Verdict}
-use Rattle.meanings.specs.declared.Verdict.TheVariants.{Fit, Faulty}
 use Rattle.meanings.specs.Limits.{full}
 use Rattle.meanings.specs.Lists.{distance}
 use Rattle.meanings.specs.Reports.{verdict_fault, first_of, advance_checks}
@@ -19,7 +18,7 @@ use Rattle.estimator.proofs.Laws.{Small, Joined, run_begins, run_grows, run_ends
 use Rattle.estimator.proofs.Moves.{six_parts_move}
 use Rattle.estimator.proofs.Searches.{run_within, left_starts_within}
 use Rattle.estimator.proofs.Verdicts.{advance_refused, advance_given}
-use Rattle.stepping_fused.specs.declared.Edge.{Edge}
+use Rattle.arithmetic.specs.declared.Edge.{Edge}
 use Rattle.stepping_fused.specs.Passing.{PassedUntil}
 
 -- of the run from a up to b the readings before i are joined to s, which makes r, and none of their minutes is at least m
@@ -45,11 +44,11 @@ module _ {op : ℕ → ℕ → ℕ} {s : PowerSums} {ts vs : List ℕ} {a b m : 
     passing_ends l = record { stops = search_ends p.searched l; joined = run_ends p.joined l }
 
 -- the left edge's way lies within the readings
-pub left_way_within : {ts vs : List ℕ} {l₀ r₀ h m : ℕ} {s : PowerSums} {e : Edge} → AdvanceAccepted ts vs l₀ r₀ h
+pub left_way_within : {ts vs : List ℕ} {l₀ r₀ h m : ℕ} {s : PowerSums} {e : Edge PowerSums} → AdvanceAccepted ts vs l₀ r₀ h
     → PassedUntil (plus 64) s ts vs r₀ (length ts) m e → RunWithin ts vs l₀ e.at
 left_way_within a p = let w = left_starts_within a p.stops in run_within a.even w.ordered w.inside
 
-pub both_ways_move : (ts vs : List ℕ) (r : RunningSums) (z h : ℕ) {low n passes : ℕ} {right left : Edge}
+pub both_ways_move : (ts vs : List ℕ) (r : RunningSums) (z h : ℕ) {low n passes : ℕ} {right left : Edge PowerSums}
     → low ≡ z - h
     → PassedUntil (plus 64) r.sums ts vs r.right (length ts) (z + h + 1) right
     → PassedUntil (minus 64) right.sums ts vs r.left right.at low left
@@ -59,10 +58,10 @@ pub both_ways_move : (ts vs : List ℕ) (r : RunningSums) (z h : ℕ) {low n pas
 both_ways_move ts vs r z h e a b f g = six_parts_move ts vs r z h a.stops e b.stops a.joined b.joined f g
 
 -- the record after a step, by what the checks found
-module _ (ts vs : List ℕ) (r : RunningSums) (z h : ℕ) {L : Limits} {v : Verdict} (l : L ≡ full)
+module _ (ts vs : List ℕ) (r : RunningSums) (z h : ℕ) {L : Limits} {v : Result Unit Refusal} (l : L ≡ full)
     (f : verdict_fault v ≡ first_of (advance_checks L ts vs r.left r.right h)) where
-  pub faulty_stays : {e : Refusal} → v ≡ Faulty e → r ≡ after_step ts vs r (record { point = z; bandwidth = h })
+  pub faulty_stays : {e : Refusal} → v ≡ Err e → r ≡ after_step ts vs r (record { point = z; bandwidth = h })
   faulty_stays q = ap (next_record r) (advance_refused ts vs r h l f z q)
 
-  pub fit_moves : {r' : RunningSums} → v ≡ Fit → r' ≡ moved ts vs r z h → r' ≡ after_step ts vs r (record { point = z; bandwidth = h })
+  pub fit_moves : {r' : RunningSums} → {unit : Unit {0}} → v ≡ Ok unit → r' ≡ moved ts vs r z h → r' ≡ after_step ts vs r (record { point = z; bandwidth = h })
   fit_moves q e = ap (next_record r) (advance_given ts vs r h l f z q e)

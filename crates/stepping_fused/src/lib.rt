@@ -3,68 +3,35 @@
 #![tactic(auto)]
 
 ghost use Rattle.std.specs.Prelude.{◌≡◌};
-ghost use Rattle.meanings.specs.Running.{plus, minus, moved, after_step};
+ghost use Rattle.meanings.specs.Running.{moved, after_step};
 ghost use Rattle.meanings.proofs.Checks.{AdvanceAccepted};
 ghost use Rattle.estimator.specs.Rows.{RunWithin};
 ghost use Rattle.stepping_fused.specs.Passing.{PassedUntil};
 
-use arithmetic::{minus_sample, plus_sample, plus_travel};
+use arithmetic::{Change, Edge, Minus, Plus, plus_travel, sample_changed};
 use arithmetic_values::lowest_minute;
 use checks::full;
 use checks_point::advance_fault;
-use meanings::{PowerSums, RunningSums, Verdict};
+use meanings::{PowerSums, RunningSums};
 
-// Where an edge has stopped, and the sums there.
-#[derive(Clone, Copy)]
-struct Edge {
-    at: usize,
-    sums: PowerSums,
-}
-
-// Takes in the readings from `from` on, up to the first minute of at least `bound` or to `to`.
-fn inserted_until(
+// Takes in or lets go the readings from `from` on, up to the first minute of at least `bound` or to `to`.
+fn passed_until<C: Change>(
     s: PowerSums,
     minutes: &[u16],
     values: &[u16],
     from: usize,
     to: usize,
     bound: u64,
-) -> Edge
+) -> Edge<PowerSums>
     requires { RunWithin minutes.now values.now from to }
-    ensures { PassedUntil (plus 64) s minutes.now values.now from to bound result }
+    ensures { PassedUntil C.op s minutes.now values.now from to bound result }
 {
     let mut sums = s;
-    let mut i = from;
-    while i < to {
+    for i in from..to {
         if bound <= minutes[i] as u64 {
             return Edge { at: i, sums };
         }
-        sums = plus_sample(sums, minutes[i], values[i]);
-        i += 1;
-    }
-    Edge { at: to, sums }
-}
-
-// Lets go the readings from `from` on, up to the first minute of at least `least` or to `to`.
-fn evicted_until(
-    s: PowerSums,
-    minutes: &[u16],
-    values: &[u16],
-    from: usize,
-    to: usize,
-    least: u64,
-) -> Edge
-    requires { RunWithin minutes.now values.now from to }
-    ensures { PassedUntil (minus 64) s minutes.now values.now from to least result }
-{
-    let mut sums = s;
-    let mut i = from;
-    while i < to {
-        if least <= minutes[i] as u64 {
-            return Edge { at: i, sums };
-        }
-        sums = minus_sample(sums, minutes[i], values[i]);
-        i += 1;
+        sums = sample_changed::<C>(sums, minutes[i], values[i]);
     }
     Edge { at: to, sums }
 }
@@ -82,17 +49,21 @@ fn fused_move(
 {
     let over = point as u64 + bandwidth as u64 + 1;
     let low = lowest_minute(point, bandwidth);
-    let sums = running.sums;
-    let right = inserted_until(sums, minutes, values, running.right, minutes.len(), over);
-    let sums = right.sums;
-    let left = evicted_until(sums, minutes, values, running.left, right.at, low);
+    let right = passed_until::<Plus>(
+        running.sums,
+        minutes,
+        values,
+        running.right,
+        minutes.len(),
+        over,
+    );
+    let left = passed_until::<Minus>(right.sums, minutes, values, running.left, right.at, low);
     let passes = plus_travel(running.passes, running.left, left.at);
     let passes = plus_travel(passes, running.right, right.at);
-    let sums = left.sums;
     RunningSums {
         left: left.at,
         right: right.at,
-        sums,
+        sums: left.sums,
         passes,
     }
 }
@@ -115,7 +86,7 @@ pub fn fused_step(
         bandwidth,
         full(),
     ) {
-        Verdict::Faulty(_) => running,
-        Verdict::Fit => fused_move(running, minutes, values, point, bandwidth),
+        Err(_) => running,
+        Ok(()) => fused_move(running, minutes, values, point, bandwidth),
     }
 }

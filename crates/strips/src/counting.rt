@@ -1,52 +1,26 @@
 // Cuts counted one by one.
-ghost use Rattle.strips.specs.Strips.{Flagged, Bounded, Eighths, BlockIn, BlockEnd, Block};
-
-// 1 where c lies at or below x, else 0.
-pub(crate) fn at_or_below(c: u64, x: u64) -> usize
-    ensures { Flagged c x result }
-{
-    if c <= x {
-        return 1;
-    }
-    0
-}
+ghost use Rattle.std.specs.Prelude.{◌≤◌, length};
+ghost use Rattle.strips.specs.Strips.{Eighths, Block};
 
 // How many of the cuts 7, 15, 23 and so on lie at or below x.
-pub(crate) fn eighths(cuts: &[u64], n: usize, x: u64) -> usize
-    requires { Bounded cuts.now n }
-    ensures { Eighths cuts.now n x result }
+pub(crate) fn eighths(cuts: &[u64], x: u64) -> usize
+    ensures { Eighths cuts.now x result }
 {
     let mut count = 0;
-    let mut k = 7;
-    while k < n {
-        count += at_or_below(cuts[k], x);
-        k += 8;
+    for i in 0..cuts.len() / 8 {
+        count += usize::from(cuts[8 * i + 7] <= x);
     }
     count
 }
 
-// Where a block of eight from `from` on ends.
-pub(crate) fn block_end(cuts: &[u64], from: usize, n: usize) -> usize
-    requires { BlockIn cuts.now from n }
-    ensures { BlockEnd from n result }
+// How many of the eight cuts from `from` on do, or of those that there are.
+pub(crate) fn block(cuts: &[u64], from: usize, x: u64) -> usize
+    requires { from ≤ length cuts.now }
+    ensures { Block cuts.now from x result }
 {
-    if n < from + 8 {
-        return n;
-    }
-    from + 8
-}
-
-// How many cuts of that block lie at or below x.
-pub(crate) fn block(cuts: &[u64], from: usize, n: usize, x: u64) -> usize
-    requires { BlockIn cuts.now from n }
-    ensures { Block cuts.now from n x result }
-{
-    let end = block_end(cuts, from, n);
     let mut count = 0;
-    let mut i = from;
-    while i < end {
-        count += at_or_below(cuts[i], x);
-        i += 1;
+    for i in from..cuts.len().min(from + 8) {
+        count += usize::from(cuts[i] <= x);
     }
     count
 }

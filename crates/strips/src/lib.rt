@@ -6,16 +6,15 @@ mod counting;
 
 ghost use Rattle.strips.specs.Strips.{StripOrZero};
 
-// How many of the first n cuts, at most 64 and in rising order, lie at or below x: eight for each eighth one that does, and those of the block behind.
-pub fn strip(cuts: &[u64], n: usize, x: u64) -> usize
-    ensures { StripOrZero cuts.now n x result }
+// How many cuts, which rise, lie at or below x: eight for each eighth one that does, and those of the block behind. Of more than 64 cuts, which no
+// direction has, 0.
+#[tactic(auto, using(crate::proofs::Counts::strip_or_zero))]
+pub fn strip(cuts: &[u64], x: u64) -> usize
+    ensures { StripOrZero cuts.now x result }
 {
-    if 64 < n {
+    if 64 < cuts.len() {
         return 0;
     }
-    if cuts.len() < n {
-        return 0;
-    }
-    let from = 8 * counting::eighths(cuts, n, x);
-    from + counting::block(cuts, from, n, x)
+    let from = 8 * counting::eighths(cuts, x);
+    from + counting::block(cuts, from, x)
 }

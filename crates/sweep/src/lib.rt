@@ -2,9 +2,10 @@
 #![tactic(auto)]
 
 ghost use Rattle.std.specs.Prelude.{◌≡◌, ◌+◌, ◌*◌, ◌≤◌, length};
+ghost use Rattle.meanings.specs.Calls.{answer_of};
 ghost use Rattle.std.proofs.lemmas.List.Edits.{sets};
 ghost use Rattle.meanings.specs.Limits.{full as full_limits, preview as small_limits, LimitsWithin, row_width};
-ghost use Rattle.meanings.specs.Calls.{smoothing_answer, smooth as smooth_meaning, smooth_rows};
+ghost use Rattle.meanings.specs.Calls.{smooth as smooth_meaning, smooth_rows};
 ghost use Rattle.meanings.specs.Estimate.{fields, rows as rows_meaning};
 ghost use Rattle.meanings.specs.Moves.{moves};
 ghost use Rattle.meanings.specs.Running.{fresh, passes};
@@ -12,7 +13,7 @@ ghost use Rattle.meanings.proofs.SmoothSteps.{SmoothAccepted};
 
 use checks::{full, preview_limits};
 use checks_smooth::smooth_fault;
-use meanings::{Estimate, Limits, ROW_WIDTH, Smoothing, Verdict};
+use meanings::{Estimate, Limits, ROW_WIDTH, Refusal};
 use stepping::{fresh_record, step_to};
 
 // Stores the row of mark k.
@@ -54,6 +55,7 @@ fn smooth_rows(
 }
 
 // The sweep under limits at most the full ones: every check is made before the first row is stored.
+#[tactic(auto, unfolding(meanings::specs::Calls::smooth, meanings::specs::Calls::smooth_rows))]
 fn smooth_under(
     minutes: &[u16],
     values: &[u16],
@@ -61,15 +63,13 @@ fn smooth_under(
     bandwidths: &[u32],
     rows: &mut [u64],
     limits: Limits,
-) -> Smoothing
+) -> Result<u64, Refusal>
     requires { LimitsWithin limits full_limits }
-    ensures result_value { smoothing_answer result ≡ smooth_meaning limits minutes.now values.now points.now bandwidths.now rows.old }
+    ensures result_value { answer_of result ≡ smooth_meaning limits minutes.now values.now points.now bandwidths.now rows.old }
     ensures rows_after { rows.new ≡ smooth_rows limits minutes.now values.now points.now bandwidths.now rows.old }
 {
-    match smooth_fault(minutes, values, points, bandwidths, rows.len(), limits) {
-        Verdict::Faulty(refusal) => Smoothing::Refused(refusal),
-        Verdict::Fit => Smoothing::Passes(smooth_rows(minutes, values, points, bandwidths, rows)),
-    }
+    smooth_fault(minutes, values, points, bandwidths, rows.len(), limits)?;
+    Ok(smooth_rows(minutes, values, points, bandwidths, rows))
 }
 
 // The whole sweep: rows receives five numbers a mark, and the answer is the passes, or the report, with rows as it was.
@@ -79,8 +79,8 @@ pub fn smooth(
     points: &[u16],
     bandwidths: &[u32],
     rows: &mut [u64],
-) -> Smoothing
-    ensures result_value { smoothing_answer result ≡ smooth_meaning full_limits minutes.now values.now points.now bandwidths.now rows.old }
+) -> Result<u64, Refusal>
+    ensures result_value { answer_of result ≡ smooth_meaning full_limits minutes.now values.now points.now bandwidths.now rows.old }
     ensures rows_after { rows.new ≡ smooth_rows full_limits minutes.now values.now points.now bandwidths.now rows.old }
 {
     smooth_under(minutes, values, points, bandwidths, rows, full())
@@ -93,8 +93,8 @@ pub fn preview(
     points: &[u16],
     bandwidths: &[u32],
     rows: &mut [u64],
-) -> Smoothing
-    ensures result_value { smoothing_answer result ≡ smooth_meaning small_limits minutes.now values.now points.now bandwidths.now rows.old }
+) -> Result<u64, Refusal>
+    ensures result_value { answer_of result ≡ smooth_meaning small_limits minutes.now values.now points.now bandwidths.now rows.old }
     ensures rows_after { rows.new ≡ smooth_rows small_limits minutes.now values.now points.now bandwidths.now rows.old }
 {
     let limits = preview_limits();

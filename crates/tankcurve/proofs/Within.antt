@@ -8,13 +8,6 @@ use lib.Seq.{length-take-le}
 use Rattle.meanings.specs.Limits.{max_sheet, max_output}
 use Rattle.meanings_ranges.specs.RangeOutput.{either_program}
 use Rattle.laws_ranges.proofs.RangeText.{either_program_fits}
-use Rattle.tankcurve.specs.declared.Input.{Input}
-use Rattle.tankcurve.specs.declared.Input.TheVariants.{Bytes}
-use Rattle.tankcurve.specs.Input.{InputWithin}
-
--- bytes that have come
-bytes_within : (r : Input) (xs : List ℕ) (within : InputWithin r (length xs)) (n : ℕ) → r ≡ Bytes n → n ≤ length xs
-bytes_within r xs within n met = rw met at within
 
 -- the output of a sheet
 pub output_fits : (s : List ℕ) (n : ℕ) → n ≡ length (either_program s) → n ≤ max_output
@@ -48,13 +41,13 @@ module _ {first now : List ℕ} {done : ℕ} (w : ReadTo first now done) (next :
   pub still_within : done ≤ length next
   still_within = omega (arith, same, w.far)
 
-  module _ (r : Input) (part : List ℕ) (within : InputWithin r (length part)) (more : ℕ) (met : r ≡ Bytes more)
+  module _ (part : List ℕ) (more : ℕ) (within : more ≤ length part)
       (rest : length part ≡ length (take (length now - done) (drop done now))) where
     more_fits : done + more ≤ length now
     more_fits =
         let d = length-drop done now in
         let t = length-take-le (length now - done) (drop done now) (omega arith) in
-        omega (arith, bytes_within r part within more met, rest, t, w.far)
+        omega (arith, within, rest, t, w.far)
 
     pub done_in_range : done + more < 2 ^ 64
     done_in_range = omega (arith, more_fits, w.kept, w.size)

@@ -1,55 +1,35 @@
 // The program: a tank sheet on standard input, its curve or its refusal on standard output.
 #![tactic(auto)]
 
-ghost use Rattle.std.specs.Prelude.{◌≡◌, ◌+◌, length, take};
+ghost use Rattle.std.specs.Prelude.{◌≡◌, ◌+◌, ◌≤◌, length, take, IfOk};
 ghost use Rattle.meanings.specs.Limits.{max_sheet, max_output};
 ghost use Rattle.meanings.specs.Reports.{fault_of};
 ghost use Rattle.meanings.specs.Output.{refusal_text};
 ghost use Rattle.meanings_ranges.specs.RangeOutput.{either_program};
-ghost use Rattle.tankcurve.specs.Input.{InputWithin};
 
 use checks::report_number;
-use meanings::{MAX_OUTPUT, Refusal, Writing};
-use std::io::{Read, Stdin};
+use meanings::{MAX_OUTPUT, Refusal};
+use std::io::{Error, Read, Stdin};
 
 const OUT: i32 = 1;
 
 const ERR: i32 = 2;
 
-// What reading gives: how many bytes there are, or a failure, after which the bytes that came before may be a sheet cut short.
-#[derive(Clone, Copy)]
-enum Input {
-    Bytes(usize),
-    Failed,
-}
-
-// One read into a part of the buffer: how many bytes came, 0 at the end of the input.
-fn read_part(mut input: Stdin, part: &mut [u8]) -> Input
-    ensures { InputWithin result (length part.new) }
-{
-    match input.read(part) {
-        Ok(got) => Input::Bytes(got),
-        Err(_) => Input::Failed,
-    }
-}
-
 // Reads until the buffer is full or the input ends: one byte more than a sheet may have decides whether it is overlong. A short read is read
 // on; a failed one is told from the end.
-fn read_input(input: Stdin, buf: &mut [u8]) -> Input
+fn read_input(mut input: Stdin, buf: &mut [u8]) -> Result<usize, Error>
     requires { length buf.old ≡ max_sheet + 1 }
-    ensures { InputWithin result (length buf.new) }
+    ensures { IfOk result (λ n. n ≤ length buf.new) }
 {
     let mut done = 0;
     while done < buf.len() {
-        let Input::Bytes(more) = read_part(input, &mut buf[done..]) else {
-            return Input::Failed;
-        };
+        let more = input.read(&mut buf[done..])?;
         if more == 0 {
             break;
         }
         done += more;
     }
-    Input::Bytes(done)
+    Ok(done)
 }
 
 // Puts the text of a refusal at the front of the buffer, and gives its length.
@@ -61,8 +41,8 @@ fn refuse(refusal: Refusal, out: &mut [u8]) -> usize
     let report = refusal.report;
     let place = refusal.place as u64;
     match text_refusal::refusal_text(report_number(report), place, out) {
-        Writing::Written(n) => n,
-        Writing::Refused(_) => 0,
+        Ok(n) => n,
+        Err(_) => 0,
     }
 }
 
@@ -73,8 +53,8 @@ fn answer(buf: &mut [u8], size: usize) -> usize
     ensures value { result ≡ length (either_program (take size buf.old)) }
 {
     match text_over::curve_text_over(buf, size) {
-        Writing::Written(n) => n,
-        Writing::Refused(refusal) => refuse(refusal, buf),
+        Ok(n) => n,
+        Err(refusal) => refuse(refusal, buf),
     }
 }
 
@@ -94,8 +74,8 @@ fn run(input: Stdin, buf: &mut [u8])
 {
     let room = 32769;
     match read_input(input, &mut buf[..room]) {
-        Input::Bytes(n) => write_answer(buf, n),
-        Input::Failed => {
+        Ok(n) => write_answer(buf, n),
+        Err(_) => {
             io::write_all(ERR, b"tankcurve: standard input cannot be read\n");
         }
     }

@@ -4,6 +4,7 @@
 #![tactic(auto)]
 
 ghost use Rattle.std.specs.Prelude.{◌≡◌};
+ghost use Rattle.meanings_limit.specs.declared.Located.{Located};
 ghost use Rattle.meanings.specs.Calls.{evaluate as evaluate_meaning, counts as counts_of, read, read_minutes, read_values, read_evaluation_points};
 ghost use Rattle.meanings.specs.Calls.{read_bandwidths, smooth as smooth_meaning, smooth_rows, fill, fill_points, fill_bandwidths};
 ghost use Rattle.meanings.specs.Calls.{write_refusal_text, refusal_buffer};
@@ -21,7 +22,7 @@ ghost use Rattle.meanings_ranges.specs.RangeCalls.{range_counts, range_front, re
 ghost use Rattle.meanings_ranges.specs.RangeOutput.{write_either, write_either_buffer};
 ghost use Rattle.meanings_ranges.specs.Ranges.{smooth_ranges, smooth_ranges_rows};
 ghost use Rattle.meanings_doubles.specs.Doubles.{handed};
-ghost use Rattle.meanings_limit.specs.Crossing.{first_at_most, Located};
+ghost use Rattle.meanings_limit.specs.Crossing.{first_at_most};
 ghost use Rattle.meanings_pair.specs.Comparison.{compare_bounds};
 ghost use Rattle.abi_answers.specs.Answers.{sized, stored, bounds as bounds_of, record_length, record_numbers, record_of as record_meaning};
 ghost use Rattle.abi_answers.specs.Answers.{count_numbers};

@@ -1,16 +1,16 @@
 -- What the sweep refuses is answered; what it accepts has few marks, short numbers and so a text that fits, which its rows and passes make.
 use Prim.Native.Nat.{ℕ, ◌*◌, ◌≤◌}
+use Rattle.std.specs.Prelude.{Result, Ok, Err}
+use Rattle.meanings.specs.Calls.{answer_of}
 use mathlib.Core.Path.{◌≡◌, sym, ap, ◌∙◌}
 use mathlib.Core.List.{List}
-use mathlib.Core.Option.{Option, none, some}
+use Rattle.std.specs.Prelude.{Option, None, Some}
 use native.Mathlib.Nat.{zero-add}
 use native.Mathlib.Omega.{arith}
 use mir.Val.{Fits}
 use mir.Syntax.{w16}
 use lib.ListN.{length, get_or}
 use Rattle.meanings.specs.declared.Refusal.{Refusal}
-use Rattle.meanings.specs.declared.Smoothing.{Smoothing}
-use Rattle.meanings.specs.declared.Smoothing.TheVariants.{Passes}
 use Rattle.meanings.specs.Lists.{AtMost}
 use Rattle.meanings.specs.Limits.{full, max_u16, max_output, row_width}
 use Rattle.meanings.specs.Moves.{moves}
@@ -18,7 +18,7 @@ use Rattle.meanings.specs.Reports.{Fault, given, refused, unless, fault_of, unev
 use Rattle.meanings.specs.Sheet.{or_next}
 use Rattle.meanings.specs.Estimate.{rows}
 use Rattle.meanings.specs.Running.{fresh, passes}
-use Rattle.meanings.specs.Calls.{smoothing_answer, smooth_refusal, smooth, smooth_rows, curve_size, filled_front}
+use Rattle.meanings.specs.Calls.{smooth_refusal, smooth, smooth_rows, curve_size, filled_front}
 use Rattle.meanings.specs.Output.{curve_text}
 use Rattle.meanings.proofs.Checks.{differ_true, differ_same, given_accepted, same_limits, steps_ordered, CurveSizes, curve_sizes_accept}
 use Rattle.meanings.proofs.SmoothRows.{rows_length}
@@ -47,7 +47,7 @@ of_16_bits : (xs : List ℕ) → ((i : ℕ) → Fits w16 (get_or xs i 0)) → At
 of_16_bits xs f i l = omega (arith, f i)
 
 -- lists that the sweep does not refuse are as those of an accepted sheet
-module _ (ts vs zs hs rs : List ℕ) (found : smooth_refusal full ts vs zs hs rs ≡ none) where
+module _ (ts vs zs hs rs : List ℕ) (found : smooth_refusal full ts vs zs hs rs ≡ None) where
   swept_lists : SmoothAccepted ts vs zs hs (length rs)
   swept_lists = smooth_accepts full (same_limits full) ts vs zs hs (length rs) found
 
@@ -85,16 +85,16 @@ module _ (ts vs zs hs rs out : List ℕ) (right : length out ≡ max_output) whe
   unfolding lists_rows
   swept_rows rs' e = e ∙ rw (differ_same (length out) max_output right)
 
-  module _ (r : Smoothing) (answer : smoothing_answer r ≡ smooth full ts vs zs hs rs) where
+  module _ (r : Result ℕ Refusal) (answer : answer_of r ≡ smooth full ts vs zs hs rs) where
     -- a refusal
-    module _ (f : Refusal) (unswept : r ≡ Smoothing.Refused f) where
-      refused_by_sweep : smooth_refusal full ts vs zs hs rs ≡ some (fault_of f)
+    module _ (f : Refusal) (unswept : r ≡ Err f) where
+      refused_by_sweep : smooth_refusal full ts vs zs hs rs ≡ Some (fault_of f)
       unfolding smooth
-      refused_by_sweep = by (smooth_refusal full ts vs zs hs rs) (sym (ap smoothing_answer unswept) ∙ answer)
+      refused_by_sweep = by (smooth_refusal full ts vs zs hs rs) (sym (ap answer_of unswept) ∙ answer)
         where
-          by : (o : Option Fault) → refused (fault_of f) ≡ unless o (passes ts vs fresh (moves zs hs)) → o ≡ some (fault_of f)
-          by none e = let z : ◌≡◌ {A = ℕ} 0 1 = cc in absurd (omega arith)
-          by (some g) e = cc
+          by : (o : Option Fault) → refused (fault_of f) ≡ unless o (passes ts vs fresh (moves zs hs)) → o ≡ Some (fault_of f)
+          by None e = let z : ◌≡◌ {A = ℕ} 0 1 = cc in absurd (omega arith)
+          by (Some g) e = cc
 
       pub sweep_refused : refused (fault_of f) ≡ curve_size (lists_swept ts vs zs hs rs out)
       sweep_refused = rw (goes_by_sweep, refused_by_sweep)
@@ -103,10 +103,10 @@ module _ (ts vs zs hs rs out : List ℕ) (right : length out ≡ max_output) whe
       sweep_refused_stays = rw (goes_by_sweep, refused_by_sweep)
 
     -- its passes and rows
-    module _ (n : ℕ) (done : r ≡ Passes n) where
-      accepted : (smooth_refusal full ts vs zs hs rs ≡ none) × (passes ts vs fresh (moves zs hs) ≡ n)
+    module _ (n : ℕ) (done : r ≡ Ok n) where
+      accepted : (smooth_refusal full ts vs zs hs rs ≡ None) × (passes ts vs fresh (moves zs hs) ≡ n)
       unfolding smooth
-      accepted = given_accepted _ (passes ts vs fresh (moves zs hs)) n (sym answer ∙ ap smoothing_answer done)
+      accepted = given_accepted _ (passes ts vs fresh (moves zs hs)) n (sym answer ∙ ap answer_of done)
 
       lists_given : lists_swept ts vs zs hs rs out ≡ given (contents_of ts vs zs hs)
       lists_given = goes_by_sweep ∙ rw accepted.0

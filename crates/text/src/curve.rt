@@ -23,7 +23,7 @@ pub(crate) fn stored_row(rows: &[u64], k: usize) -> Estimate
     }
 }
 
-// A line for each mark.
+// A line for each mark. text_ranges has the same loop: a trait over the row, with its width and line as ghost members, is longer than both.
 pub(crate) fn put_curve_lines(
     out: &mut [u8],
     at: usize,
@@ -35,15 +35,13 @@ pub(crate) fn put_curve_lines(
     ensures { Stored out.old at (table_lines points.now bandwidths.now rows.now (length points.now)) out.new result }
 {
     let mut to = at;
-    let mut k = 0;
-    while k < points.len() {
+    for k in 0..points.len() {
         to = put_curve_line(out, to, points[k], bandwidths[k], stored_row(rows, k));
-        k += 1;
     }
     to
 }
 
-// The whole curve, then kept readings and passes.
+// The whole curve, then kept readings and passes. text_ranges has the same with another header; a trait is longer than both, as at put_curve_lines.
 pub(crate) fn put_curve(
     out: &mut [u8],
     kept: usize,

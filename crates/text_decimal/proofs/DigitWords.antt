@@ -4,6 +4,7 @@ use Prim.Native.Nat.{ℕ, ◌+◌, ◌*◌, ◌-◌, ◌/◌, ◌%◌, ◌<◌}
 use mathlib.Core.Path.{◌≡◌, ◌∙◌}
 use mathlib.Core.List.{[], ◌∷◌}
 use native.Mathlib.Omega.{arith}
+use Rattle.std.specs.Int.{w32, to_le_bytes}
 use Rattle.meanings.specs.Bytes.{zero_digit}
 use Rattle.text_decimal.specs.Digits.{two_digits, four_digits, word}
 
@@ -62,9 +63,8 @@ above_three : (a b c v : ℕ) → a < 256 → b < 256 → c < 256 → (a + 256 *
 above_three a b c v l m k = omega arith
 
 bytes_of : (a b c d w : ℕ) → a < 256 → b < 256 → c < 256 → d < 256 → w ≡ word (a ∷ b ∷ c ∷ d ∷ [])
-    → (w % 256) ∷ (w / 256 % 256) ∷ (w / 65536 % 256) ∷ (w / 16777216) ∷ [] ≡ a ∷ b ∷ c ∷ d ∷ []
+    → (w % 256) ∷ (w / 256 % 256) ∷ (w / 65536 % 256) ∷ (w / 16777216 % 256) ∷ [] ≡ a ∷ b ∷ c ∷ d ∷ []
 bytes_of a b c d w l m k h e =
-    let last : word (d ∷ []) ≡ d = omega arith in
     rw (
       e,
       low_byte a (word (b ∷ c ∷ d ∷ [])) l,
@@ -73,10 +73,9 @@ bytes_of a b c d w l m k h e =
       above_two a b (word (c ∷ d ∷ [])) l m,
       low_byte c (word (d ∷ [])) k,
       above_three a b c (word (d ∷ [])) l m k,
-      last,
+      low_byte d (word []) h,
     )
 
-pub bytes_of_word : (n w : ℕ) → n < 10000 → w ≡ word (four_digits n)
-    → (w % 256) ∷ (w / 256 % 256) ∷ (w / 65536 % 256) ∷ (w / 16777216) ∷ [] ≡ four_digits n
+pub bytes_of_word : (n w : ℕ) → n < 10000 → w ≡ word (four_digits n) → to_le_bytes w32 w ≡ four_digits n
 unfolding four_digits two_digits
 bytes_of_word n w small e = bytes_of _ _ _ _ w (omega arith) (omega arith) (omega arith) (omega arith) e

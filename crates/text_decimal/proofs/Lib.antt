@@ -1,4 +1,3 @@
-pub mod Bytewise
 pub mod DigitWords
 pub mod Digits
 pub mod NumberParts

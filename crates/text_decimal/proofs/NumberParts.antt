@@ -1,9 +1,10 @@
 -- A number is stored in parts, one behind the other: its front, and its last two, four, eight or sixteen digits.
 use Prim.Native.Nat.{ℕ, ◌+◌, ◌/◌, ◌%◌, ◌≤◌, ◌<◌}
-use mathlib.Core.Path.{◌≡◌, refl, sym}
+use mathlib.Core.Path.{◌≡◌, refl, ◌∙◌}
 use mathlib.Core.List.{List, [], ◌∷◌, ◌++◌}
 use native.Mathlib.Omega.{arith}
 use lib.ListN.{length, length-append}
+use Rattle.std.specs.Int.{w32, to_le_bytes}
 use Rattle.meanings.specs.Bytes.{zero_digit}
 use Rattle.meanings.specs.Output.{decimal}
 use Rattle.laws_text.proofs.Numbers.{decimal_of_digit}
@@ -11,7 +12,7 @@ use Rattle.text_decimal.specs.Written.{Stored}
 use Rattle.text_decimal.specs.Digits.{two_digits, four_digits, eight_digits, word}
 use Rattle.text_decimal.proofs.DigitWords.{bytes_of_word}
 use Rattle.text_decimal.proofs.Digits.{four_last, eight_last, sixteen_last, of_two, of_three, of_four}
-use Rattle.text_decimal.proofs.Writing.{Left, left_at_first, part_fits, left_behind, all_stored, room_behind, stored_behind}
+use Rattle.text_decimal.proofs.Writing.{room_behind, stored_behind}
 
 -- a text in two parts that fits
 record InTwo (out : List ℕ) (p : ℕ) (whole t u : List ℕ) : Type 0 where
@@ -32,45 +33,17 @@ module _ {out : List ℕ} {p : ℕ} {whole t u : List ℕ} (i : InTwo out p whol
     both_stored : {next : List ℕ} {r : ℕ} → Stored now q u next r → Stored out p whole next r
     both_stored {next} {r} s = rw i.parts (stored_behind out p now q next r t u room front s)
 
--- two digits
-module _ (n p : ℕ) (out : List ℕ) (fits : p + length (two_digits n) ≤ length out) where
-  two_parts : InTwo out p (two_digits n) ((zero_digit + n / 10) ∷ []) ((zero_digit + n % 10) ∷ [])
-  unfolding two_digits
-  two_parts = record { fits = fits; parts = refl }
-
-  pub two_begin : p + 1 ≤ length out
-  two_begin = front_fits two_parts
-
-  module _ (out₁ : List ℕ) (q₁ : ℕ) (first : Stored out p ((zero_digit + n / 10) ∷ []) out₁ q₁) where
-    pub two_go_on : q₁ + 1 ≤ length out₁
-    two_go_on = back_fits two_parts first
-
-    pub two_stored : (out₂ : List ℕ) (r : ℕ) → Stored out₁ q₁ ((zero_digit + n % 10) ∷ []) out₂ r → Stored out p (two_digits n) out₂ r
-    two_stored out₂ r second = both_stored two_parts first second
-
 -- four digits, from a word
-module _ (n p : ℕ) (out : List ℕ) (small : n < 10000) (fits : p + length (four_digits n) ≤ length out) (w : ℕ) (digits : w ≡ word (four_digits n)) where
-  four_begun : Left out p (four_digits n) out p
-      (((w % 256) ∷ []) ∷ ((w / 256 % 256) ∷ []) ∷ ((w / 65536 % 256) ∷ []) ∷ ((w / 16777216) ∷ []) ∷ [])
-  four_begun = left_at_first (sym (bytes_of_word n w small digits)) fits
+module _ (n p : ℕ) (out : List ℕ) (small : n < 10000) (fits : p + length (four_digits n) ≤ length out) (w : ℕ) (digits : w ≡ word (four_digits n))
+    (bytes : List ℕ) (of_word : bytes ≡ to_le_bytes w32 w) where
+  bytes_are : bytes ≡ four_digits n
+  bytes_are = of_word ∙ bytes_of_word n w small digits
 
-  pub four_begin : p + 1 ≤ length out
-  four_begin = part_fits four_begun
+  pub four_fit : p + length bytes ≤ length out
+  four_fit = rw bytes_are fits
 
-  module _ (out₁ : List ℕ) (q₁ : ℕ) (first : Stored out p ((w % 256) ∷ []) out₁ q₁) where
-    pub four_second : q₁ + 1 ≤ length out₁
-    four_second = part_fits (left_behind four_begun first)
-
-    module _ (out₂ : List ℕ) (q₂ : ℕ) (second : Stored out₁ q₁ ((w / 256 % 256) ∷ []) out₂ q₂) where
-      pub four_third : q₂ + 1 ≤ length out₂
-      four_third = part_fits (left_behind (left_behind four_begun first) second)
-
-      module _ (out₃ : List ℕ) (q₃ : ℕ) (third : Stored out₂ q₂ ((w / 65536 % 256) ∷ []) out₃ q₃) where
-        pub four_fourth : q₃ + 1 ≤ length out₃
-        four_fourth = part_fits (left_behind (left_behind (left_behind four_begun first) second) third)
-
-        pub four_stored : (out₄ : List ℕ) (r : ℕ) → Stored out₃ q₃ ((w / 16777216) ∷ []) out₄ r → Stored out p (four_digits n) out₄ r
-        four_stored out₄ r fourth = all_stored (left_behind (left_behind (left_behind (left_behind four_begun first) second) third) fourth)
+  pub four_stored : (now : List ℕ) (r : ℕ) → Stored out p bytes now r → Stored out p (four_digits n) now r
+  four_stored now r s = rw (← bytes_are) s
 
 -- eight digits
 module _ (n p : ℕ) (out : List ℕ) (fits : p + length (eight_digits n) ≤ length out) where

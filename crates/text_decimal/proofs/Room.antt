@@ -35,29 +35,13 @@ module _ (out : List ℕ) (p : ℕ) (t : List ℕ) (short : length out < p + len
   unfolding fits
   has_none = lt-leb (p + length t) (length out) short
 
-  no_end : p ≡ put_end out p t
+  pub no_end : p ≡ put_end out p t
   unfolding put_end
   no_end = rw has_none
 
-  list_stays : out ≡ put_list out p t
+  pub list_stays : out ≡ put_list out p t
   unfolding put_list
   list_stays = rw has_none
-
--- there is none behind the list's end
-module _ (out : List ℕ) (p : ℕ) (t : List ℕ) (outside : length out < p) where
-  pub outside_no_end : p ≡ put_end out p t
-  outside_no_end = no_end out p t (omega arith)
-
-  pub outside_stays : out ≡ put_list out p t
-  outside_stays = list_stays out p t (omega arith)
-
--- nor for a text that is longer than what follows
-module _ (out : List ℕ) (p : ℕ) (t : List ℕ) (inside : p ≤ length out) (long : length out - p < length t) where
-  pub long_no_end : p ≡ put_end out p t
-  long_no_end = no_end out p t (omega arith)
-
-  pub long_stays : out ≡ put_list out p t
-  long_stays = list_stays out p t (omega arith)
 
 -- 20 bytes are room for any number
 pub twenty_at_most : (n : ℕ) → n < 2 ^ 64 → length (decimal n) ≤ 20

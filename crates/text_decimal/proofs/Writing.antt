@@ -1,7 +1,8 @@
 -- Texts that are stored one behind the other: what stands in the list is the texts joined.
-use Prim.Native.Nat.{ℕ, ◌+◌, ◌≤◌, ◌<◌}
+use Prim.Native.Nat.{ℕ, ◌+◌, ◌-◌, ◌≤◌, ◌<◌}
 use mathlib.Core.Path.{◌≡◌, refl, sym, ap, ◌∙◌}
 use mathlib.Core.List.{List, [], ◌∷◌, ◌++◌, append_assoc}
+use borrow.Rule.Slice.PartMut.{put_mid}
 use native.Mathlib.Nat.{add_assoc}
 use native.Mathlib.Numerals.{add-one}
 use native.Mathlib.Omega.{arith}
@@ -85,3 +86,10 @@ all_stored {now = now} {q = q} l = l.whole now q (record { text = sym (written_e
 -- one byte is stored
 pub byte_stored : (out : List ℕ) (p b : ℕ) → p + 1 ≤ length out → Stored out p (b ∷ []) (set out p b) (p + 1)
 byte_stored out p b fits = record { text = written_byte out p b (omega arith); end = refl }
+
+-- a text that is copied over as many bytes is stored
+pub copy_stored : (out : List ℕ) (p : ℕ) (t copy : List ℕ) → copy ≡ t → Stored out p t (put_mid p (p + length t - p) out copy) (p + length t)
+unfolding written
+copy_stored out p t copy e =
+    let l : p + length t - p ≡ length t = omega arith in
+    record { text = rw (e, l, drop-drop (length t) p out, append_assoc (take p out) t); end = refl }

@@ -26,21 +26,23 @@ fn digit_word(n: u32) -> u32
     pairs * 256 + ZEROS - tens * 2559
 }
 
-fn put_byte(out: &mut [u8], at: usize, b: u8) -> usize
-    requires { at + length (b ∷ []) ≤ length out.old }
-    ensures { Stored out.old at (b ∷ []) out.new result }
+// A text that fits.
+fn put(out: &mut [u8], at: usize, text: &[u8]) -> usize
+    requires { at + length text.now ≤ length out.old }
+    ensures { Stored out.old at text.now out.new result }
 {
-    out[at] = b;
-    at + 1
+    let end = at + text.len();
+    out[at..end].copy_from_slice(text);
+    end
 }
 
 // Two digits.
+#[tactic(auto, unfolding(crate::specs::Digits::two_digits))]
 fn put_two(out: &mut [u8], at: usize, n: u32) -> usize
     requires { (n < 100) × (at + length (two_digits n) ≤ length out.old) }
     ensures { Stored out.old at (two_digits n) out.new result }
 {
-    let second = put_byte(out, at, (ZERO + n / 10) as u8);
-    put_byte(out, second, (ZERO + n % 10) as u8)
+    put(out, at, &[(ZERO + n / 10) as u8, (ZERO + n % 10) as u8])
 }
 
 // Four digits.
@@ -48,11 +50,7 @@ fn put_four(out: &mut [u8], at: usize, n: u32) -> usize
     requires { (n < 10000) × (at + length (four_digits n) ≤ length out.old) }
     ensures { Stored out.old at (four_digits n) out.new result }
 {
-    let digits = digit_word(n);
-    let second = put_byte(out, at, (digits % 256) as u8);
-    let third = put_byte(out, second, (digits / 256 % 256) as u8);
-    let fourth = put_byte(out, third, (digits / 65536 % 256) as u8);
-    put_byte(out, fourth, (digits / 16777216) as u8)
+    put(out, at, &digit_word(n).to_le_bytes())
 }
 
 // Eight digits.
@@ -70,13 +68,13 @@ fn put_short(out: &mut [u8], at: usize, n: u32) -> usize
     ensures { Stored out.old at (decimal n) out.new result }
 {
     if n < 10 {
-        return put_byte(out, at, (ZERO + n) as u8);
+        return put(out, at, &[(ZERO + n) as u8]);
     }
     if n < 100 {
         return put_two(out, at, n);
     }
     if n < 1000 {
-        let second = put_byte(out, at, (ZERO + n / 100) as u8);
+        let second = put(out, at, &[(ZERO + n / 100) as u8]);
         return put_two(out, second, n % 100);
     }
     put_four(out, at, n)
@@ -112,23 +110,16 @@ fn put_decimal(out: &mut [u8], at: usize, n: u64) -> usize
 }
 
 // Stores a text from byte `at` on and answers where it ends. Where there is no room for it the list stays as it was, and the answer is `at`.
+#[tactic(auto, using(crate::proofs::Room::no_end, crate::proofs::Room::list_stays))]
 pub fn put_bytes(out: &mut [u8], at: usize, text: &[u8]) -> usize
     ensures value { result ≡ put_end out.old at text.now }
     ensures out_after { out.new ≡ put_list out.old at text.now }
 {
     let size = out.len();
-    if size < at {
-        return at;
+    if at <= size && text.len() <= size - at {
+        return put(out, at, text);
     }
-    if size - at < text.len() {
-        return at;
-    }
-    let mut i = 0;
-    while i < text.len() {
-        out[at + i] = text[i];
-        i += 1;
-    }
-    at + i
+    at
 }
 
 // A number near the list's end, by way of a list of its own.
@@ -148,10 +139,8 @@ pub fn put_number(out: &mut [u8], at: usize, n: u64) -> usize
     ensures out_after { out.new ≡ put_list out.old at (decimal n) }
 {
     let size = out.len();
-    if MOST_DIGITS <= size {
-        if at <= size - MOST_DIGITS {
-            return put_decimal(out, at, n);
-        }
+    if MOST_DIGITS <= size && at <= size - MOST_DIGITS {
+        return put_decimal(out, at, n);
     }
     put_near_end(out, at, n)
 }

@@ -1,14 +1,16 @@
 -- The rows have room for 512 marks, and the sweep is lent as many of them as there are marks with room.
 use Prim.Native.Nat.{ℕ, ◌*◌, ◌^◌, ◌≤◌, ◌<◌, min}
+use Rattle.std.specs.Prelude.{Result}
+use Rattle.meanings.specs.declared.Refusal.{Refusal}
+use Rattle.meanings.specs.Calls.{answer_of}
 use mathlib.Core.Path.{◌≡◌, sym, ap, ◌∙◌}
 use mathlib.Core.List.{List}
 use native.Mathlib.Omega.{arith}
 use lib.ListN.{length, take}
 use lib.Seq.{length-take-le}
-use Rattle.meanings.specs.declared.Writing.{Writing}
 use Rattle.meanings.specs.Limits.{row_width}
 use Rattle.meanings.specs.Output.{curve_text}
-use Rattle.meanings.specs.Calls.{writing_answer, curve_size, filled_front}
+use Rattle.meanings.specs.Calls.{curve_size, filled_front}
 use Rattle.meanings_ranges.specs.declared.Kind.{Kind}
 use Rattle.meanings_ranges.specs.declared.Kind.TheVariants.{Plain, Ranges}
 use Rattle.meanings_ranges.specs.Ranges.{range_row_width}
@@ -47,16 +49,16 @@ module _ (z n : ℕ) (least : n ≡ min z 512) where
     seven_counted all = sym (seven_lent all)
 
 -- what the sweeps' texts say
-module _ (ts ls us zs hs out now : List ℕ) (r : Writing) (n : ℕ) (least : n ≡ min (length zs) 512) (rows : List ℕ) where
+module _ (ts ls us zs hs out now : List ℕ) (r : Result ℕ Refusal) (n : ℕ) (least : n ≡ min (length zs) 512) (rows : List ℕ) where
   pub plain_written : length rows ≡ row_width * 512
-      → writing_answer r ≡ curve_size (lists_swept ts ls zs hs (take (row_width * n) rows) out)
+      → answer_of r ≡ curve_size (lists_swept ts ls zs hs (take (row_width * n) rows) out)
       → now ≡ filled_front (lists_swept ts ls zs hs (take (row_width * n) rows) out) curve_text out
       → KindWritten Plain ts ls us zs hs out r now
   plain_written all e f =
       record { rows = take (row_width * n) rows; room = five_lent (length zs) n least rows all ∙ ap (λ (m : ℕ). row_width * m) least; size = e; text = f }
 
   pub ranges_written : length rows ≡ range_row_width * 512
-      → writing_answer r ≡ text_size (ranges_swept ts ls us zs hs (take (range_row_width * n) rows) out)
+      → answer_of r ≡ text_size (ranges_swept ts ls us zs hs (take (range_row_width * n) rows) out)
       → now ≡ text_front (ranges_swept ts ls us zs hs (take (range_row_width * n) rows) out) out
       → KindWritten Ranges ts ls us zs hs out r now
   ranges_written all e f =
@@ -68,7 +70,7 @@ module _ (ts ls us zs hs out now : List ℕ) (r : Writing) (n : ℕ) (least : n 
       }
 
 -- by the kind
-module _ (k : Kind) (ts ls us zs hs out : List ℕ) (r : Writing) (now : List ℕ) where
+module _ (k : Kind) (ts ls us zs hs out : List ℕ) (r : Result ℕ Refusal) (now : List ℕ) where
   pub plain_kind : k ≡ Plain → KindWritten Plain ts ls ls zs hs out r now → KindWritten k ts ls us zs hs out r now
   plain_kind e w = rw e (record { rows = w.rows; room = w.room; size = w.size; text = w.text })
 

@@ -1,10 +1,12 @@
 -- What the text of lists is, by the kind.
 use Rattle.std.specs.Prelude.{ℕ, ◌*◌, min, ◌≡◌, List, length}
-use Rattle.meanings.specs.declared.Writing.{Writing}
+use Rattle.std.specs.Prelude.{Result}
+use Rattle.meanings.specs.declared.Refusal.{Refusal}
+use Rattle.meanings.specs.Calls.{answer_of}
 use Rattle.meanings.specs.Limits.{full, row_width}
 use Rattle.meanings.specs.Reports.{Answer}
 use Rattle.meanings.specs.Output.{curve_text}
-use Rattle.meanings.specs.Calls.{writing_answer, curve_size, filled_front}
+use Rattle.meanings.specs.Calls.{curve_size, filled_front}
 use Rattle.meanings_ranges.specs.declared.Kind.{Kind}
 use Rattle.meanings_ranges.specs.declared.Kind.TheVariants.{Plain, Ranges}
 use Rattle.meanings_ranges.specs.Ranges.{range_row_width}
@@ -27,8 +29,8 @@ kind_buffer Plain ts ls us zs hs rs out = filled_front (lists_swept ts ls zs hs 
 kind_buffer Ranges ts ls us zs hs rs out = text_front (ranges_swept ts ls us zs hs rs out) out
 
 -- the answer and the buffer are those with rows for each mark, for 512 of them where there are more
-pub record KindWritten (k : Kind) (ts ls us zs hs out : List ℕ) (r : Writing) (now : List ℕ) : Type 0 where
+pub record KindWritten (k : Kind) (ts ls us zs hs out : List ℕ) (r : Result ℕ Refusal) (now : List ℕ) : Type 0 where
   pub rows : List ℕ
   pub room : length rows ≡ kind_width k * min (length zs) full.points
-  pub size : writing_answer r ≡ kind_size k ts ls us zs hs rows out
+  pub size : answer_of r ≡ kind_size k ts ls us zs hs rows out
   pub text : now ≡ kind_buffer k ts ls us zs hs rows out

@@ -5,7 +5,7 @@ ghost use Rattle.std.specs.Prelude.{◌≡◌, min};
 ghost use Rattle.meanings_ranges.specs.declared.Kind.TheVariants.{Plain, Ranges};
 ghost use Rattle.text_kind.specs.KindText.{KindWritten};
 
-use meanings::{ROW_WIDTH, Writing};
+use meanings::{ROW_WIDTH, Refusal};
 use meanings_ranges::{Kind, RANGE_ROW_WIDTH};
 use text::swept_text;
 use text_ranges::swept_ranges_text;
@@ -27,7 +27,7 @@ pub(crate) fn plain_text(
     points: &[u16],
     bandwidths: &[u32],
     out: &mut [u8],
-) -> Writing
+) -> Result<usize, Refusal>
     ensures { KindWritten Plain minutes.now values.now values.now points.now bandwidths.now out.old result out.new }
 {
     let mut rows = [0u64; ROW_WIDTH * 512];
@@ -43,7 +43,7 @@ pub(crate) fn ranges_text(
     points: &[u16],
     bandwidths: &[u32],
     out: &mut [u8],
-) -> Writing
+) -> Result<usize, Refusal>
     ensures { KindWritten Ranges minutes.now lows.now highs.now points.now bandwidths.now out.old result out.new }
 {
     let mut rows = [0u64; RANGE_ROW_WIDTH * 512];
@@ -69,7 +69,7 @@ pub fn kind_text(
     points: &[u16],
     bandwidths: &[u32],
     out: &mut [u8],
-) -> Writing
+) -> Result<usize, Refusal>
     ensures { KindWritten kind minutes.now lows.now highs.now points.now bandwidths.now out.old result out.new }
 {
     match kind {

@@ -1,13 +1,10 @@
 // Lines that fit, part by part. Each function stores one text from byte `at` on and answers where the text ends, so the next one begins there.
 ghost use Rattle.std.specs.Prelude.{◌+◌, ◌≤◌, [], ◌∷◌, length};
 ghost use Rattle.meanings.specs.Bytes.{comma};
-ghost use Rattle.meanings.specs.Output.{decimal, text_line, value_text, curve_line};
-ghost use Rattle.meanings_ranges.specs.RangeOutput.{range_curve_line};
+ghost use Rattle.meanings.specs.Output.{decimal, value_text};
 ghost use Rattle.text_decimal.specs.Written.{Stored};
-ghost use Rattle.text_lines.specs.Parts.{sums_text, range_sums_text, range_values_text};
+ghost use Rattle.text_room.specs.Line.{line_text};
 
-use meanings::Estimate;
-use meanings_ranges::{Bounds, RangeEstimate};
 use text_decimal::put_number;
 
 const LINE_FEED: u8 = 10;
@@ -61,80 +58,24 @@ fn put_value_after_comma(out: &mut [u8], at: usize, v: u64) -> usize
     put_value(out, begin, v)
 }
 
-// What follows the edges in a mark's line: weight, sum and value.
-fn put_sums(out: &mut [u8], at: usize, weight: u64, sum: u64, value: u64) -> usize
-    requires { at + length (sums_text weight sum value) ≤ length out.old }
-    ensures { Stored out.old at (sums_text weight sum value) out.new result }
-{
-    let weight_end = put_after_comma(out, at, weight);
-    let sum_end = put_after_comma(out, weight_end, sum);
-    let value_end = put_value_after_comma(out, sum_end, value);
-    put_byte(out, value_end, LINE_FEED)
-}
-
-// What follows them over ranges: weight and both sums.
-fn put_range_sums(out: &mut [u8], at: usize, weight: u64, sum: Bounds) -> usize
-    requires { at + length (range_sums_text weight sum) ≤ length out.old }
-    ensures { Stored out.old at (range_sums_text weight sum) out.new result }
-{
-    let weight_end = put_after_comma(out, at, weight);
-    let low_end = put_after_comma(out, weight_end, sum.low);
-    put_after_comma(out, low_end, sum.high)
-}
-
-// And both values.
-fn put_range_values(out: &mut [u8], at: usize, value: Bounds) -> usize
-    requires { at + length (range_values_text value) ≤ length out.old }
-    ensures { Stored out.old at (range_values_text value) out.new result }
-{
-    let low_end = put_value_after_comma(out, at, value.low);
-    let high_end = put_value_after_comma(out, low_end, value.high);
-    put_byte(out, high_end, LINE_FEED)
-}
-
-// A mark's line: mark, half width and the row.
-pub(crate) fn put_whole_curve_line(
+// A line: the first number, and each other number and value behind a comma.
+#[inline(always)]
+pub(crate) fn put_whole_line(
     out: &mut [u8],
     at: usize,
-    point: u16,
-    bandwidth: u32,
-    row: Estimate,
+    first: u64,
+    numbers: &[u64],
+    values: &[u64],
 ) -> usize
-    requires { at + length (curve_line point bandwidth row) ≤ length out.old }
-    ensures { Stored out.old at (curve_line point bandwidth row) out.new result }
+    requires { at + length (line_text first numbers.now values.now) ≤ length out.old }
+    ensures { Stored out.old at (line_text first numbers.now values.now) out.new result }
 {
-    let point_end = put_decimal(out, at, point as u64);
-    let bandwidth_end = put_after_comma(out, point_end, bandwidth as u64);
-    let left_end = put_after_comma(out, bandwidth_end, row.left);
-    let right_end = put_after_comma(out, left_end, row.right);
-    put_sums(out, right_end, row.weight, row.sum, row.value)
-}
-
-// A mark's line over ranges.
-pub(crate) fn put_whole_range_line(
-    out: &mut [u8],
-    at: usize,
-    point: u16,
-    bandwidth: u32,
-    row: RangeEstimate,
-) -> usize
-    requires { at + length (range_curve_line point bandwidth row) ≤ length out.old }
-    ensures { Stored out.old at (range_curve_line point bandwidth row) out.new result }
-{
-    let point_end = put_decimal(out, at, point as u64);
-    let bandwidth_end = put_after_comma(out, point_end, bandwidth as u64);
-    let left_end = put_after_comma(out, bandwidth_end, row.left);
-    let right_end = put_after_comma(out, left_end, row.right);
-    let sums_end = put_range_sums(out, right_end, row.weight, row.sum);
-    put_range_values(out, sums_end, row.value)
-}
-
-// A line of two numbers.
-pub(crate) fn put_whole_pair_line(out: &mut [u8], at: usize, a: u64, b: u64) -> usize
-    requires { at + length (text_line (decimal a) (decimal b ∷ [])) ≤ length out.old }
-    ensures { Stored out.old at (text_line (decimal a) (decimal b ∷ [])) out.new result }
-{
-    let first_end = put_decimal(out, at, a);
-    let second_end = put_after_comma(out, first_end, b);
-    put_byte(out, second_end, LINE_FEED)
+    let mut end = put_decimal(out, at, first);
+    for n in numbers {
+        end = put_after_comma(out, end, *n);
+    }
+    for v in values {
+        end = put_value_after_comma(out, end, *v);
+    }
+    put_byte(out, end, LINE_FEED)
 }

@@ -2,18 +2,17 @@
 #![tactic(auto)]
 
 ghost use Rattle.std.specs.Prelude.{◌≡◌, ◌≤◌, length, take};
+ghost use Rattle.meanings.specs.Calls.{answer_of};
 ghost use Rattle.meanings.specs.Limits.{max_output};
-ghost use Rattle.meanings.specs.Calls.{writing_answer};
 ghost use Rattle.meanings_ranges.specs.RangeOutput.{write_either, write_either_buffer};
 ghost use Rattle.text_sheet.specs.SheetText.{SheetWritten};
 
-use meanings::{MAX_OUTPUT, Refusal, Report, Writing};
-use meanings_ranges::RangeParsing;
+use meanings::{MAX_OUTPUT, Refusal, Report};
 use sheet_scan::scan_sheet;
 use text_kind::kind_text;
 
 // The text of the sheet that is the first `size` bytes of the buffer, over them: once it is read into the lists, its bytes are not looked at again.
-pub(crate) fn sheet_text_over(buf: &mut [u8], size: usize) -> Writing
+pub(crate) fn sheet_text_over(buf: &mut [u8], size: usize) -> Result<usize, Refusal>
     requires { (length buf.old ≡ max_output) × (size ≤ length buf.old) }
     ensures { SheetWritten (take size buf.old) buf.old result buf.new }
 {
@@ -22,42 +21,34 @@ pub(crate) fn sheet_text_over(buf: &mut [u8], size: usize) -> Writing
     let mut highs = [0u16; 1024];
     let mut points = [0u16; 512];
     let mut bandwidths = [0u32; 512];
-    match scan_sheet(
+    let used = scan_sheet(
         &buf[..size],
         &mut minutes,
         &mut lows,
         &mut highs,
         &mut points,
         &mut bandwidths,
-    ) {
-        RangeParsing::Refused(fault) => Writing::Refused(fault),
-        RangeParsing::Used {
-            samples: n,
-            points: m,
-            kind,
-        } => kind_text(
-            kind,
-            &minutes[..n],
-            &lows[..n],
-            &highs[..n],
-            &points[..m],
-            &bandwidths[..m],
-            buf,
-        ),
-    }
+    )?;
+    kind_text(
+        used.kind,
+        &minutes[..used.samples],
+        &lows[..used.samples],
+        &highs[..used.samples],
+        &points[..used.points],
+        &bandwidths[..used.points],
+        buf,
+    )
 }
 
 // Writes the curve of the sheet that is the first `size` bytes of a buffer of MAX_OUTPUT bytes, all of them where they are fewer, over that sheet. A
 // buffer of another length is refused with 8, and a refused sheet with its own report; the buffer then stays as it was.
-pub fn curve_text_over(buf: &mut [u8], size: usize) -> Writing
-    ensures result_value { writing_answer result ≡ write_either (take size buf.old) buf.old }
+#[tactic(auto, unfolding(meanings_ranges::specs::RangeOutput::write_either, meanings_ranges::specs::RangeOutput::write_either_buffer))]
+pub fn curve_text_over(buf: &mut [u8], size: usize) -> Result<usize, Refusal>
+    ensures result_value { answer_of result ≡ write_either (take size buf.old) buf.old }
     ensures buf_after { buf.new ≡ write_either_buffer (take size buf.old) buf.old }
 {
     if buf.len() != MAX_OUTPUT {
-        return Writing::Refused(Refusal {
-            report: Report::LengthMismatch,
-            place: 0,
-        });
+        return Err(Report::LengthMismatch.at(0));
     }
     if MAX_OUTPUT < size {
         return sheet_text_over(buf, MAX_OUTPUT);

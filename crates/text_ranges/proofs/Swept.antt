@@ -1,8 +1,10 @@
 -- What the sweep refuses is answered; what it accepts has few marks, short numbers and so a text that fits, which its rows and passes make.
 use Prim.Native.Nat.{ℕ, ◌*◌, ◌≤◌}
+use Rattle.std.specs.Prelude.{Result, Ok, Err}
+use Rattle.meanings.specs.Calls.{answer_of}
 use mathlib.Core.Path.{◌≡◌, sym, ap, ◌∙◌}
 use mathlib.Core.List.{List}
-use mathlib.Core.Option.{Option, none, some}
+use Rattle.std.specs.Prelude.{Option, None, Some}
 use native.Mathlib.Nat.{zero-add}
 use native.Mathlib.Omega.{arith}
 use borrow.Author.Tests.{le-ltb}
@@ -10,8 +12,6 @@ use mir.Val.{Fits}
 use mir.Syntax.{w16}
 use lib.ListN.{length, get_or}
 use Rattle.meanings.specs.declared.Refusal.{Refusal}
-use Rattle.meanings.specs.declared.Smoothing.{Smoothing}
-use Rattle.meanings.specs.declared.Smoothing.TheVariants.{Passes}
 use Rattle.meanings.specs.Lists.{AtMost}
 use Rattle.meanings.specs.Limits.{full, max_u16, max_output}
 use Rattle.meanings.specs.Moves.{moves}
@@ -19,7 +19,6 @@ use Rattle.meanings.specs.Reports.{Fault, given, refused, unless, fault_of, decr
 use Rattle.meanings.specs.Reports.{sample_order_checks, point_order_checks, windows_checks}
 use Rattle.meanings.specs.Running.{fresh, passes}
 use Rattle.meanings.specs.Sheet.{or_next}
-use Rattle.meanings.specs.Calls.{smoothing_answer}
 use Rattle.meanings.proofs.Checks.{differ_true, differ_same, given_accepted, none_holds}
 use Rattle.meanings.proofs.Search.{lowest_none}
 use Rattle.meanings_ranges.specs.Ranges.{range_row_width, range_rows, range_refusal, smooth_ranges, smooth_ranges_rows}
@@ -49,7 +48,7 @@ of_16_bits : (xs : List ℕ) → ((i : ℕ) → Fits w16 (get_or xs i 0)) → At
 of_16_bits xs f i l = omega (arith, f i)
 
 -- lists that the sweep does not refuse are as those of an accepted sheet
-module _ (ts ls us zs hs rs : List ℕ) (found : range_refusal full ts ls us zs hs rs ≡ none) where
+module _ (ts ls us zs hs rs : List ℕ) (found : range_refusal full ts ls us zs hs rs ≡ None) where
   swept_lists : RangesAccepted full ts ls us zs hs rs
   swept_lists = ranges_accept full ts ls us zs hs rs found
 
@@ -90,16 +89,16 @@ module _ (ts ls us zs hs rs out : List ℕ) (right : length out ≡ max_output) 
   unfolding ranges_rows
   swept_rows rs' e = e ∙ rw (differ_same (length out) max_output right)
 
-  module _ (r : Smoothing) (answer : smoothing_answer r ≡ smooth_ranges full ts ls us zs hs rs) where
+  module _ (r : Result ℕ Refusal) (answer : answer_of r ≡ smooth_ranges full ts ls us zs hs rs) where
     -- a refusal
-    module _ (f : Refusal) (unswept : r ≡ Smoothing.Refused f) where
-      refused_by_sweep : range_refusal full ts ls us zs hs rs ≡ some (fault_of f)
+    module _ (f : Refusal) (unswept : r ≡ Err f) where
+      refused_by_sweep : range_refusal full ts ls us zs hs rs ≡ Some (fault_of f)
       unfolding smooth_ranges
-      refused_by_sweep = by (range_refusal full ts ls us zs hs rs) (sym (ap smoothing_answer unswept) ∙ answer)
+      refused_by_sweep = by (range_refusal full ts ls us zs hs rs) (sym (ap answer_of unswept) ∙ answer)
         where
-          by : (o : Option Fault) → refused (fault_of f) ≡ unless o (passes ts ls fresh (moves zs hs)) → o ≡ some (fault_of f)
-          by none e = let z : ◌≡◌ {A = ℕ} 0 1 = cc in absurd (omega arith)
-          by (some g) e = cc
+          by : (o : Option Fault) → refused (fault_of f) ≡ unless o (passes ts ls fresh (moves zs hs)) → o ≡ Some (fault_of f)
+          by None e = let z : ◌≡◌ {A = ℕ} 0 1 = cc in absurd (omega arith)
+          by (Some g) e = cc
 
       pub sweep_refused : refused (fault_of f) ≡ text_size (ranges_swept ts ls us zs hs rs out)
       sweep_refused = rw (goes_by_sweep, refused_by_sweep)
@@ -108,10 +107,10 @@ module _ (ts ls us zs hs rs out : List ℕ) (right : length out ≡ max_output) 
       sweep_refused_stays = rw (goes_by_sweep, refused_by_sweep)
 
     -- its passes and rows
-    module _ (n : ℕ) (done : r ≡ Passes n) where
-      accepted : (range_refusal full ts ls us zs hs rs ≡ none) × (passes ts ls fresh (moves zs hs) ≡ n)
+    module _ (n : ℕ) (done : r ≡ Ok n) where
+      accepted : (range_refusal full ts ls us zs hs rs ≡ None) × (passes ts ls fresh (moves zs hs) ≡ n)
       unfolding smooth_ranges
-      accepted = given_accepted _ (passes ts ls fresh (moves zs hs)) n (sym answer ∙ ap smoothing_answer done)
+      accepted = given_accepted _ (passes ts ls fresh (moves zs hs)) n (sym answer ∙ ap answer_of done)
 
       lists_given : ranges_swept ts ls us zs hs rs out ≡ given (ranges_of ts ls us zs hs)
       lists_given = goes_by_sweep ∙ rw accepted.0

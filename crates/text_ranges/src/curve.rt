@@ -29,7 +29,7 @@ pub(crate) fn stored_range_row(rows: &[u64], k: usize) -> RangeEstimate
     }
 }
 
-// A line for each mark.
+// A line for each mark. text has the same loop: a trait over the row, with its width and line as ghost members, is longer than both.
 pub(crate) fn put_range_lines(
     out: &mut [u8],
     at: usize,
@@ -41,15 +41,13 @@ pub(crate) fn put_range_lines(
     ensures { Stored out.old at (range_table_lines points.now bandwidths.now rows.now (length points.now)) out.new result }
 {
     let mut to = at;
-    let mut k = 0;
-    while k < points.len() {
+    for k in 0..points.len() {
         to = put_range_line(out, to, points[k], bandwidths[k], stored_range_row(rows, k));
-        k += 1;
     }
     to
 }
 
-// The whole curve, then kept readings and passes.
+// The whole curve, then kept readings and passes. text has the same with another header; a trait is longer than both, as at put_range_lines.
 pub(crate) fn put_range_curve(
     out: &mut [u8],
     kept: usize,

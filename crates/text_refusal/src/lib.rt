@@ -2,11 +2,12 @@
 #![tactic(auto)]
 
 ghost use Rattle.std.specs.Prelude.{◌≡◌, ◌+◌, ◌≤◌, [], ◌∷◌, length};
+ghost use Rattle.meanings.specs.Calls.{answer_of};
 ghost use Rattle.meanings.specs.Output.{decimal, text_line, refusal_text as text_of};
-ghost use Rattle.meanings.specs.Calls.{writing_answer, write_refusal_text, refusal_buffer};
+ghost use Rattle.meanings.specs.Calls.{write_refusal_text, refusal_buffer};
 ghost use Rattle.text_decimal.specs.Written.{Stored};
 
-use meanings::{MAX_OUTPUT, Refusal, Report, Writing};
+use meanings::{MAX_OUTPUT, Refusal, Report};
 use text_decimal::{put_bytes, put_number};
 
 // A text that fits.
@@ -46,16 +47,14 @@ fn put_refusal(out: &mut [u8], number: u64, place: u64) -> usize
 }
 
 // Writes the text of a refusal with this number and place into a buffer of the same length; another length is refused with 8.
-pub fn refusal_text(number: u64, place: u64, out: &mut [u8]) -> Writing
-    ensures result_value { writing_answer result ≡ write_refusal_text number place out.old }
+#[tactic(auto, unfolding(meanings::specs::Calls::write_refusal_text, meanings::specs::Calls::refusal_buffer))]
+pub fn refusal_text(number: u64, place: u64, out: &mut [u8]) -> Result<usize, Refusal>
+    ensures result_value { answer_of result ≡ write_refusal_text number place out.old }
     ensures out_after { out.new ≡ refusal_buffer number place out.old }
 {
     let size = out.len();
     if size != MAX_OUTPUT {
-        return Writing::Refused(Refusal {
-            report: Report::LengthMismatch,
-            place: 0,
-        });
+        return Err(Report::LengthMismatch.at(0));
     }
-    Writing::Written(put_refusal(out, number, place))
+    Ok(put_refusal(out, number, place))
 }

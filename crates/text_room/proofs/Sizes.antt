@@ -1,23 +1,15 @@
--- How long a line is, and whether it fits. A mark of 16 bits has at most 5 digits, a half width of 32 bits 10, any other number 20, so no line has
--- more than 164 bytes.
-use Prim.Native.Nat.{ℕ, ◌+◌, ◌-◌, ◌^◌, ◌≤◌, ◌<◌}
-use mathlib.Core.Path.{◌≡◌, refl, sym, ◌∙◌}
-use mathlib.Core.Bool.{Bool, true, false}
-use mathlib.Core.List.{List, [], ◌∷◌}
-use native.Mathlib.Omega.{arith}
-use borrow.Author.Tests.{le-leb, lt-leb, leb-true, leb-false, eq-eqb, ne_eqb}
-use lib.Dec.{eqb, leb}
-use lib.ListN.{length, length-append}
-use Rattle.meanings.specs.declared.Estimate.{Estimate}
+-- How long a line is, and whether it fits. A number of 64 bits has at most 20 digits.
+use Rattle.std.proofs.Common.{◌≡◌, ℕ, ◌+◌, ◌-◌, ◌*◌, ◌/◌, ◌^◌, ◌≤◌, ◌<◌, Bool, true, false, List, [], ◌∷◌}
+use Rattle.std.proofs.Common.{Fits, w64, eqb, leb, ltb, length, get_or, drop, map, sym, ap, ◌∙◌, arith, length-append, suc}
+use Rattle.std.proofs.lemmas.Bool.{le-leb, lt-leb, leb-true, leb-false, ltb-true, ltb-false, eq-eqb, ne_eqb}
 use Rattle.meanings.specs.Bytes.{dash}
 use Rattle.meanings.specs.Lists.{pick}
 use Rattle.meanings.specs.Estimate.{missing}
-use Rattle.meanings.specs.Output.{decimal, text_line, value_text, curve_line}
-use Rattle.meanings_ranges.specs.declared.RangeEstimate.{RangeEstimate}
-use Rattle.meanings_ranges.specs.RangeOutput.{range_curve_line}
-use Rattle.laws_text.proofs.Numbers.{decimal_length}
+use Rattle.meanings.specs.Output.{decimal, comma_before, text_line, value_text}
 use Rattle.text_decimal.specs.Written.{fits, put_end}
 use Rattle.text_decimal.proofs.Room.{twenty_at_most}
+use Rattle.text_room.specs.Line.{fields, line_text, most_bytes}
+use Rattle.text_room.proofs.Lines.{number_next, no_number_left, value_next, no_value_left}
 
 -- a number has as many digits as it takes of a list of 20 bytes
 module _ (n : ℕ) (small : n < 2 ^ 64) (own : List ℕ) (twenty : length own ≡ 20) (r : ℕ) (end : r ≡ put_end own 0 (decimal n)) where
@@ -38,22 +30,76 @@ missing_size v e = rw (eq-eqb v missing e)
 pub present_size : (v : ℕ) → ¬ (v ≡ missing) → (r : ℕ) → r ≡ length (decimal v) → r ≡ length (value_text v)
 present_size v e r s = s ∙ rw (ne_eqb v missing e)
 
--- lines are as long as their parts
-pub pair_size : (a b : ℕ) (c d : ℕ) → c ≡ length (decimal a) → d ≡ length (decimal b) → c + d + 2 ≡ length (text_line (decimal a) (decimal b ∷ []))
-pair_size a b c d e f = simp length-append (omega arith)
+-- a line is as long as its texts and the byte behind each
+line_length : (t : List ℕ) (ts : List (List ℕ)) → length (text_line t ts) ≡ length t + 1 + length (comma_before ts)
+line_length t ts = simp length-append (omega arith)
 
-pub curve_line_size : (z h : ℕ) (e : Estimate) (a b c d f g i : ℕ) → a ≡ length (decimal z) → b ≡ length (decimal h) → c ≡ length (decimal e.left)
-    → d ≡ length (decimal e.right) → f ≡ length (decimal e.weight) → g ≡ length (decimal e.sum) → i ≡ length (value_text e.value)
-    → a + b + c + d + f + g + i + 7 ≡ length (curve_line z h e)
-curve_line_size z h e a b c d f g i ea eb ec ed ef eg ei = simp length-append (omega arith)
+left_length : (ts : List (List ℕ)) (t : List ℕ) (us : List (List ℕ)) → ts ≡ t ∷ us → length (comma_before ts) ≡ 1 + length t + length (comma_before us)
+left_length ts t us e = ap (λ (xs : List (List ℕ)). length (comma_before xs)) e ∙ simp length-append (omega arith)
 
-pub range_line_size : (z h : ℕ) (e : RangeEstimate) (a b c d f g i j k : ℕ) → a ≡ length (decimal z) → b ≡ length (decimal h)
-    → c ≡ length (decimal e.left) → d ≡ length (decimal e.right) → f ≡ length (decimal e.weight) → g ≡ length (decimal e.sum.low)
-    → i ≡ length (decimal e.sum.high) → j ≡ length (value_text e.value.low) → k ≡ length (value_text e.value.high)
-    → a + b + c + d + f + (g + i) + (j + k) + 9 ≡ length (range_curve_line z h e)
-range_line_size z h e a b c d f g i j k ea eb ec ed ef eg ei ej ek = simp length-append (omega arith)
+-- the room without the first k numbers is left for what follows them and the line feed
+pub record NumbersOff (room f : ℕ) (ns vs : List ℕ) (left k : ℕ) : Type 0 where
+  pub whole : left + length (line_text f ns vs) ≡ room + length (comma_before (fields (drop k ns) vs)) + 1
 
--- the longest ones
+-- and without all numbers and the first k values
+pub record ValuesOff (room f : ℕ) (ns vs : List ℕ) (left k : ℕ) : Type 0 where
+  pub whole : left + length (line_text f ns vs) ≡ room + length (comma_before (map value_text (drop k vs))) + 1
+
+module _ (room f : ℕ) (ns vs : List ℕ) (c : ℕ) (e : c ≡ length (decimal f)) where
+  pub first_too_long : room < c → false ≡ leb (length (line_text f ns vs)) room
+  first_too_long over =
+      let l = line_length (decimal f) (fields ns vs) in
+      sym (lt-leb (length (line_text f ns vs)) room (omega arith))
+
+  pub first_off : c ≤ room → NumbersOff room f ns vs (room - c) 0
+  first_off inside =
+      let l = line_length (decimal f) (fields ns vs) in
+      record { whole = omega (arith, inside) }
+
+module _ {room f : ℕ} {ns vs : List ℕ} {left k : ℕ} (w : NumbersOff room f ns vs left k) where
+  module _ (more : k < length ns) (c : ℕ) (e : c ≡ length (decimal (get_or ns k 0))) where
+    pub number_too_long : left < 1 + c → false ≡ leb (length (line_text f ns vs)) room
+    number_too_long over =
+        let m = left_length _ _ _ (number_next ns vs k more) in
+        sym (lt-leb (length (line_text f ns vs)) room (omega (arith, w.whole)))
+
+    pub number_off : 1 + c ≤ left → NumbersOff room f ns vs (left - (1 + c)) (k + 1)
+    number_off inside =
+        let m = left_length _ _ _ (number_next ns vs k more) in
+        record { whole = omega (arith, w.whole, inside) }
+
+  pub values_begin : length ns ≤ k → ValuesOff room f ns vs left 0
+  values_begin none =
+      let m = ap (λ (xs : List (List ℕ)). length (comma_before xs)) (no_number_left ns vs k none) in
+      record { whole = omega (arith, w.whole) }
+
+module _ {room f : ℕ} {ns vs : List ℕ} {left k : ℕ} (w : ValuesOff room f ns vs left k) where
+  module _ (more : k < length vs) (c : ℕ) (e : c ≡ length (value_text (get_or vs k 0))) where
+    pub value_too_long : left < 1 + c → false ≡ leb (length (line_text f ns vs)) room
+    value_too_long over =
+        let m = left_length _ _ _ (value_next vs k more) in
+        sym (lt-leb (length (line_text f ns vs)) room (omega (arith, w.whole)))
+
+    pub value_off : 1 + c ≤ left → ValuesOff room f ns vs (left - (1 + c)) (k + 1)
+    value_off inside =
+        let m = left_length _ _ _ (value_next vs k more) in
+        record { whole = omega (arith, w.whole, inside) }
+
+  module _ (none : length vs ≤ k) where
+    line_off : left + length (line_text f ns vs) ≡ room + 1
+    line_off =
+        let m = ap (λ (xs : List (List ℕ)). length (comma_before xs)) (no_value_left vs k none) in
+        omega (arith, w.whole)
+
+    pub line_feed_fits : (b : Bool) → b ≡ ltb 0 left → b ≡ leb (length (line_text f ns vs)) room
+    line_feed_fits true e =
+        let l = ltb-true 0 left (sym e) in
+        sym (le-leb (length (line_text f ns vs)) room (omega (arith, line_off)))
+    line_feed_fits false e =
+        let l = ltb-false 0 left (sym e) in
+        sym (lt-leb (length (line_text f ns vs)) room (omega (arith, line_off)))
+
+-- the longest line
 value_short : (v : ℕ) → v < 2 ^ 64 → length (value_text v) ≤ 20
 value_short v small = by (eqb v missing)
   where
@@ -61,52 +107,43 @@ value_short v small = by (eqb v missing)
     by true = omega arith
     by false = twenty_at_most v small
 
-pub pair_short : (a b : ℕ) → a < 2 ^ 64 → b < 2 ^ 64 → length (text_line (decimal a) (decimal b ∷ [])) ≤ 164
-pair_short a b la lb =
-    let c = twenty_at_most a la in
-    let d = twenty_at_most b lb in
+values_short : (vs : List ℕ) → ((i : ℕ) → Fits w64 (get_or vs i 0)) → length (comma_before (map value_text vs)) ≤ 21 * length vs
+values_short [] small = omega arith
+values_short (v ∷ vs) small =
+    let a = value_short v (small 0).fits in
+    let b = values_short vs (λ i. small (suc i)) in
     simp length-append (omega arith)
 
-pub curve_line_short : (z h : ℕ) (e : Estimate) → z < 2 ^ 16 → h < 2 ^ 32 → e.left < 2 ^ 64 → e.right < 2 ^ 64 → e.weight < 2 ^ 64
-    → e.sum < 2 ^ 64 → e.value < 2 ^ 64 → length (curve_line z h e) ≤ 164
-curve_line_short z h e point bandwidth left right weight sum value =
-    let a = decimal_length z 4 (omega arith) in
-    let b = decimal_length h 9 (omega arith) in
-    let c = twenty_at_most e.left left in
-    let d = twenty_at_most e.right right in
-    let f = twenty_at_most e.weight weight in
-    let g = twenty_at_most e.sum sum in
-    let i = value_short e.value value in
+fields_short : (ns vs : List ℕ) → ((i : ℕ) → Fits w64 (get_or ns i 0)) → ((i : ℕ) → Fits w64 (get_or vs i 0))
+    → length (comma_before (fields ns vs)) ≤ 21 * (length ns + length vs)
+fields_short [] vs small values = omega (arith, values_short vs values)
+fields_short (n ∷ ns) vs small values =
+    let a = twenty_at_most n (small 0).fits in
+    let b = fields_short ns vs (λ i. small (suc i)) values in
     simp length-append (omega arith)
 
-pub range_line_short : (z h : ℕ) (e : RangeEstimate) → z < 2 ^ 16 → h < 2 ^ 32 → e.left < 2 ^ 64 → e.right < 2 ^ 64 → e.weight < 2 ^ 64
-    → e.sum.low < 2 ^ 64 → e.sum.high < 2 ^ 64 → e.value.low < 2 ^ 64 → e.value.high < 2 ^ 64 → length (range_curve_line z h e) ≤ 164
-range_line_short z h e point bandwidth left right weight low_sum high_sum low_value high_value =
-    let a = decimal_length z 4 (omega arith) in
-    let b = decimal_length h 9 (omega arith) in
-    let c = twenty_at_most e.left left in
-    let d = twenty_at_most e.right right in
-    let f = twenty_at_most e.weight weight in
-    let g = twenty_at_most e.sum.low low_sum in
-    let i = twenty_at_most e.sum.high high_sum in
-    let j = value_short e.value.low low_value in
-    let k = value_short e.value.high high_value in
-    simp length-append (omega arith)
+pub line_short : (f : ℕ) (ns vs : List ℕ) → f < 2 ^ 64 → ((i : ℕ) → Fits w64 (get_or ns i 0)) → ((i : ℕ) → Fits w64 (get_or vs i 0))
+    → length (line_text f ns vs) ≤ most_bytes ns vs
+line_short f ns vs small numbers values =
+    omega (arith, line_length (decimal f) (fields ns vs), twenty_at_most f small, fields_short ns vs numbers values)
 
--- so many bytes are left, or not
-pub none_outside : (size p c : ℕ) → size < p → false ≡ leb (p + c) size
-none_outside size p c l = sym (lt-leb (p + c) size (omega arith))
+-- a line fits where the longest of as many numbers does
+pub fits_with_room : (f : ℕ) (ns vs : List ℕ) → f < 2 ^ 64 → ((i : ℕ) → Fits w64 (get_or ns i 0)) → ((i : ℕ) → Fits w64 (get_or vs i 0))
+    → (size p : ℕ) → p ≤ size → 1 + length ns + length vs ≤ (size - p) / 21
+    → leb (1 + length ns + length vs) ((size - p) / 21) ≡ leb (p + length (line_text f ns vs)) size
+fits_with_room f ns vs small numbers values size p inside room =
+    le-leb (1 + length ns + length vs) ((size - p) / 21) room
+    ∙ sym (le-leb (p + length (line_text f ns vs)) size (omega (arith, inside, room, line_short f ns vs small numbers values)))
 
-pub left_inside : (size p c : ℕ) → p ≤ size → leb c (size - p) ≡ leb (p + c) size
-left_inside size p c l = by (leb c (size - p)) refl
-  where
-    by : (b : Bool) → leb c (size - p) ≡ b → leb c (size - p) ≡ leb (p + c) size
-    by true e = let h = leb-true c (size - p) e in e ∙ sym (le-leb (p + c) size (omega arith))
-    by false e = let h = leb-false c (size - p) e in e ∙ sym (lt-leb (p + c) size (omega arith))
+-- where the longest doesn't, its bytes are counted
+pub fits_behind : (t size p : ℕ) → p ≤ size → (b : Bool) → b ≡ leb t (size - p) → b ≡ leb (p + t) size
+fits_behind t size p inside true e =
+    let l = leb-true t (size - p) (sym e) in
+    sym (le-leb (p + t) size (omega (arith, inside)))
+fits_behind t size p inside false e =
+    let l = leb-false t (size - p) (sym e) in
+    sym (lt-leb (p + t) size (omega (arith, inside)))
 
--- a text fits where 164 bytes are left, or as many as it has
-pub fits_at_once : (t : List ℕ) → length t ≤ 164 → (size p : ℕ) → 164 ≤ size → p ≤ size - 164 → true ≡ leb (p + length t) size
-fits_at_once t short size p long far = sym (le-leb (p + length t) size (omega arith))
-
-pub fits_by_size : (t : List ℕ) (c : ℕ) → c ≡ length t → (size p : ℕ) (b : Bool) → b ≡ leb (p + c) size → b ≡ leb (p + length t) size
-fits_by_size t c e size p b told = told ∙ rw e
+-- nothing fits behind the end
+pub none_behind : (t size p : ℕ) → size < p → false ≡ leb (p + t) size
+none_behind t size p over = sym (lt-leb (p + t) size (omega arith))

@@ -1,19 +1,17 @@
-// Whether a line of a curve's text fits. Where 164 bytes are left it does; nearer to the end its digits are counted.
+// Whether a line of a text fits. Where 21 bytes are left for each of its numbers it does; nearer to the end its digits are counted.
 #![tactic(auto)]
 
-ghost use Rattle.std.specs.Prelude.{◌≡◌, ◌+◌, ◌≤◌, [], ◌∷◌, leb, length};
-ghost use Rattle.meanings.specs.Output.{decimal, text_line, value_text, curve_line};
-ghost use Rattle.meanings_ranges.specs.RangeOutput.{range_curve_line};
+ghost use Rattle.std.specs.Prelude.{◌≡◌, ◌+◌, ◌≤◌, leb, length};
+ghost use Rattle.meanings.specs.Output.{decimal, value_text};
+ghost use Rattle.text_room.specs.Line.{line_text};
 
-use meanings::Estimate;
-use meanings_ranges::RangeEstimate;
 use text_decimal::put_number;
-
-// No line is longer: over ranges it has a mark of 5 digits, a half width of 10, seven numbers of 20, and a byte behind each.
-const MOST_LINE: usize = 164;
 
 // No number of 64 bits has more digits.
 const MOST_DIGITS: usize = 20;
+
+// A number's digits and the byte behind it.
+const MOST_FIELD: usize = 21;
 
 // How many digits a number has.
 fn decimal_size(n: u64) -> usize
@@ -33,88 +31,43 @@ fn value_size(v: u64) -> usize
     decimal_size(v)
 }
 
-fn curve_line_size(point: u16, bandwidth: u32, row: Estimate) -> usize
-    ensures { result ≡ length (curve_line point bandwidth row) }
+// Whether a line has at most `room` bytes. They are counted down, since no number of 64 bits holds the size of every line. A call of its own, so that
+// only the quick test before it is taken into the callers of line_fits.
+#[inline(never)]
+fn has_room(room: usize, first: u64, numbers: &[u64], values: &[u64]) -> bool
+    ensures { result ≡ leb (length (line_text first numbers.now values.now)) room }
 {
-    let point_size = decimal_size(point as u64);
-    let bandwidth_size = decimal_size(bandwidth as u64);
-    let left_size = decimal_size(row.left);
-    let right_size = decimal_size(row.right);
-    let weight_size = decimal_size(row.weight);
-    let sum_size = decimal_size(row.sum);
-    let value_size = value_size(row.value);
-    point_size + bandwidth_size + left_size + right_size + weight_size + sum_size + value_size + 7
+    let first_size = decimal_size(first);
+    if room < first_size {
+        return false;
+    }
+    let mut left = room - first_size;
+    for n in numbers {
+        let size = 1 + decimal_size(*n);
+        if left < size {
+            return false;
+        }
+        left -= size;
+    }
+    for v in values {
+        let size = 1 + value_size(*v);
+        if left < size {
+            return false;
+        }
+        left -= size;
+    }
+    // For the line feed.
+    0 < left
 }
 
-fn range_line_size(point: u16, bandwidth: u32, row: RangeEstimate) -> usize
-    ensures { result ≡ length (range_curve_line point bandwidth row) }
-{
-    let point_size = decimal_size(point as u64);
-    let bandwidth_size = decimal_size(bandwidth as u64);
-    let left_size = decimal_size(row.left);
-    let right_size = decimal_size(row.right);
-    let weight_size = decimal_size(row.weight);
-    let sum_size = decimal_size(row.sum.low) + decimal_size(row.sum.high);
-    let value_size = value_size(row.value.low) + value_size(row.value.high);
-    point_size + bandwidth_size + left_size + right_size + weight_size + sum_size + value_size + 9
-}
-
-fn pair_line_size(a: u64, b: u64) -> usize
-    ensures { result ≡ length (text_line (decimal a) (decimal b ∷ [])) }
-{
-    let a_size = decimal_size(a);
-    let b_size = decimal_size(b);
-    a_size + b_size + 2
-}
-
-// Whether so many bytes are left.
-fn is_room(size: usize, at: usize, count: usize) -> bool
-    ensures { result ≡ leb (at + count) size }
+// Whether a list of `size` bytes has room from byte `at` on for a line of numbers and, behind them, values.
+#[tactic(auto, using(crate::proofs::Sizes::fits_with_room))]
+pub fn line_fits(size: usize, at: usize, first: u64, numbers: &[u64], values: &[u64]) -> bool
+    ensures { result ≡ leb (at + length (line_text first numbers.now values.now)) size }
 {
     if size < at {
         return false;
     }
-    count <= size - at
-}
-
-// Whether a list of `size` bytes has room for a mark's line from byte `at` on.
-pub fn curve_line_fits(size: usize, at: usize, point: u16, bandwidth: u32, row: Estimate) -> bool
-    ensures { result ≡ leb (at + length (curve_line point bandwidth row)) size }
-{
-    if MOST_LINE <= size {
-        if at <= size - MOST_LINE {
-            return true;
-        }
-    }
-    is_room(size, at, curve_line_size(point, bandwidth, row))
-}
-
-// The same of a mark over ranges.
-pub fn range_line_fits(
-    size: usize,
-    at: usize,
-    point: u16,
-    bandwidth: u32,
-    row: RangeEstimate,
-) -> bool
-    ensures { result ≡ leb (at + length (range_curve_line point bandwidth row)) size }
-{
-    if MOST_LINE <= size {
-        if at <= size - MOST_LINE {
-            return true;
-        }
-    }
-    is_room(size, at, range_line_size(point, bandwidth, row))
-}
-
-// The same of two numbers.
-pub fn pair_line_fits(size: usize, at: usize, a: u64, b: u64) -> bool
-    ensures { result ≡ leb (at + length (text_line (decimal a) (decimal b ∷ []))) size }
-{
-    if MOST_LINE <= size {
-        if at <= size - MOST_LINE {
-            return true;
-        }
-    }
-    is_room(size, at, pair_line_size(a, b))
+    let room = size - at;
+    1 + numbers.len() + values.len() <= room / MOST_FIELD || has_room(room, first, numbers, values)
 }

@@ -1,10 +1,11 @@
 -- The lists of an accepted sheet are swept with room for their rows, whatever the kind: so what is answered is the text and its length.
 use Prim.Native.Nat.{ℕ, ◌*◌, ◌≤◌, min}
+use Rattle.std.specs.Prelude.{Result}
+use Rattle.meanings.specs.declared.Refusal.{Refusal}
 use mathlib.Core.Path.{◌≡◌, ap, ◌∙◌}
 use mathlib.Core.List.{List}
 use native.Mathlib.Omega.{arith}
 use lib.ListN.{length, replicate, length-replicate}
-use Rattle.meanings.specs.declared.Writing.{Writing}
 use Rattle.meanings.specs.Limits.{full, max_output, row_width}
 use Rattle.meanings.specs.Reports.{given}
 use Rattle.meanings.proofs.Checks.{same_limits, differ_same}
@@ -47,7 +48,7 @@ all_marks : (z : ℕ) → z ≤ 512 → min z 512 ≡ z
 all_marks z few = omega (arith, few)
 
 -- the text of lists that the sweep of their kind accepts
-module _ (ts ls us zs hs out : List ℕ) (right : length out ≡ max_output) (r : Writing) (now : List ℕ) where
+module _ (ts ls us zs hs out : List ℕ) (right : length out ≡ max_output) (r : Result ℕ Refusal) (now : List ℕ) where
   plain_in_front : PlainAccepted ts ls zs hs → KindWritten Plain ts ls us zs hs out r now
       → InFront (text_of_kind Plain (lists_of Plain ts ls us zs hs)) out r now
   unfolding lists_swept

@@ -1,6 +1,9 @@
 -- What the sheet's lists say once it is read into them: the used parts are its contents, or it is refused with that report. What is then answered is
 -- what it should be.
 use Prim.Native.Nat.{ℕ, ◌≤◌}
+use Rattle.std.specs.Prelude.{Ok}
+use Rattle.std.specs.Prelude.{Result, Err}
+use Rattle.meanings_ranges.specs.declared.RangeCounts.{RangeCounts}
 use mathlib.Core.Path.{◌≡◌, sym, ◌∙◌}
 use mathlib.Core.Bool.{false}
 use mathlib.Core.List.{List}
@@ -8,13 +11,10 @@ use native.Mathlib.Omega.{arith}
 use lib.ListN.{length, take}
 use lib.Seq.{length-take-le}
 use Rattle.meanings.specs.declared.Refusal.{Refusal}
-use Rattle.meanings.specs.declared.Writing.{Writing}
 use Rattle.meanings.specs.Limits.{full, max_output}
 use Rattle.meanings.specs.Reports.{fault_of, given, refused}
 use Rattle.meanings.proofs.Checks.{differ_true, differ_same}
 use Rattle.meanings_ranges.specs.declared.Kind.{Kind}
-use Rattle.meanings_ranges.specs.declared.RangeParsing.{RangeParsing}
-use Rattle.meanings_ranges.specs.declared.RangeParsing.TheVariants.{Used}
 use Rattle.meanings_ranges.specs.RangeSheet.{read_either}
 use Rattle.meanings_ranges.specs.RangeOutput.{write_either, write_either_buffer}
 use Rattle.checks_reader.specs.Lengths.{uneven_reader}
@@ -35,13 +35,13 @@ module _ (s out : List ℕ) (another : ¬ (length out ≡ max_output)) where
   other_buffer_stays = rw (differ_true (length out) max_output another)
 
 -- a sheet read into lists of the right lengths
-module _ {s ts₀ ls₀ us₀ zs₀ hs₀ ts ls us zs hs : List ℕ} {r : RangeParsing} (call : ScanOutcome s ts₀ ls₀ us₀ zs₀ hs₀ r ts ls us zs hs)
+module _ {s ts₀ ls₀ us₀ zs₀ hs₀ ts ls us zs hs : List ℕ} {r : Result RangeCounts Refusal} (call : ScanOutcome s ts₀ ls₀ us₀ zs₀ hs₀ r ts ls us zs hs)
     (even : uneven_reader full (length ts₀) (length ls₀) (length us₀) (length zs₀) (length hs₀) ≡ false) where
   scanned : EitherScanned s r ts ls us zs hs
   scanned = scanned_of_call even call
 
   -- that is refused
-  pub sheet_refused : {f : Refusal} {out : List ℕ} → r ≡ RangeParsing.Refused f → length out ≡ max_output → SheetWritten s out (Writing.Refused f) out
+  pub sheet_refused : {f : Refusal} {out : List ℕ} → r ≡ Err f → length out ≡ max_output → SheetWritten s out (Err f) out
   unfolding write_either write_either_buffer
   sheet_refused {f} {out} unread right =
       let refused_sheet : read_either full s ≡ refused (fault_of f) = scanned.outcome ∙ rw unread in
@@ -51,31 +51,32 @@ module _ {s ts₀ ls₀ us₀ zs₀ hs₀ ts ls us zs hs : List ℕ} {r : RangeP
       }
 
   -- that is accepted: the used parts are the contents
-  module _ {n m : ℕ} {k : Kind} (used : r ≡ Used n m k) where
-    pub samples_room : (xs : List ℕ) → length xs ≡ 1024 → n ≤ length xs
+  module _ {u : RangeCounts} (used : r ≡ Ok u) where
+    pub samples_room : (xs : List ℕ) → length xs ≡ 1024 → u.samples ≤ length xs
     samples_room xs l = let w = rw used at scanned.within in omega arith
 
-    pub points_room : (xs : List ℕ) → length xs ≡ 512 → m ≤ length xs
+    pub points_room : (xs : List ℕ) → length xs ≡ 512 → u.points ≤ length xs
     points_room xs l = let w = rw used at scanned.within in omega arith
 
-    pub samples_count : (xs : List ℕ) → length xs ≡ 1024 → n ≡ length (take n xs)
-    samples_count xs l = sym (length-take-le n xs (samples_room xs l))
+    pub samples_count : (xs : List ℕ) → length xs ≡ 1024 → u.samples ≡ length (take u.samples xs)
+    samples_count xs l = sym (length-take-le u.samples xs (samples_room xs l))
 
-    pub points_count : (xs : List ℕ) → length xs ≡ 512 → m ≡ length (take m xs)
-    points_count xs l = sym (length-take-le m xs (points_room xs l))
+    pub points_count : (xs : List ℕ) → length xs ≡ 512 → u.points ≡ length (take u.points xs)
+    points_count xs l = sym (length-take-le u.points xs (points_room xs l))
 
-    parts_read : read_either full s ≡ given (lists_of k (take n ts) (take n ls) (take n us) (take m zs) (take m hs))
+    parts_read : read_either full s ≡ given (lists_of u.kind (take u.samples ts) (take u.samples ls) (take u.samples us) (take u.points zs) (take u.points hs))
     parts_read = scanned.outcome ∙ rw used
 
-    parts_accepted : SheetAccepted k (take n ts) (take n ls) (take n us) (take m zs) (take m hs)
+    parts_accepted : SheetAccepted u.kind (take u.samples ts) (take u.samples ls) (take u.samples us) (take u.points zs) (take u.points hs)
     parts_accepted = record { sheet = s; accepted = parts_read }
 
     -- and what is written of them is the sheet's text
-    pub sheet_written : (out : List ℕ) (w : Writing) (now : List ℕ) → length out ≡ max_output
-        → KindWritten k (take n ts) (take n ls) (take n us) (take m zs) (take m hs) out w now → SheetWritten s out w now
+    pub sheet_written : (out : List ℕ) (w : Result ℕ Refusal) (now : List ℕ) → length out ≡ max_output
+        → KindWritten u.kind (take u.samples ts) (take u.samples ls) (take u.samples us) (take u.points zs) (take u.points hs) out w now
+        → SheetWritten s out w now
     unfolding write_either write_either_buffer
     sheet_written out w now right kind =
-        let f = in_front _ _ _ _ _ out right w now k parts_accepted kind in
+        let f = in_front _ _ _ _ _ out right w now u.kind parts_accepted kind in
         record {
           size = f.size ∙ rw (differ_same (length out) max_output right, parts_read);
           text = f.text ∙ rw (differ_same (length out) max_output right, parts_read);

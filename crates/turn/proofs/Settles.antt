@@ -7,7 +7,7 @@ use native.Mathlib.Omega.{arith}
 use lib.Pow.{pow_pos}
 use Rattle.meanings.specs.Running.{plus, minus}
 use Rattle.meanings.proofs.Modulo.{minus_below, minus_undone}
-use Rattle.arithmetic.proofs.Wrapping.{plus_full_turn, wraps_back_is_minus}
+use Rattle.arithmetic.specs.Wrapping.{plus_full_turn, wraps_back_is_minus}
 use Rattle.turn.specs.Travels.{Alike, Settles}
 
 module _ {w : ℕ} where

@@ -10,11 +10,11 @@ use lib.ListN.{length, get_or}
 use Rattle.meanings.specs.declared.PowerSums.{PowerSums}
 use Rattle.meanings.specs.Running.{six, sum_at, plus, minus, power_sum, term}
 use Rattle.meanings.proofs.Steps.{six_at}
-use Rattle.turn.specs.declared.edges.Edge.{Edge}
+use Rattle.arithmetic.specs.declared.Edge.{Edge}
 use Rattle.turn.specs.Travels.{Among, Settles, Carried, Reaches, Raised, Lowered}
 use Rattle.turn.proofs.Settles.{settles_at_first, settles_gains, settles_loses, settles_on, settles_alike}
 
-abbrev pub edge : ℕ → PowerSums → Edge
+abbrev pub edge : ℕ → PowerSums → Edge PowerSums
 edge i s = record { at = i; sums = s }
 
 -- every sum is below 2^w
@@ -72,9 +72,6 @@ module _ {ts vs : List ℕ} {i₀ : ℕ} {s₀ : PowerSums} {i : ℕ} {s : Power
     };
   }
 
-  pub value_there : i < length ts → i < length vs
-  value_there l = omega (arith, w.among.even)
-
 module _ {ts vs : List ℕ} {m i₀ : ℕ} {s₀ : PowerSums} {i : ℕ} {s : PowerSums} (w : Falling ts vs m i₀ s₀ i s) where
   pub falls : {s' : PowerSums} → 0 < i → m ≤ get_or ts (i - 1) 0 → s' ≡ six (λ p q. minus 64 (sum_at s p q) (term p q ts vs (i - 1)))
       → Falling ts vs m i₀ s₀ (i - 1) s'
@@ -90,27 +87,27 @@ module _ {ts vs : List ℕ} {m i₀ : ℕ} {s₀ : PowerSums} {i : ℕ} {s : Pow
       before : (p q : ℕ) → power_sum ts vs 0 i p q ≡ power_sum ts vs 0 (i - 1) p q + term p q ts vs (i - 1)
       before p q = let n : i ≡ i - 1 + 1 = omega arith in ap (λ (k : ℕ). power_sum ts vs 0 k p q) n ∙ one_more_before ts vs (i - 1) p q
 
-  pub minute_there : 0 < i → i - 1 < length ts
-  minute_there l = omega (arith, w.reaches.among.inside)
-
-  pub value_before : 0 < i → i - 1 < length vs
-  value_before l = omega (arith, w.reaches.among)
-
-module _ {ts vs : List ℕ} (m : ℕ) (e : Edge) {i : ℕ} {s : PowerSums} where
+module _ {ts vs : List ℕ} (m : ℕ) (e : Edge PowerSums) {i : ℕ} {s : PowerSums} where
   pub rising_stops : Rising ts vs e.at e.sums i s → m ≤ get_or ts i 0 → Raised ts vs m e (edge i s)
   rising_stops w l = record { reaches = record { among = w.among; reached = λ b. l }; carried = w.carried }
 
-  pub rising_ends : Rising ts vs e.at e.sums i s → length ts ≤ i → Raised ts vs m e (edge i s)
-  rising_ends w l = record { reaches = record { among = w.among; reached = λ b. absurd (omega arith) }; carried = w.carried }
+  pub rising_ends : Rising ts vs e.at e.sums i s → length ts ≤ i → Raised ts vs m e (edge (length ts) s)
+  rising_ends w l =
+      let q : length ts ≡ i = omega (arith, w.among.inside) in
+      rw q (record { reaches = record { among = w.among; reached = λ b. absurd (omega arith) }; carried = w.carried })
 
-  pub falling_stops : Falling ts vs m e.at e.sums i s → get_or ts (i - 1) 0 < m → Lowered ts vs m e (edge i s)
-  falling_stops w l = record { raised = record { reaches = w.reaches; carried = w.carried }; before = λ b. l }
+  pub falling_stops : Falling ts vs m e.at e.sums i s → 0 < i → get_or ts (i - 1) 0 < m → Lowered ts vs m e (edge (i - 1 + 1) s)
+  falling_stops w b l =
+      let q : i - 1 + 1 ≡ i = omega arith in
+      rw q (record { raised = record { reaches = w.reaches; carried = w.carried }; before = λ b. l })
 
-  pub falling_ends : Falling ts vs m e.at e.sums i s → i ≤ 0 → Lowered ts vs m e (edge i s)
-  falling_ends w l = record { raised = record { reaches = w.reaches; carried = w.carried }; before = λ b. absurd (omega arith) }
+  pub falling_ends : Falling ts vs m e.at e.sums i s → i ≤ 0 → Lowered ts vs m e (edge 0 s)
+  falling_ends w l =
+      let q : 0 ≡ i = omega arith in
+      rw q (record { raised = record { reaches = w.reaches; carried = w.carried }; before = λ b. absurd (omega arith) })
 
 -- up and then down: what lies before the highest place was gained and lost
-pub both_ways : {ts vs : List ℕ} {m : ℕ} {e f g : Edge} → Raised ts vs m e f → Lowered ts vs m f g → Lowered ts vs m e g
+pub both_ways : {ts vs : List ℕ} {m : ℕ} {e f g : Edge PowerSums} → Raised ts vs m e f → Lowered ts vs m f g → Lowered ts vs m e g
 both_ways {ts} {vs} a b = record {
   raised = record {
     reaches = b.raised.reaches;

@@ -1,6 +1,7 @@
 -- For ordered minutes an edge that has come to a bound is the row's: the minutes before it are below the bound and those from it on are not. Both
 -- edges together have gained the new run and lost the old one.
 use Prim.Native.Nat.{ℕ, ◌+◌, ◌-◌, ◌≤◌, ◌<◌, zero-le}
+use Rattle.std.specs.Prelude.{Result, Ok, Err}
 use mathlib.Core.Path.{◌≡◌, refl, sym, ap, ◌∙◌}
 use mathlib.Core.Logic.{◌↔◌}
 use mathlib.Core.List.{List}
@@ -11,8 +12,6 @@ use Rattle.meanings.specs.declared.Limits.{Limits}
 use Rattle.meanings.specs.declared.PowerSums.{PowerSums}
 use Rattle.meanings.specs.declared.Refusal.{Refusal}
 use Rattle.meanings.specs.declared.RunningSums.{RunningSums}
-use Rattle.meanings.specs.declared.Verdict.{Verdict}
-use Rattle.meanings.specs.declared.Verdict.TheVariants.{Fit, Faulty}
 use Rattle.meanings.specs.Estimate.{left_of, right_of}
 use Rattle.meanings.specs.Limits.{full}
 use Rattle.meanings.specs.Lists.{distance, Ordered}
@@ -22,8 +21,8 @@ use Rattle.meanings.specs.Turn.{turned, turn_refusal, turn_record}
 use Rattle.meanings.proofs.Checks.{TurnAccepted, turn_accepts, same_limits}
 use Rattle.meanings.proofs.Steps.{six_agree, six_at, range_joins}
 use Rattle.meanings.proofs.Window.{left_at_most_right, right_at_most_length, before_left, before_right}
-use Rattle.arithmetic.proofs.Wrapping.{plus_plus}
-use Rattle.turn.specs.declared.edges.Edge.{Edge}
+use Rattle.arithmetic.specs.Wrapping.{plus_plus}
+use Rattle.arithmetic.specs.declared.Edge.{Edge}
 use Rattle.turn.specs.Travels.{Among, Lowered}
 use Rattle.turn.proofs.Settles.{settles_is_minus, settles_alike, settles_apart}
 use Rattle.turn.proofs.Travels.{edge}
@@ -35,7 +34,7 @@ same_place n a b l m e = omega (arith, not_below a b (λ k. omega (arith, (e a (
     not_below : (x y : ℕ) → ¬ (x < y) → y ≤ x
     not_below x y f = omega arith
 
-module _ {ts vs : List ℕ} {m : ℕ} {e f : Edge} (o : Ordered ts) (w : Lowered ts vs m e f) where
+module _ {ts vs : List ℕ} {m : ℕ} {e f : Edge PowerSums} (o : Ordered ts) (w : Lowered ts vs m e f) where
   before_edge : (i : ℕ) → i < length ts → (i < f.at) ↔ (get_or ts i 0 < m)
   before_edge i l = (below, λ b. not_from (λ k. omega (arith, from k)))
     where
@@ -72,7 +71,7 @@ module _ (ts vs : List ℕ) (r : RunningSums) (z h : ℕ) (t : TurnAccepted ts v
   pub left_among : Among ts vs r.left
   left_among = record { even = t.even; inside = omega (arith, t.edges, t.inside) }
 
-  module _ {low n passes : ℕ} {zero₆ sums : PowerSums} {right left : Edge}
+  module _ {low n passes : ℕ} {zero₆ sums : PowerSums} {right left : Edge PowerSums}
       (b : Lowered ts vs (z + h + 1) (edge r.right r.sums) right)
       (q : low ≡ z - h)
       (e : zero₆ ≡ six (λ p q. 0))
@@ -117,21 +116,10 @@ module _ (ts vs : List ℕ) (r : RunningSums) (z h : ℕ) (t : TurnAccepted ts v
             ∙ (λ i. plus 64 r.passes (distance r.left (here_left i) + distance r.right (here_right i)))
 
 -- what the check found is what the turn is refused for
-module _ (ts vs : List ℕ) (r : RunningSums) (h : ℕ) {L : Limits} {v : Verdict} (l : L ≡ full)
+module _ (ts vs : List ℕ) (r : RunningSums) (h : ℕ) {L : Limits} {v : Result Unit Refusal} (l : L ≡ full)
     (f : verdict_fault v ≡ first_of (turn_checks L ts vs r.left r.right h)) where
-  of_turn : {w : Verdict} → v ≡ w → turn_refusal ts vs r h ≡ verdict_fault w
+  of_turn : {w : Result Unit Refusal} → v ≡ w → turn_refusal ts vs r h ≡ verdict_fault w
   of_turn q = sym (ap verdict_fault (sym q) ∙ f ∙ ap (λ (M : Limits). first_of (turn_checks M ts vs r.left r.right h)) l)
 
-  pub turn_accepted : v ≡ Fit → TurnAccepted ts vs r.left r.right h
+  pub turn_accepted : {unit : Unit {0}} → v ≡ Ok unit → TurnAccepted ts vs r.left r.right h
   turn_accepted q = turn_accepts full (same_limits full) ts vs r.left r.right h (of_turn q)
-
-  pub verdict_is : {w : Verdict} → v ≡ w → verdict_fault w ≡ turn_refusal ts vs r h
-  verdict_is q = sym (of_turn q)
-
-  pub record_kept : (z : ℕ) {e : Refusal} → v ≡ Faulty e → r ≡ turn_record ts vs r z h
-  unfolding turn_record
-  record_kept z q = rw (of_turn q)
-
-  pub record_turned : (z : ℕ) {r' : RunningSums} → v ≡ Fit → r' ≡ turned ts vs r z h → r' ≡ turn_record ts vs r z h
-  unfolding turn_record
-  record_turned z q e = rw (of_turn q) e

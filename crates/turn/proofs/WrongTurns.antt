@@ -2,7 +2,7 @@
 use Prim.Native.Nat.{ℕ, ◌+◌, ◌-◌, ◌^◌}
 use mathlib.Core.Path.{◌≡◌, ap}
 use mathlib.Core.List.{List, [], ◌∷◌}
-use mathlib.Core.Option.{Option, none, some}
+use Rattle.std.specs.Prelude.{Option, None, Some}
 use native.Mathlib.Omega.{arith}
 use Rattle.meanings.specs.declared.RunningSums.{RunningSums}
 use Rattle.meanings.specs.Estimate.{left_of, right_of}
@@ -49,8 +49,8 @@ no_passes_saturated e = let n : ◌≡◌ {A = ℕ} 1 (2 ^ 64 - 1) = e in omega 
 
 -- the record looked at before the order of the readings
 abbrev answer_number : Option Fault → ℕ
-answer_number (some f) = f.number
-answer_number none = 0
+answer_number (Some f) = f.number
+answer_number None = 0
 
-pub eleven_not_before_four : ¬ (turn_refusal (5 ∷ 4 ∷ []) (1 ∷ 2 ∷ []) (is_counted 1 0 (is_sums 0 0 0 0 0 0) 0) 1 ≡ some (record { number = 11; place = 0 }))
+pub eleven_not_before_four : ¬ (turn_refusal (5 ∷ 4 ∷ []) (1 ∷ 2 ∷ []) (is_counted 1 0 (is_sums 0 0 0 0 0 0) 0) 1 ≡ Some (record { number = 11; place = 0 }))
 eleven_not_before_four e = let n : ◌≡◌ {A = ℕ} 4 11 = ap answer_number e in omega arith

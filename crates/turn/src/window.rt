@@ -3,8 +3,8 @@ ghost use Rattle.std.specs.Prelude.{◌≡◌};
 ghost use Rattle.meanings.specs.Turn.{turned};
 ghost use Rattle.meanings.proofs.Checks.{TurnAccepted};
 
-use crate::edges::{Edge, edge_to};
-use arithmetic::{minus_sums, plus_travel, zero_sums};
+use crate::edges::edge_to;
+use arithmetic::{Edge, Minus, plus_travel, sums_changed, zero_sums};
 use arithmetic_values::lowest_minute;
 use meanings::RunningSums;
 
@@ -36,7 +36,7 @@ pub(crate) fn turned_record(
     RunningSums {
         left: left.at,
         right: right.at,
-        sums: minus_sums(right.sums, left.sums),
+        sums: sums_changed::<Minus>(right.sums, left.sums),
         passes,
     }
 }

@@ -6,8 +6,8 @@ use Rattle.abi_answers.proofs.put_position.Goals as goal
 pub returns-then-out-ne1 : goal.returns-then-out-ne1
 returns-then-out-ne1 c = search other_length_stays
 
-pub returns-in-Nothing : goal.returns-in-Nothing
-returns-in-Nothing c = search position_stored
+pub returns-in-None : goal.returns-in-None
+returns-in-None c = search position_stored
 
-pub returns-in-At : goal.returns-in-At
-returns-in-At c = search position_stored
+pub returns-in-Some : goal.returns-in-Some
+returns-in-Some c = search position_stored

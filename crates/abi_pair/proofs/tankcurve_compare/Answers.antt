@@ -1,5 +1,4 @@
 -- A list of another length is refused first; else the answer and the list are those of the call below.
-use Rattle.meanings_pair.specs.Comparison.{split_answer}
 use Rattle.abi_pair.proofs.Places.{compare_place}
 use Rattle.abi_pair.proofs.Partings.{other_code, other_stays, refused_list, alike_code, alike_list, apart_list, first_code, second_code}
 use Rattle.abi_answers.proofs.Answered.{sized_place, refused_code, sized_answer}
@@ -11,17 +10,17 @@ returns-then-out-ne-PARTING_LENGTH-clause-value c = search other_code
 pub returns-then-out-ne-PARTING_LENGTH-clause-out_after : goal.returns-then-out-ne-PARTING_LENGTH-clause-out_after
 returns-then-out-ne-PARTING_LENGTH-clause-out_after c = search other_stays
 
-pub returns-in-Refused-clause-value : goal.returns-in-Refused-clause-value
-returns-in-Refused-clause-value c = search (refused_code split_answer, sized_answer split_answer, sized_place, compare_place)
+pub returns-in-Err-clause-value : goal.returns-in-Err-clause-value
+returns-in-Err-clause-value c = search (refused_code, sized_answer, sized_place, compare_place)
 
-pub returns-in-Refused-clause-out_after : goal.returns-in-Refused-clause-out_after
-returns-in-Refused-clause-out_after c = search refused_list
+pub returns-in-Err-clause-out_after : goal.returns-in-Err-clause-out_after
+returns-in-Err-clause-out_after c = search refused_list
 
-pub returns-in-Alike-clause-value : goal.returns-in-Alike-clause-value
-returns-in-Alike-clause-value c = search alike_code
+pub returns-in-Ok-None-clause-value : goal.returns-in-Ok-None-clause-value
+returns-in-Ok-None-clause-value c = search alike_code
 
-pub returns-in-Alike-clause-out_after : goal.returns-in-Alike-clause-out_after
-returns-in-Alike-clause-out_after c = search alike_list
+pub returns-in-Ok-None-clause-out_after : goal.returns-in-Ok-None-clause-out_after
+returns-in-Ok-None-clause-out_after c = search alike_list
 
 pub returns-in-First-clause-value : goal.returns-in-First-clause-value
 returns-in-First-clause-value c = search first_code

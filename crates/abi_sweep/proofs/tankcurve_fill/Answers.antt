@@ -1,11 +1,11 @@
 -- The call below, its answer as one number.
-use Rattle.meanings.specs.Calls.{filling_answer}
 use Rattle.abi_sweep.proofs.Places.{fill_place}
+use Rattle.meanings.specs.Calls.{answer_of}
 use Rattle.abi_answers.proofs.Answered.{refused_code, accepted_code}
 use Rattle.abi_sweep.proofs.tankcurve_fill.Goals as goal
 
-pub returns-in-Refused-clause-value : goal.returns-in-Refused-clause-value
-returns-in-Refused-clause-value c = search (refused_code filling_answer, fill_place)
+pub returns-in-Err-clause-value : goal.returns-in-Err-clause-value
+returns-in-Err-clause-value c = search (refused_code, fill_place)
 
-pub returns-in-Filled-clause-value : goal.returns-in-Filled-clause-value
-returns-in-Filled-clause-value c = search (accepted_code filling_answer)
+pub returns-in-Ok-clause-value : goal.returns-in-Ok-clause-value
+returns-in-Ok-clause-value c = search (accepted_code)

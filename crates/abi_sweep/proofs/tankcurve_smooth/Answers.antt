@@ -1,17 +1,17 @@
 -- The call below, its answer as one number: passes are at most 2,048.
 use Prim.Native.Nat.{◌≤◌}
+use Rattle.meanings.specs.Calls.{answer_of}
 use native.Mathlib.Omega.{arith}
-use Rattle.meanings.specs.Calls.{smoothing_answer}
 use Rattle.meanings.proofs.Checks.{same_limits}
 use Rattle.abi_sweep.proofs.Places.{smooth_place, passes_few}
 use Rattle.abi_answers.proofs.Answered.{refused_code, accepted_number}
 use Rattle.abi_sweep.proofs.tankcurve_smooth.Goals as goal
 
 pub overflow_mul-result : goal.overflow_mul-result
-overflow_mul-result c = let few : c.in-Passes.passes ≤ 2048 = search (passes_few, same_limits) in omega arith
+overflow_mul-result c = let few : c.in-Ok.passes ≤ 2048 = search (passes_few, same_limits) in omega arith
 
-pub returns-in-Refused-clause-value : goal.returns-in-Refused-clause-value
-returns-in-Refused-clause-value c = search (refused_code smoothing_answer, smooth_place, same_limits)
+pub returns-in-Err-clause-value : goal.returns-in-Err-clause-value
+returns-in-Err-clause-value c = search (refused_code, smooth_place, same_limits)
 
-pub returns-in-Passes-clause-value : goal.returns-in-Passes-clause-value
-returns-in-Passes-clause-value c = search (accepted_number smoothing_answer)
+pub returns-in-Ok-clause-value : goal.returns-in-Ok-clause-value
+returns-in-Ok-clause-value c = search (accepted_number)

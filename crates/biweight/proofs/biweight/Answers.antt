@@ -3,11 +3,5 @@
 use Rattle.biweight.proofs.Rows.{readings_accepted, call_refused, call_answers}
 use Rattle.biweight.proofs.biweight.Goals as goal
 
-pub returns-in-Faulty : goal.returns-in-Faulty
-returns-in-Faulty c = search call_refused
-
-pub returns-in-Fit : goal.returns-in-Fit
-returns-in-Fit c = search call_answers
-
 pub row_at-requires : goal.row_at-requires
-row_at-requires c = search readings_accepted
+row_at-requires c = search (readings_accepted, c.in_ok-series_fault.was)

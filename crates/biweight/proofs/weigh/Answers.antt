@@ -1,5 +1,5 @@
 -- Each turn keeps the invariant of Weighing: one reading more, with the weight that the table has at its distance.
-use Rattle.biweight.proofs.Weighing.{weighing_begins, weighing_goes_on, run_weighed, weight_fits, value_wide}
+use Rattle.biweight.proofs.Weighing.{weighing_begins, weighing_goes_on, run_weighed, weight_fits}
 use Rattle.biweight.proofs.Weighing.{term_fits, sum_fits}
 use Rattle.biweight.proofs.weigh.Goals as goal
 
@@ -14,9 +14,6 @@ returns c = search run_weighed
 
 pub overflow_add-weight : goal.overflow_add-weight
 overflow_add-weight c = search weight_fits
-
-pub overflow_cast-sum : goal.overflow_cast-sum
-overflow_cast-sum c = search value_wide
 
 pub overflow_mul-sum : goal.overflow_mul-sum
 overflow_mul-sum c = search term_fits

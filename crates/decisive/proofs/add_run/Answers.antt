@@ -1,5 +1,5 @@
--- Each turn adds one reading's terms; behind the window's right edge, or at the end, they are weight and sum of the row.
-use Rattle.decisive.proofs.Adding.{total_begins, total_goes_on, run_ends, run_to_the_end, weight_fits, term_fits, sum_fits}
+-- Each turn adds one reading's terms; at the window's right edge they are weight and sum of the row.
+use Rattle.decisive.proofs.Adding.{total_begins, total_goes_on, run_ends, weight_fits, term_fits, sum_fits}
 use Rattle.decisive.proofs.add_run.Goals as goal
 
 pub loop-i-init : goal.loop-i-init
@@ -8,11 +8,8 @@ loop-i-init c = search total_begins
 pub loop-i-preserved : goal.loop-i-preserved
 loop-i-preserved c = search total_goes_on
 
-pub returns-then-high-minutes : goal.returns-then-high-minutes
-returns-then-high-minutes c = search run_ends
-
 pub returns : goal.returns
-returns c = search run_to_the_end
+returns c = search run_ends
 
 pub overflow_add-weight : goal.overflow_add-weight
 overflow_add-weight c = search weight_fits

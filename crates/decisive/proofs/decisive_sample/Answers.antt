@@ -2,11 +2,5 @@
 use Rattle.decisive.proofs.Removing.{lists_accepted, call_refused, call_answers}
 use Rattle.decisive.proofs.decisive_sample.Goals as goal
 
-pub returns-in-Faulty : goal.returns-in-Faulty
-returns-in-Faulty c = search call_refused
-
-pub returns-in-Fit : goal.returns-in-Fit
-returns-in-Fit c = search call_answers
-
 pub search-requires : goal.search-requires
-search-requires c = search lists_accepted
+search-requires c = search (lists_accepted, c.in_ok-evaluate_fault.was)

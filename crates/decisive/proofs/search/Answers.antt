@@ -1,7 +1,6 @@
 -- A reading that does not decide is one more of those before; the first that does is the answer. What is taken out stands in weight and sum.
-use borrow.Author.Rules.{rules}
 use Rattle.decisive.proofs.Removing.{search_begins, here, goes_on, nobody}
-use Rattle.decisive.proofs.Removing.{inside, inside_values, weight_holds, term_fits, sum_holds}
+use Rattle.decisive.proofs.Removing.{weight_holds, term_fits, sum_holds}
 use Rattle.decisive.proofs.search.Goals as goal
 
 pub loop-i-init : goal.loop-i-init
@@ -15,18 +14,6 @@ loop-i-preserved c = search (goes_on, c.if-rest-low.false, c.is_low-rest.ensures
 
 pub returns : goal.returns
 returns c = search nobody
-
-pub offset_bounds-minutes-i : goal.offset_bounds-minutes-i
-offset_bounds-minutes-i c = search (rules, inside)
-
-pub bounds-minutes-i : goal.bounds-minutes-i
-bounds-minutes-i c = search (rules, inside)
-
-pub offset_bounds-values-i : goal.offset_bounds-values-i
-offset_bounds-values-i c = search (rules, inside_values)
-
-pub bounds-values-i : goal.bounds-values-i
-bounds-values-i c = search (rules, inside_values)
 
 pub overflow_sub-run : goal.overflow_sub-run
 overflow_sub-run c = search weight_holds

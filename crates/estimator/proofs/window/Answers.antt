@@ -4,17 +4,17 @@ use mathlib.Core.Path.{refl}
 use Rattle.estimator.proofs.Verdicts.{accepted_ordered, window_refused, start_refused, span_ordered, span_within, span_fits, window_given, start_given}
 use Rattle.estimator.proofs.window.Goals as goal
 
-pub returns-in-Faulty-clause-result_value : goal.returns-in-Faulty-clause-result_value
-returns-in-Faulty-clause-result_value c = search window_refused
+pub returns-in-Err-clause-result_value : goal.returns-in-Err-clause-result_value
+returns-in-Err-clause-result_value c = search window_refused
 
-pub returns-in-Faulty-clause-ref_ptr_value : goal.returns-in-Faulty-clause-ref_ptr_value
-returns-in-Faulty-clause-ref_ptr_value c = (refl, search start_refused)
+pub returns-in-Err-clause-ref_ptr_value : goal.returns-in-Err-clause-ref_ptr_value
+returns-in-Err-clause-ref_ptr_value c = (refl, search start_refused)
 
-pub returns-in-Fit-clause-result_value : goal.returns-in-Fit-clause-result_value
-returns-in-Fit-clause-result_value c = search window_given
+pub returns-in-Ok-clause-result_value : goal.returns-in-Ok-clause-result_value
+returns-in-Ok-clause-result_value c = search window_given
 
-pub returns-in-Fit-clause-ref_ptr_value : goal.returns-in-Fit-clause-ref_ptr_value
-returns-in-Fit-clause-ref_ptr_value c = (refl, search start_given)
+pub returns-in-Ok-clause-ref_ptr_value : goal.returns-in-Ok-clause-ref_ptr_value
+returns-in-Ok-clause-ref_ptr_value c = (refl, search start_given)
 
 pub span_at-span-requires : goal.span_at-span-requires
 span_at-span-requires c = search accepted_ordered
@@ -22,11 +22,11 @@ span_at-span-requires c = search accepted_ordered
 pub offset_bounds-values-left : goal.offset_bounds-values-left
 offset_bounds-values-left c = search span_fits
 
-pub slice_bounds-result-count-in-Fit : goal.slice_bounds-result-count-in-Fit
-slice_bounds-result-count-in-Fit c = search span_ordered
+pub slice_bounds-result-count-in-Ok : goal.slice_bounds-result-count-in-Ok
+slice_bounds-result-count-in-Ok c = search span_ordered
 
-pub slice_bounds-result-start-in-Fit : goal.slice_bounds-result-start-in-Fit
-slice_bounds-result-start-in-Fit c = search span_ordered
+pub slice_bounds-result-start-in-Ok : goal.slice_bounds-result-start-in-Ok
+slice_bounds-result-start-in-Ok c = search span_ordered
 
-pub slice_bounds-result-end-in-Fit : goal.slice_bounds-result-end-in-Fit
-slice_bounds-result-end-in-Fit c = search span_within
+pub slice_bounds-result-end-in-Ok : goal.slice_bounds-result-end-in-Ok
+slice_bounds-result-end-in-Ok c = search span_within

@@ -1,12 +1,7 @@
 -- Each turn keeps the invariant of Sweeping: both records land on the mark's window, and the row that they make stands behind the rows before.
 -- The edges of the last records are the passes.
-use Prim.Native.Nat.{◌-◌}
-use lib.ListN.{length}
 use Rattle.ranges.proofs.Sweeping.{SweptTo}
 use Rattle.ranges.proofs.sweep_rows.Given as goal
 
 abbrev pub invariant-loop-k : goal.invariant-loop-k
 invariant-loop-k l = SweptTo l.minutes l.lows l.highs l.points l.bandwidths l.initial.rows l.k l.rows l.running
-
-abbrev pub decreases-loop-k : goal.decreases-loop-k
-decreases-loop-k l = length l.points - l.k

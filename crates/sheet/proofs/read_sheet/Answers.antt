@@ -6,7 +6,7 @@ use Rattle.sheet.proofs.read_sheet.Goals as goal
 pub returns-then-uneven_lists : goal.returns-then-uneven_lists
 returns-then-uneven_lists c =
     let a = uneven_refused c.args.sheet.now c.args.minutes.now c.args.values.now c.args.points.now c.args.bandwidths.now c.uneven_lists.ensures
-    c.if-uneven_lists.true in
+    c.if-uneven_lists.true c.at.ensures in
     record {
       result_value = a.0;
       minutes_after = a.1.0;

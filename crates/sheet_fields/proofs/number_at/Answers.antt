@@ -1,54 +1,43 @@
 -- Where the loop is left, the part ends: at the text's end or at a comma.
-use Rattle.std.proofs.Common.{◌≡◌, [], drop, arith}
-use Rattle.sheet_fields.specs.Fields.{first_part}
-use Rattle.sheet_fields.proofs.Fields.{passed_begins, passed_goes_on, passed_inside, no_digit_here, sixth_byte_no_number}
-use Rattle.sheet_fields.proofs.Fields.{part_ends_at_end, part_ends_at_comma, no_byte_no_number, leading_zero_no_field, one_digit_number, plain_number}
+use Rattle.std.proofs.Common.{arith}
+use Rattle.sheet_fields.proofs.Fields.{PartEnd, passed_goes_on, no_digit_here, sixth_byte_no_number, part_ends_at_end, part_ends_at_comma}
+use Rattle.sheet_fields.proofs.Fields.{leading_zero_no_field, behind_no_number, plain_number}
 use Rattle.sheet_fields.proofs.number_at.Goals as goal
-use Rattle.sheet_fields.proofs.number_at.Goals.{else-loop-at-test, then-loop-at-test+then-b-eq-COMMA}
+use Rattle.sheet_fields.proofs.number_at.Goals.{Else-end-from, else-loop-at-test, then-loop-at-test+then-b-eq44}
+use Rattle.sheet_fields.proofs.number_at.Goals.{else-end-from-gt1-via-then-end-from-gt1+else-text-from-eq-ZERO, else-end-from-gt1-via-else-end-from-gt1}
 
-pub loop-at-init : goal.loop-at-init
-loop-at-init c = search passed_begins
+part_end : (c : Else-end-from) → PartEnd c.args.text.now c.args.from c.loop-at-test.end c.loop-at.value
+part_end c = elim c.loop-at-test.branch [
+  | else-loop-at-test w ↦ rw (w.end-is, c.loop-at.invariant.1) (part_ends_at_end c.loop-at.invariant.0 (omega arith) (omega arith))
+  | then-loop-at-test+then-b-eq44 w ↦ rw w.end-is (part_ends_at_comma c.loop-at.invariant.0 w.loop-at-test.true w.if-b-eq44.true)
+]
 
-pub loop-at-preserved : goal.loop-at-preserved
-loop-at-preserved c = search passed_goes_on
-
-pub returns-then-digit-gt9 : goal.returns-then-digit-gt9
-returns-then-digit-gt9 c = search no_digit_here
+pub returns-then-not-is_ascii_digit : goal.returns-then-not-is_ascii_digit
+returns-then-not-is_ascii_digit c = no_digit_here c.loop-at.invariant.0 (search) (search) c.if-not-is_ascii_digit.ensures.cases
 
 pub returns-then-value-gt9999 : goal.returns-then-value-gt9999
-returns-then-value-gt9999 c = sixth_byte_no_number c.loop-at.invariant (omega arith) (search) (omega arith)
+returns-then-value-gt9999 c = sixth_byte_no_number c.loop-at.invariant.0 (search) (search) (omega arith)
 
-pub bounds-text-from : goal.bounds-text-from
-bounds-text-from c = search passed_inside
+pub loop-at-preserved : goal.loop-at-preserved
+loop-at-preserved c =
+    let d = c.if-not-is_ascii_digit.ensures.cases in
+    (passed_goes_on c.loop-at.invariant.0 (search) c.from.ensures d.0 d.1 (search), c.loop-at.invariant.1)
 
-pub returns-then-at-from : goal.returns-then-at-from
-returns-then-at-from c =
-    let ends : first_part (drop c.loop-at.at c.args.text.now) ≡ [] = elim c.loop-at-test.branch [
-      | else-loop-at-test w ↦ part_ends_at_end _ _ w.loop-at-test.false
-      | then-loop-at-test+then-b-eq-COMMA w ↦ part_ends_at_comma _ _ w.loop-at-test.true w.if-b-eq-COMMA.true
-    ] in
-    search (no_byte_no_number, ends)
+pub returns-then-end-from : goal.returns-then-end-from
+returns-then-end-from c = elim c.loop-at-test.branch [
+  | else-loop-at-test w ↦ behind_no_number _ _ (omega (arith, c.loop-at.invariant.1))
+  | then-loop-at-test+then-b-eq44 w ↦
+      (part_ends_at_comma c.loop-at.invariant.0 w.loop-at-test.true w.if-b-eq44.true).none_there (omega (arith, w.end-is))
+]
 
 pub returns-then-text-from-eq-ZERO : goal.returns-then-text-from-eq-ZERO
 returns-then-text-from-eq-ZERO c =
-    let ends : first_part (drop c.loop-at.at c.args.text.now) ≡ [] = elim c.loop-at-test.branch [
-      | else-loop-at-test w ↦ part_ends_at_end _ _ w.loop-at-test.false
-      | then-loop-at-test+then-b-eq-COMMA w ↦ part_ends_at_comma _ _ w.loop-at-test.true w.if-b-eq-COMMA.true
-    ] in
-    leading_zero_no_field c.loop-at.invariant ends (search) (omega arith) (search)
+    let s = part_end (goal.at.returns-then-text-from-eq-ZERO c).Else-end-from in
+    leading_zero_no_field s (omega arith) (omega arith) c.if-text-from-eq-ZERO.true
 
-pub returns-else-text-from-eq-ZERO : goal.returns-else-text-from-eq-ZERO
-returns-else-text-from-eq-ZERO c =
-    let ends : first_part (drop c.loop-at.at c.args.text.now) ≡ [] = elim c.loop-at-test.branch [
-      | else-loop-at-test w ↦ part_ends_at_end _ _ w.loop-at-test.false
-      | then-loop-at-test+then-b-eq-COMMA w ↦ part_ends_at_comma _ _ w.loop-at-test.true w.if-b-eq-COMMA.true
-    ] in
-    search (plain_number, ends)
-
-pub returns-else-at-from-gt1 : goal.returns-else-at-from-gt1
-returns-else-at-from-gt1 c =
-    let ends : first_part (drop c.loop-at.at c.args.text.now) ≡ [] = elim c.loop-at-test.branch [
-      | else-loop-at-test w ↦ part_ends_at_end _ _ w.loop-at-test.false
-      | then-loop-at-test+then-b-eq-COMMA w ↦ part_ends_at_comma _ _ w.loop-at-test.true w.if-b-eq-COMMA.true
-    ] in
-    search (one_digit_number, ends)
+pub returns : goal.returns
+returns c =
+    plain_number (part_end (goal.at.returns c).Else-end-from) (omega arith) (elim c.else-end-from-gt1.branch [
+      | else-end-from-gt1-via-then-end-from-gt1+else-text-from-eq-ZERO w ↦ λ _. w.if-text-from-eq-ZERO.false
+      | else-end-from-gt1-via-else-end-from-gt1 w ↦ λ l z. omega arith
+    ])

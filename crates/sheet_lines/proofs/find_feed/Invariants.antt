@@ -5,8 +5,8 @@ use lib.ListN.{length}
 use Rattle.sheet_lines.proofs.WordSearch.{SearchedTo}
 use Rattle.sheet_lines.proofs.find_feed.Given as goal
 
-abbrev pub invariant-loop-w : goal.invariant-loop-w
-invariant-loop-w l = SearchedTo l.sheet l.from l.at
+abbrev pub invariant-loop-word : goal.invariant-loop-word
+invariant-loop-word l = SearchedTo l.sheet l.from l.at
 
-abbrev pub decreases-loop-w : goal.decreases-loop-w
-decreases-loop-w l = length l.sheet - l.at
+abbrev pub decreases-loop-word : goal.decreases-loop-word
+decreases-loop-word l = length l.sheet - l.at

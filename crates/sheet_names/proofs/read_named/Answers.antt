@@ -1,12 +1,15 @@
 -- Without a header line the sheet is refused there; with one the lines behind it are read by its kind.
+use Rattle.std.proofs.lemmas.Result.{err_from_is_err_and}
 use Rattle.sheet_names.proofs.KindNames.{names_missing, lines_refused, lines_kept}
 use Rattle.sheet_names.proofs.read_named.Goals as goal
 
-pub returns-in-Unnamed : goal.returns-in-Unnamed
-returns-in-Unnamed c = search names_missing
+pub returns-in_default : goal.returns-in_default
+returns-in_default c = names_missing c.in_default.ensures c.at.ensures
 
-pub returns-in-Refused : goal.returns-in-Refused
-returns-in-Refused c = search lines_refused
+pub returns-in_err-count : goal.returns-in_err-count
+returns-in_err-count c =
+    let e = err_from_is_err_and c.from_residual.result c.from_residual.ensures.1 in
+    rw (e.1, e.2) (lines_refused c.in-Some.ensures c.in_err-count.ensures)
 
-pub returns-in-Kept : goal.returns-in-Kept
-returns-in-Kept c = search lines_kept
+pub returns : goal.returns
+returns c = lines_kept c.in-Some.ensures c.in_ok-count.ensures

@@ -6,7 +6,7 @@ use Rattle.sheet_ranges.proofs.read_ranges.Goals as goal
 
 pub returns-then-uneven_reader : goal.returns-then-uneven_reader
 returns-then-uneven_reader c =
-    let a = uneven_refused c.args.sheet.now c.args.minutes.now c.args.lows.now c.args.highs.now c.args.points.now c.args.bandwidths.now (cc) in
+    let a = uneven_refused c.args.sheet.now c.args.minutes.now c.args.lows.now c.args.highs.now c.args.points.now c.args.bandwidths.now (cc) c.at.ensures in
     record {
       result_value = a.0;
       minutes_after = a.1.0;

@@ -7,7 +7,7 @@ use Rattle.sheet_readings.proofs.scan_readings.Given as goal
 
 abbrev pub invariant-loop-at : goal.invariant-loop-at
 invariant-loop-at l =
-    ReadingsSoFar l.sheet l.from l.kind l.initial.minutes l.initial.lows l.initial.highs l.minutes l.lows l.highs l.at l.count l.last
+    ReadingsSoFar l.sheet l.from l.kind l.initial.minutes l.initial.lows l.initial.highs l.minutes l.lows l.highs l.at l.so_far
 
 abbrev pub decreases-loop-at : goal.decreases-loop-at
 decreases-loop-at l = length l.sheet - l.at

@@ -9,8 +9,8 @@ returns-then-minutes-ne1024 c = search minutes_uneven
 pub returns-then-values-ne1024 : goal.returns-then-values-ne1024
 returns-then-values-ne1024 c = search values_uneven
 
-pub returns-in-At : goal.returns-in-At
-returns-in-At c = search samples_after_header
+pub returns-in_default : goal.returns-in_default
+returns-in_default c = no_sample_header c.if-minutes-ne1024.false c.if-values-ne1024.false c.in_default.ensures c.at-in_default.ensures
 
-pub returns-in-Nothing : goal.returns-in-Nothing
-returns-in-Nothing c = search no_sample_header
+pub returns : goal.returns
+returns c = samples_after_header c.if-minutes-ne1024.false c.if-values-ne1024.false c.in-Some.ensures c.scan_samples.ensures

@@ -7,7 +7,7 @@ use Rattle.sheet_samples.proofs.scan_samples.Given as goal
 
 abbrev pub invariant-loop-at : goal.invariant-loop-at
 invariant-loop-at l =
-    SamplesSoFar l.sheet l.from l.initial.minutes l.initial.values l.minutes l.values l.at l.count l.last
+    SamplesSoFar l.sheet l.from l.initial.minutes l.initial.values l.minutes l.values l.at l.so_far
 
 abbrev pub decreases-loop-at : goal.decreases-loop-at
 decreases-loop-at l = length l.sheet - l.at

@@ -1,12 +1,17 @@
 -- The sheet's parts in order: each stage's contract says what is left of the meaning after it.
+use Rattle.std.proofs.lemmas.Result.{err_from_is_err_and}
 use Rattle.sheet_scan.proofs.Scans.{front_refused, named_refused, either_used}
 use Rattle.sheet_scan.proofs.scan.Goals as goal
 
-pub returns-in-Refused : goal.returns-in-Refused
-returns-in-Refused c = search front_refused
+pub returns-in_err-front : goal.returns-in_err-front
+returns-in_err-front c =
+    let e = err_from_is_err_and c.from_residual.result c.from_residual.ensures.1 in
+    rw (e.1, e.2) (front_refused (search) (search) c.in_err-front.ensures)
 
-pub returns-in-Refused-read_named : goal.returns-in-Refused-read_named
-returns-in-Refused-read_named c = search named_refused
+pub returns-in_err-named : goal.returns-in_err-named
+returns-in_err-named c =
+    let e = err_from_is_err_and c.from_residual-in_err-named.result c.from_residual-in_err-named.ensures.1 in
+    rw (e.1, e.2) (named_refused (search) (search) c.in_ok-front.ensures (search) (search) (search) c.in_err-named.ensures)
 
-pub returns-in-Kept : goal.returns-in-Kept
-returns-in-Kept c = search either_used
+pub returns : goal.returns
+returns c = either_used (search) (search) c.in_ok-front.ensures (search) (search) (search) c.in_ok-named.ensures

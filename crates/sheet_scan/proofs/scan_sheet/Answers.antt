@@ -4,7 +4,7 @@ use Rattle.sheet_scan.proofs.Scans.{uneven_outcome, even_outcome}
 use Rattle.sheet_scan.proofs.scan_sheet.Goals as goal
 
 pub returns-then-uneven_reader : goal.returns-then-uneven_reader
-returns-then-uneven_reader c = uneven_outcome (cc)
+returns-then-uneven_reader c = uneven_outcome (cc) c.at.ensures
 
 pub scan-requires : goal.scan-requires
 scan-requires c =

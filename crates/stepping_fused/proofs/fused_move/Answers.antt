@@ -5,5 +5,5 @@ use Rattle.stepping_fused.proofs.fused_move.Goals as goal
 pub returns : goal.returns
 returns c = search both_ways_move
 
-pub evicted_until-left-requires : goal.evicted_until-left-requires
-evicted_until-left-requires c = search left_way_within
+pub passed_until-left-requires : goal.passed_until-left-requires
+passed_until-left-requires c = search left_way_within

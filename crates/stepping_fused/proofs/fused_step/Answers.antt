@@ -3,11 +3,11 @@ use Rattle.estimator.proofs.Verdicts.{step_accepted}
 use Rattle.stepping_fused.proofs.Passing.{faulty_stays, fit_moves}
 use Rattle.stepping_fused.proofs.fused_step.Goals as goal
 
-pub returns-in-Faulty : goal.returns-in-Faulty
-returns-in-Faulty c = search faulty_stays
+pub returns-in-Err : goal.returns-in-Err
+returns-in-Err c = search faulty_stays
 
-pub returns-in-Fit : goal.returns-in-Fit
-returns-in-Fit c = search fit_moves
+pub returns-in-Ok : goal.returns-in-Ok
+returns-in-Ok c = search fit_moves
 
 pub fused_move-requires : goal.fused_move-requires
 fused_move-requires c = search step_accepted

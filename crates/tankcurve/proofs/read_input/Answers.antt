@@ -5,20 +5,14 @@ use Rattle.tankcurve.proofs.read_input.Goals as goal
 pub loop-done-init : goal.loop-done-init
 loop-done-init c = search reading_begins
 
-pub shape_of-buf-in_default : goal.shape_of-buf-in_default
-shape_of-buf-in_default c = search read_keeps_length
-
-pub returns-in_default : goal.returns-in_default
-returns-in_default c = tt
-
 pub overflow_add-done : goal.overflow_add-done
-overflow_add-done c = search done_in_range
+overflow_add-done c = search (done_in_range, c.in_ok-more.ensures.bound.0)
 
 pub loop-done-smaller : goal.loop-done-smaller
-loop-done-smaller c = search less_to_read
+loop-done-smaller c = search (less_to_read, c.in_ok-more.ensures.bound.0)
 
 pub loop-done-preserved : goal.loop-done-preserved
-loop-done-preserved c = search reading_goes_on
+loop-done-preserved c = search (reading_goes_on, c.in_ok-more.ensures.bound.0)
 
 pub shape_of-buf-then-more-eq0 : goal.shape_of-buf-then-more-eq0
 shape_of-buf-then-more-eq0 c = search read_keeps_length

@@ -2,11 +2,11 @@
 use Rattle.tankcurve.proofs.FullBuffer.{never_refused, refusal_front, refusal_length}
 use Rattle.tankcurve.proofs.refuse.Goals as goal
 
-pub returns-in-Written-clause-out_after : goal.returns-in-Written-clause-out_after
-returns-in-Written-clause-out_after c = search refusal_front
+pub returns-in-Ok-clause-out_after : goal.returns-in-Ok-clause-out_after
+returns-in-Ok-clause-out_after c = search refusal_front
 
-pub returns-in-Written-clause-value : goal.returns-in-Written-clause-value
-returns-in-Written-clause-value c = search refusal_length
+pub returns-in-Ok-clause-value : goal.returns-in-Ok-clause-value
+returns-in-Ok-clause-value c = search refusal_length
 
-pub returns-in-Refused : goal.returns-in-Refused
-returns-in-Refused c = absurd (search never_refused)
+pub returns-in-Err : goal.returns-in-Err
+returns-in-Err c = absurd (search never_refused)

@@ -5,8 +5,8 @@ use Rattle.text_decimal.proofs.Digits.{digit_fits}
 use Rattle.text_decimal.proofs.NumberParts.{digit_stored, of_two_fits, of_two_stored, of_four_fits, of_four_stored, three_go_on, three_stored}
 use Rattle.text_decimal.proofs.put_short.Goals as goal
 
-pub put_byte-requires : goal.put_byte-requires
-put_byte-requires c = search digit_fits
+pub put-requires : goal.put-requires
+put-requires c = search digit_fits
 
 pub returns-then-n-lt10 : goal.returns-then-n-lt10
 returns-then-n-lt10 c = search digit_stored
@@ -17,8 +17,8 @@ put_two-requires c = (search rules, search of_two_fits)
 pub returns-then-n-lt100 : goal.returns-then-n-lt100
 returns-then-n-lt100 c = search of_two_stored
 
-pub put_byte-second-requires : goal.put_byte-second-requires
-put_byte-second-requires c = search digit_fits
+pub put-second-requires : goal.put-second-requires
+put-second-requires c = search digit_fits
 
 pub put_two-requires-then-n-lt1000 : goal.put_two-requires-then-n-lt1000
 put_two-requires-then-n-lt1000 c = (omega arith, search three_go_on)

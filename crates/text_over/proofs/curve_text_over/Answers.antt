@@ -3,12 +3,6 @@ use Rattle.text_sheet.proofs.UsedParts.{other_buffer, other_buffer_stays}
 use Rattle.text_over.proofs.Sheets.{all_of_it}
 use Rattle.text_over.proofs.curve_text_over.Goals as goal
 
-pub returns-then-buf-ne-MAX_OUTPUT-clause-result_value : goal.returns-then-buf-ne-MAX_OUTPUT-clause-result_value
-returns-then-buf-ne-MAX_OUTPUT-clause-result_value c = search other_buffer
-
-pub returns-then-buf-ne-MAX_OUTPUT-clause-buf_after : goal.returns-then-buf-ne-MAX_OUTPUT-clause-buf_after
-returns-then-buf-ne-MAX_OUTPUT-clause-buf_after c = search other_buffer_stays
-
 pub returns-then-size-gt-MAX_OUTPUT : goal.returns-then-size-gt-MAX_OUTPUT
 returns-then-size-gt-MAX_OUTPUT c =
     let a = all_of_it c.args.buf.now c.args.size c.sheet_text_over.result c.sheet_text_over.new.buf (search) (search) c.sheet_text_over.ensures in

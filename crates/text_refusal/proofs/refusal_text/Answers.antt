@@ -2,12 +2,6 @@
 use Rattle.text_refusal.proofs.Refusals.{other_refusal_buffer, other_refusal_buffer_stays, refusal_fits, refusal_size, refusal_written}
 use Rattle.text_refusal.proofs.refusal_text.Goals as goal
 
-pub returns-then-size-ne-MAX_OUTPUT-clause-result_value : goal.returns-then-size-ne-MAX_OUTPUT-clause-result_value
-returns-then-size-ne-MAX_OUTPUT-clause-result_value c = search other_refusal_buffer
-
-pub returns-then-size-ne-MAX_OUTPUT-clause-out_after : goal.returns-then-size-ne-MAX_OUTPUT-clause-out_after
-returns-then-size-ne-MAX_OUTPUT-clause-out_after c = search other_refusal_buffer_stays
-
 pub put_refusal-requires : goal.put_refusal-requires
 put_refusal-requires c = search refusal_fits
 

@@ -1,10 +1,8 @@
 -- Each turn stores the two numbers of one pair more.
-use Rattle.std.proofs.Common.{◌-◌}
-use Rattle.box_sums.proofs.Storing.{RowTo}
+use Rattle.std.proofs.Common.{◌≡◌, ◌*◌, take}
+use Rattle.box_sums.specs.Pairs.{table_row}
 use Rattle.box_sums.proofs.pairs.put_box_row.Given as goal
 
 abbrev pub invariant-loop-k : goal.invariant-loop-k
-invariant-loop-k l = RowTo l.counts l.sums l.first l.end l.lows l.highs l.m l.initial.boxes l.at l.boxes l.k
-
-abbrev pub decreases-loop-k : goal.decreases-loop-k
-decreases-loop-k l = l.m - l.k
+invariant-loop-k l =
+    take (2 * l.k) l.row ≡ table_row l.tables.counts.now l.tables.sums.now l.first l.end l.others.firsts.now l.others.ends.now l.k

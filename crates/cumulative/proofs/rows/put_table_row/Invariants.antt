@@ -1,10 +1,6 @@
 -- Each turn adds a cell to the running sum, and stores the number above with it.
-use Prim.Native.Nat.{◌-◌}
 use Rattle.cumulative.proofs.Filling.{RowPart}
 use Rattle.cumulative.proofs.rows.put_table_row.Given as goal
 
 abbrev pub invariant-loop-b : goal.invariant-loop-b
 invariant-loop-b l = RowPart l.cells l.table l.a l.b l.row
-
-abbrev pub decreases-loop-b : goal.decreases-loop-b
-decreases-loop-b l = 65 - l.b

@@ -1,10 +1,6 @@
 -- Each turn stores one row more.
-use Prim.Native.Nat.{◌-◌}
 use Rattle.cumulative.specs.Tables.{RowsTo}
 use Rattle.cumulative.proofs.rows.put_table_rows.Given as goal
 
 abbrev pub invariant-loop-a : goal.invariant-loop-a
 invariant-loop-a l = RowsTo l.cells l.table l.a
-
-abbrev pub decreases-loop-a : goal.decreases-loop-a
-decreases-loop-a l = 65 - l.a

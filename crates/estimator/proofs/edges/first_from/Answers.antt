@@ -1,6 +1,5 @@
 -- At each turn the first hit from `from` on is the first hit from i on.
 -- So a hit at i is the answer, and at the end the answer is `to`.
-use native.Mathlib.Omega.{arith}
 use Rattle.estimator.proofs.Laws.{search_begins, search_goes_on, search_finds, search_ends}
 use Rattle.estimator.proofs.edges.first_from.Goals as goal
 
@@ -15,6 +14,3 @@ returns-then-bound-minutes c = search search_finds
 
 pub returns : goal.returns
 returns c = search search_ends
-
-pub overflow_cast-minutes : goal.overflow_cast-minutes
-overflow_cast-minutes c = omega (arith, c.shared_slice_known-1.given c.loop-i.i)

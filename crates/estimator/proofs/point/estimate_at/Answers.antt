@@ -6,5 +6,5 @@ use Rattle.estimator.proofs.point.estimate_at.Goals as goal
 pub returns : goal.returns
 returns c = search row_of_span
 
-pub with_run-sums-requires : goal.with_run-sums-requires
-with_run-sums-requires c = search span_run_within
+pub run_changed-sums-requires : goal.run_changed-sums-requires
+run_changed-sums-requires c = search span_run_within

@@ -10,8 +10,8 @@ returns c = search six_parts_move
 pub first_from-left-requires : goal.first_from-left-requires
 first_from-left-requires c = search left_starts_within
 
-pub with_run-taken-requires : goal.with_run-taken-requires
-with_run-taken-requires c = search inserted_within
+pub run_changed-taken-requires : goal.run_changed-taken-requires
+run_changed-taken-requires c = search inserted_within
 
-pub without_run-sums-requires : goal.without_run-sums-requires
-without_run-sums-requires c = search evicted_within
+pub run_changed-sums-requires : goal.run_changed-sums-requires
+run_changed-sums-requires c = search evicted_within

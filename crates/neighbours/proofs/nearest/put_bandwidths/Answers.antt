@@ -1,6 +1,6 @@
 -- Each turn stores one half width more behind those before, and hands the start on: marks are in order, so the next one passes every start that
 -- this one has passed.
-use Rattle.neighbours.proofs.Starts.{stores_begin, stored_length, can_search, has_room, stores_go_on, stores_end}
+use Rattle.neighbours.proofs.Starts.{stores_begin, stored_length, can_search, stores_go_on, stores_end}
 use Rattle.neighbours.proofs.nearest.put_bandwidths.Goals as goal
 
 pub loop-i-init : goal.loop-i-init
@@ -14,9 +14,6 @@ returns c = search stores_end
 
 pub nearest_start-start-requires : goal.nearest_start-start-requires
 nearest_start-start-requires c = search can_search
-
-pub bounds-bandwidths-i : goal.bounds-bandwidths-i
-bounds-bandwidths-i c = search has_room
 
 pub shape_of-bandwidths : goal.shape_of-bandwidths
 shape_of-bandwidths c = search stored_length

@@ -5,8 +5,8 @@ use Rattle.ranges.proofs.step.both_move.Goals as goal
 pub returns : goal.returns
 returns c = search both_ways_move
 
-pub inserted_until-right-requires : goal.inserted_until-right-requires
-inserted_until-right-requires c = search right_way_within
+pub passed_until-right-requires : goal.passed_until-right-requires
+passed_until-right-requires c = search right_way_within
 
-pub evicted_until-left-requires : goal.evicted_until-left-requires
-evicted_until-left-requires c = search left_way_within
+pub passed_until-left-requires : goal.passed_until-left-requires
+passed_until-left-requires c = search left_way_within

@@ -1,11 +1,6 @@
 -- Each turn stores one mark's line right behind those before.
-use Prim.Native.Nat.{◌-◌}
-use lib.ListN.{length}
 use Rattle.text_ranges.proofs.Tables.{TableTo}
 use Rattle.text_ranges.proofs.curve.put_range_lines.Given as goal
 
 abbrev pub invariant-loop-k : goal.invariant-loop-k
 invariant-loop-k l = TableTo l.initial.out l.at l.points l.bandwidths l.rows l.out l.to l.k
-
-abbrev pub decreases-loop-k : goal.decreases-loop-k
-decreases-loop-k l = length l.points - l.k

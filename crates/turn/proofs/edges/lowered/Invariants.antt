@@ -3,8 +3,5 @@
 use Rattle.turn.proofs.Travels.{Falling}
 use Rattle.turn.proofs.edges.lowered.Given as goal
 
-abbrev pub invariant-loop-at : goal.invariant-loop-at
-invariant-loop-at l = Falling l.minutes l.values l.bound l.initial.at l.initial.sums l.at l.sums
-
-abbrev pub decreases-loop-at : goal.decreases-loop-at
-decreases-loop-at l = l.at
+abbrev pub invariant-loop-before : goal.invariant-loop-before
+invariant-loop-before l = Falling l.minutes l.values l.bound l.initial.before l.initial.sums l.before l.sums

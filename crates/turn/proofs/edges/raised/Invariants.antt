@@ -1,12 +1,7 @@
 -- At each turn the sums have taken in what lies between where the edge stood at first and where it stands.
 -- It stops at the first minute of at least the bound, or at the end.
-use Prim.Native.Nat.{◌-◌}
-use lib.ListN.{length}
 use Rattle.turn.proofs.Travels.{Rising}
 use Rattle.turn.proofs.edges.raised.Given as goal
 
 abbrev pub invariant-loop-at : goal.invariant-loop-at
 invariant-loop-at l = Rising l.minutes l.values l.initial.at l.initial.sums l.at l.sums
-
-abbrev pub decreases-loop-at : goal.decreases-loop-at
-decreases-loop-at l = length l.minutes - l.at

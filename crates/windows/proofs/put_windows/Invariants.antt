@@ -1,0 +1,8 @@
+-- Lists that are too short are left. Each turn searches both cuts of one mark more.
+use Rattle.std.proofs.Common.{map}
+use Rattle.windows.proofs.Storing.{WindowsTo}
+use Rattle.windows.proofs.put_windows.Given as goal
+
+abbrev pub invariant-loop-i : goal.invariant-loop-i
+invariant-loop-i g l =
+    WindowsTo (map g.C.Coordinate.number l.points) l.bandwidths g.C.Coordinate.SHIFT l.cuts l.initial.firsts l.initial.ends l.firsts l.ends l.i
