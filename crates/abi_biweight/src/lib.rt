@@ -9,12 +9,13 @@ ghost use Rattle.meanings.specs.Codes.{answered, no_detail};
 ghost use Rattle.meanings_biweight.specs.Biweight.{biweight as biweight_meaning};
 ghost use Rattle.abi_answers.specs.Answers.{sized, stored};
 
-use abi_answers::{put_estimate, refusal_code};
+use abi_answers::{put_numbers, refusal_code};
 use biweight::biweight;
-use meanings::ROW_WIDTH;
+use meanings::{ROW_WIDTH, Readings};
 
 // row: five numbers, left, right, weight, sum, value.
 #[unsafe(no_mangle)]
+#[tactic(auto, unfolding(abi_answers::specs::Answers::sized, abi_answers::specs::Answers::replaced), using(abi_answers::proofs::Answered::refused_code, crate::proofs::Places::biweight_place))]
 pub extern "C" fn tankcurve_biweight(
     minutes: &[u16],
     values: &[u16],
@@ -27,10 +28,11 @@ pub extern "C" fn tankcurve_biweight(
     if row.len() != ROW_WIDTH {
         return 8;
     }
-    match biweight(minutes, values, point) {
+    let readings = Readings { minutes, values };
+    match biweight(readings, point) {
         Err(refusal) => refusal_code(refusal),
         Ok(estimate) => {
-            put_estimate(row, estimate);
+            put_numbers(estimate.into(), row);
             0
         }
     }

@@ -7,6 +7,7 @@ ghost use Rattle.meanings.specs.Codes.{answered, no_detail};
 ghost use Rattle.meanings_boxes.specs.Boxes.{minute_axis, temperature_axis, boxes as boxes_meaning, boxes_then, counts_then, sums_then};
 
 use abi_answers::refusal_code;
+use meanings_boxes::{AxisMarks, BoxReadings, Question};
 
 // boxes receives count and sum of each pair of marks, counts and sums a number for each of the 4,225 cells.
 #[unsafe(no_mangle)]
@@ -27,18 +28,19 @@ pub extern "C" fn tankcurve_boxes(
     ensures counts_after { counts.new ≡ counts_then (minute_axis minutes.now points.now bandwidths.now) (temperature_axis temperatures.now temperature_points.now temperature_bandwidths.now) values.now boxes.old counts.old sums.old }
     ensures sums_after { sums.new ≡ sums_then (minute_axis minutes.now points.now bandwidths.now) (temperature_axis temperatures.now temperature_points.now temperature_bandwidths.now) values.now boxes.old counts.old sums.old }
 {
-    match boxes::boxes(
-        minutes,
-        temperatures,
-        values,
-        points,
-        bandwidths,
-        temperature_points,
-        temperature_bandwidths,
-        boxes,
-        counts,
-        sums,
-    ) {
+    let asked = Question {
+        readings: BoxReadings {
+            minutes,
+            temperatures,
+            values,
+        },
+        minute_marks: AxisMarks { points, bandwidths },
+        temperature_marks: AxisMarks {
+            points: temperature_points,
+            bandwidths: temperature_bandwidths,
+        },
+    };
+    match boxes::boxes(asked, boxes, counts, sums) {
         Err(refusal) => refusal_code(refusal),
         Ok(()) => 0,
     }

@@ -1,35 +1,24 @@
 -- The call is refused at a position of its lists, and passes are at most twice the readings. So no answer overflows.
 use Prim.Native.Nat.{ℕ, ◌*◌, ◌^◌, ◌≤◌, ◌<◌}
 use Rattle.std.specs.Prelude.{Ok}
-use Rattle.std.specs.Prelude.{Option, None, Some, Result}
+use Rattle.std.specs.Prelude.{Result}
 use Rattle.meanings_limit.specs.declared.Located.{Located}
 use Rattle.meanings.specs.declared.Refusal.{Refusal}
 use Rattle.meanings.specs.Calls.{answer_of}
-use mathlib.Core.Path.{◌≡◌, refl, sym, ap, ◌∙◌}
+use mathlib.Core.Path.{◌≡◌, sym, ap, ◌∙◌}
 use mathlib.Core.Bool.{false}
 use mathlib.Core.List.{List}
 use native.Mathlib.Omega.{arith}
-use lib.ListN.{length}
 use Rattle.meanings.specs.Limits.{full, max_sheet}
-use Rattle.meanings.specs.Codes.{detail_unit, answered}
-use Rattle.meanings.specs.Reports.{Answer, given}
+use Rattle.meanings.specs.Codes.{detail_unit}
+use Rattle.meanings.specs.Reports.{given}
 use Rattle.meanings.specs.Running.{fresh, passes}
 use Rattle.meanings.proofs.Checks.{same_limits, given_accepted}
 use Rattle.meanings.proofs.Passes.{passes_at_most_twice}
 use Rattle.meanings.proofs.SmoothSteps.{curve_accepts}
 use Rattle.meanings_limit.specs.Crossing.{first_low, steps_to, located, crossing_refusal, first_at_most}
-use Rattle.abi_answers.specs.Answers.{sized, stored, replaced}
-use Rattle.abi_answers.specs.Positions.{position_numbers}
-use Rattle.abi_answers.proofs.Answered.{right_size, same_length_replaced}
 use Rattle.abi_answers.proofs.CurvePlaces.{curve_place}
 use Rattle.abi_answers.proofs.Places.{refusal_place}
-
--- what an accepted call tells: the passes as its detail, and the position as the numbers of a list
-abbrev passes_detail : Located → ℕ
-passes_detail l = l.passes
-
-abbrev position_list : Located → List ℕ
-position_list l = position_numbers l.position
 
 module _ (ts vs zs hs : List ℕ) (limit : ℕ) where
   pub crossing_place : refusal_place (first_at_most full ts vs zs hs limit) ≤ max_sheet
@@ -52,13 +41,3 @@ module _ (ts vs zs hs : List ℕ) (limit : ℕ) where
 
     pub passes_fit : detail_unit * l.passes < 2 ^ 64
     passes_fit = let few = passes_small l (sym tells) in omega arith
-
-    pub located_code : (xs : List ℕ) → length xs ≡ 1 → detail_unit * l.passes ≡ answered passes_detail (sized 1 xs (first_at_most full ts vs zs hs limit))
-    located_code xs one = ap (answered passes_detail) (tells ∙ right_size 1 xs one (first_at_most full ts vs zs hs limit))
-
-    pub located_stored : (xs ys : List ℕ) → length xs ≡ 1 → ys ≡ replaced (position_numbers l.position) xs
-        → ys ≡ stored position_list (sized 1 xs (first_at_most full ts vs zs hs limit)) xs
-    located_stored xs ys one e =
-        e
-        ∙ same_length_replaced (position_list l) xs one
-        ∙ ap (λ (o : Answer Located). stored position_list o xs) (tells ∙ right_size 1 xs one (first_at_most full ts vs zs hs limit))

@@ -10,12 +10,13 @@ ghost use Rattle.meanings_limit.specs.Crossing.{first_at_most};
 ghost use Rattle.abi_answers.specs.Answers.{sized, stored};
 ghost use Rattle.abi_answers.specs.Positions.{position_numbers};
 
-use abi_answers::{put_position, refusal_code};
+use abi_answers::{position_number, put_numbers, refusal_code};
 use crossing::first_at_most;
-use meanings::DETAIL_UNIT;
+use meanings::{DETAIL_UNIT, Marks, Readings};
 
 // position, one number, gets the mark's position or what stands for none; the detail is the passes.
 #[unsafe(no_mangle)]
+#[tactic(auto, unfolding(abi_answers::specs::Answers::sized, abi_answers::specs::Answers::replaced), using(abi_answers::proofs::Answered::refused_code, crate::proofs::Places::crossing_place, crate::proofs::Places::passes_fit))]
 pub extern "C" fn tankcurve_first_at_most(
     minutes: &[u16],
     values: &[u16],
@@ -30,10 +31,12 @@ pub extern "C" fn tankcurve_first_at_most(
     if position.len() != 1 {
         return 8;
     }
-    match first_at_most(minutes, values, points, bandwidths, limit) {
+    let readings = Readings { minutes, values };
+    let marks = Marks { points, bandwidths };
+    match first_at_most(readings, marks, limit) {
         Err(refusal) => refusal_code(refusal),
         Ok(located) => {
-            put_position(position, located.position);
+            put_numbers([position_number(located.position)], position);
             DETAIL_UNIT * located.passes
         }
     }

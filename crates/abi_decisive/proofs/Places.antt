@@ -1,21 +1,12 @@
 -- The call is refused at a position of its readings. What the call below found is what the answer tells and the list then holds.
 use Prim.Native.Nat.{ℕ, ◌≤◌}
-use Rattle.std.specs.Prelude.{None, Some, Result, Ok}
-use Rattle.meanings.specs.declared.Refusal.{Refusal}
-use Rattle.meanings.specs.Calls.{answer_of}
-use mathlib.Core.Path.{◌≡◌, refl, sym, ap, ◌∙◌}
 use mathlib.Core.List.{List}
-use Rattle.std.specs.Prelude.{Option}
 use native.Mathlib.Omega.{arith}
 use lib.Dec.{ltb}
 use lib.ListN.{length}
 use Rattle.meanings.specs.Limits.{full, max_sheet}
-use Rattle.meanings.specs.Codes.{answered, no_detail}
-use Rattle.meanings.specs.Reports.{Answer, given, decreases, uneven_samples, evaluate_checks}
+use Rattle.meanings.specs.Reports.{decreases, uneven_samples, evaluate_checks}
 use Rattle.meanings_decisive.specs.Decisive.{first_decisive, decisive}
-use Rattle.abi_answers.specs.Answers.{sized, stored, replaced}
-use Rattle.abi_answers.specs.Positions.{position_numbers}
-use Rattle.abi_answers.proofs.Answered.{right_size, same_length_replaced}
 use Rattle.abi_answers.proofs.Places.{refusal_place, answer_small, at_start, at_position, bandwidth_small, few_small}
 
 module _ (ts vs : List ℕ) (z h limit : ℕ) where

@@ -9,11 +9,13 @@ ghost use Rattle.meanings_decisive.specs.Decisive.{decisive};
 ghost use Rattle.abi_answers.specs.Answers.{sized, stored};
 ghost use Rattle.abi_answers.specs.Positions.{position_numbers};
 
-use abi_answers::{put_position, refusal_code};
+use abi_answers::{position_number, put_numbers, refusal_code};
 use decisive::decisive_sample;
+use meanings::{Mark, Readings};
 
 // position, one number, gets the reading's position or what stands for none; the detail is 0.
 #[unsafe(no_mangle)]
+#[tactic(auto, unfolding(abi_answers::specs::Answers::sized, abi_answers::specs::Answers::replaced), using(abi_answers::proofs::Answered::refused_code, crate::proofs::Places::decisive_place))]
 pub extern "C" fn tankcurve_decisive(
     minutes: &[u16],
     values: &[u16],
@@ -28,10 +30,12 @@ pub extern "C" fn tankcurve_decisive(
     if position.len() != 1 {
         return 8;
     }
-    match decisive_sample(minutes, values, point, bandwidth, limit) {
+    let readings = Readings { minutes, values };
+    let mark = Mark { point, bandwidth };
+    match decisive_sample(readings, mark, limit) {
         Err(refusal) => refusal_code(refusal),
         Ok(found) => {
-            put_position(position, found);
+            put_numbers([position_number(found)], position);
             0
         }
     }

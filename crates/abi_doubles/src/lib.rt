@@ -16,6 +16,7 @@ use meanings_doubles::Cell;
 // The number is a weight or a sum of a row of this weight. doubles, two of them, gets what is handed over in front; the detail is how many that
 // are, and the others stay.
 #[unsafe(no_mangle)]
+#[tactic(auto, unfolding(abi_answers::specs::Answers::sized, abi_answers::specs::Answers::replaced))]
 pub extern "C" fn tankcurve_doubles(weight: u64, number: u64, doubles: &mut [f64]) -> u64
     ensures value { result ≡ answered used (sized 2 doubles.old (given (handed weight number))) }
     ensures doubles_after { doubles.new ≡ filled (sized 2 doubles.old (given (handed weight number))) doubles.old }

@@ -8,10 +8,12 @@ ghost use Rattle.meanings.specs.Codes.{answered, no_detail};
 ghost use Rattle.meanings_neighbours.specs.Neighbours.{neighbours as neighbours_meaning, bandwidths_then, rows_then};
 
 use abi_answers::refusal_code;
+use meanings::Readings;
 use neighbours::neighbours;
 
 // bandwidths receives a half width a mark, by its k nearest readings, and rows five numbers a mark.
 #[unsafe(no_mangle)]
+#[tactic(auto, using(abi_answers::proofs::Answered::refused_code, crate::proofs::Places::neighbours_place))]
 pub extern "C" fn tankcurve_neighbours(
     minutes: &[u16],
     values: &[u16],
@@ -24,7 +26,8 @@ pub extern "C" fn tankcurve_neighbours(
     ensures bandwidths_after { bandwidths.new ≡ bandwidths_then full minutes.now values.now points.now k bandwidths.old rows.old }
     ensures rows_after { rows.new ≡ rows_then full minutes.now values.now points.now k bandwidths.old rows.old }
 {
-    match neighbours(minutes, values, points, k, bandwidths, rows) {
+    let readings = Readings { minutes, values };
+    match neighbours(readings, points, k, bandwidths, rows) {
         Err(refusal) => refusal_code(refusal),
         Ok(()) => 0,
     }

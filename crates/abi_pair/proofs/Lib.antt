@@ -1,2 +1,1 @@
-pub mod Partings
 pub mod Places

@@ -9,12 +9,13 @@ ghost use Rattle.meanings.specs.Calls.{evaluate as evaluate_meaning};
 ghost use Rattle.meanings.specs.Codes.{answered, no_detail};
 ghost use Rattle.abi_answers.specs.Answers.{sized, stored, bounds as bounds_of};
 
-use abi_answers::{put_estimate, put_pair, refusal_code};
+use abi_answers::{put_numbers, refusal_code};
 use estimator::evaluate;
-use meanings::ROW_WIDTH;
+use meanings::{Mark, ROW_WIDTH, Readings};
 
 // The question at one mark. row: five numbers, left, right, weight, sum, value.
 #[unsafe(no_mangle)]
+#[tactic(auto, unfolding(abi_answers::specs::Answers::sized, abi_answers::specs::Answers::replaced), using(abi_answers::proofs::Answered::refused_code, crate::proofs::Places::evaluate_place))]
 pub extern "C" fn tankcurve_evaluate(
     minutes: &[u16],
     values: &[u16],
@@ -28,10 +29,10 @@ pub extern "C" fn tankcurve_evaluate(
     if row.len() != ROW_WIDTH {
         return 8;
     }
-    match evaluate(minutes, values, point, bandwidth) {
+    match evaluate(Readings { minutes, values }, Mark { point, bandwidth }) {
         Err(refusal) => refusal_code(refusal),
         Ok(estimate) => {
-            put_estimate(row, estimate);
+            put_numbers(estimate.into(), row);
             0
         }
     }
@@ -39,6 +40,7 @@ pub extern "C" fn tankcurve_evaluate(
 
 // The same question's run: bounds, two numbers, gets its first position and the one after its last.
 #[unsafe(no_mangle)]
+#[tactic(auto, unfolding(abi_answers::specs::Answers::sized, abi_answers::specs::Answers::replaced), using(abi_answers::proofs::Answered::refused_code, crate::proofs::Places::evaluate_place))]
 pub extern "C" fn tankcurve_window(
     minutes: &[u16],
     values: &[u16],
@@ -52,10 +54,10 @@ pub extern "C" fn tankcurve_window(
     if bounds.len() != 2 {
         return 8;
     }
-    match evaluate(minutes, values, point, bandwidth) {
+    match evaluate(Readings { minutes, values }, Mark { point, bandwidth }) {
         Err(refusal) => refusal_code(refusal),
         Ok(estimate) => {
-            put_pair(bounds, estimate.left, estimate.right);
+            put_numbers([estimate.left, estimate.right], bounds);
             0
         }
     }

@@ -8,11 +8,13 @@ ghost use Rattle.meanings.specs.Codes.{answered};
 ghost use Rattle.meanings_ranges.specs.Ranges.{smooth_ranges, smooth_ranges_rows};
 
 use abi_answers::refusal_code;
-use meanings::DETAIL_UNIT;
+use meanings::{DETAIL_UNIT, Marks};
+use meanings_ranges::Ranges;
 use ranges::smooth_ranges;
 
 // The whole sweep: rows receives seven numbers a mark, and the detail is the passes.
 #[unsafe(no_mangle)]
+#[tactic(auto, using(abi_answers::proofs::Answered::refused_code, crate::proofs::Places::ranges_place, crate::proofs::Places::passes_few))]
 pub extern "C" fn tankcurve_smooth_ranges(
     minutes: &[u16],
     lows: &[u16],
@@ -24,7 +26,13 @@ pub extern "C" fn tankcurve_smooth_ranges(
     ensures value { result ≡ answered (λ n. n) (smooth_ranges full minutes.now lows.now highs.now points.now bandwidths.now rows.old) }
     ensures rows_after { rows.new ≡ smooth_ranges_rows full minutes.now lows.now highs.now points.now bandwidths.now rows.old }
 {
-    match smooth_ranges(minutes, lows, highs, points, bandwidths, rows) {
+    let ranges = Ranges {
+        minutes,
+        lows,
+        highs,
+    };
+    let marks = Marks { points, bandwidths };
+    match smooth_ranges(ranges, marks, rows) {
         Err(refusal) => refusal_code(refusal),
         Ok(passes) => DETAIL_UNIT * passes,
     }

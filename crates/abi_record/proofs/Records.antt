@@ -1,8 +1,5 @@
 -- A list of a record's length is the record of its numbers, so the calls below are made on it.
 use Prim.Native.Nat.{ℕ}
-use Rattle.std.specs.Prelude.{Result}
-use Rattle.meanings.specs.declared.Refusal.{Refusal}
-use Rattle.meanings.specs.Calls.{answer_of}
 use mathlib.Core.Path.{◌≡◌, sym, ap, ◌∙◌}
 use mathlib.Core.List.{List}
 use lib.ListN.{length}
@@ -11,20 +8,11 @@ use Rattle.meanings.specs.declared.RunningSums.{RunningSums}
 use Rattle.meanings.specs.Limits.{row_width}
 use Rattle.meanings.specs.Reports.{Answer, given}
 use Rattle.meanings.specs.Estimate.{fields}
-use Rattle.meanings.specs.Running.{advance, record_row}
+use Rattle.meanings.specs.Running.{record_row}
 use Rattle.meanings.specs.Codes.{answered, no_detail}
 use Rattle.abi_answers.specs.Answers.{sized, stored, replaced, record_length, record_of, record_in}
-use Rattle.abi_answers.proofs.Answered.{right_size, both_sizes, same_length_replaced}
+use Rattle.abi_answers.proofs.Answered.{both_sizes, same_length_replaced}
 use Rattle.abi_answers.proofs.Stores.{record_of_length}
-
--- the step on the record that the numbers are
-pub step_answer : (r : Result RunningSums Refusal) (ts vs : List ℕ) (s : RunningSums) (z h : ℕ) → answer_of r ≡ advance ts vs s z h → (xs : List ℕ)
-    → s ≡ record_in xs
-    → length xs ≡ record_length → answer_of r ≡ sized record_length xs (advance ts vs (record_of xs) z h)
-step_answer r ts vs s z h answer xs e right =
-    answer
-    ∙ ap (λ (t : RunningSums). advance ts vs t z h) (e ∙ sym (record_of_length xs right))
-    ∙ right_size record_length xs right (advance ts vs (record_of xs) z h)
 
 -- the row of the record that the numbers are
 module _ (xs : List ℕ) (so : length xs ≡ record_length) (ys : List ℕ) (five : length ys ≡ row_width) where

@@ -10,15 +10,15 @@ ghost use Rattle.meanings.specs.Running.{advance as advance_meaning, record_row}
 ghost use Rattle.meanings.specs.Codes.{answered, no_detail};
 ghost use Rattle.abi_answers.specs.Answers.{sized, stored, record_length, record_numbers, record_of as record_meaning};
 
-use abi_answers::{RECORD_LENGTH, put_estimate, put_record, record_of, refusal_code};
+use abi_answers::{put_numbers, refusal_code};
 use estimator::advance;
-use meanings::ROW_WIDTH;
+use meanings::{Mark, ROW_WIDTH, Readings, RunningSums};
 use row::record_row;
 
 // The single step. running: nine numbers of any origin, left, right, the six sums s00, s10, s20, s01, s11, s21, and the
 // passes.
 #[unsafe(no_mangle)]
-#[tactic(auto, using(abi_answers::proofs::Answered::other_code, abi_answers::proofs::Answered::other_stays))]
+#[tactic(auto, unfolding(abi_answers::specs::Answers::sized, abi_answers::specs::Answers::replaced), using(abi_answers::proofs::Answered::refused_code, crate::proofs::Places::advance_place))]
 pub extern "C" fn tankcurve_advance(
     running: &mut [u64],
     minutes: &[u16],
@@ -29,13 +29,15 @@ pub extern "C" fn tankcurve_advance(
     ensures value { result ≡ answered no_detail (sized record_length running.old (advance_meaning minutes.now values.now (record_meaning running.old) point bandwidth)) }
     ensures running_after { running.new ≡ stored record_numbers (sized record_length running.old (advance_meaning minutes.now values.now (record_meaning running.old) point bandwidth)) running.old }
 {
-    if running.len() != RECORD_LENGTH {
+    let Ok(before) = RunningSums::try_from(&running[..]) else {
         return 8;
-    }
-    match advance(record_of(running), minutes, values, point, bandwidth) {
+    };
+    let readings = Readings { minutes, values };
+    let mark = Mark { point, bandwidth };
+    match advance(before, readings, mark) {
         Err(refusal) => refusal_code(refusal),
         Ok(moved) => {
-            put_record(running, moved);
+            put_numbers(moved.into(), running);
             0
         }
     }
@@ -43,18 +45,18 @@ pub extern "C" fn tankcurve_advance(
 
 // The row that a running record gives at a mark. running: nine numbers of any origin; row: five numbers. Every half width is taken.
 #[unsafe(no_mangle)]
+#[tactic(auto, unfolding(abi_answers::specs::Answers::sized, abi_answers::specs::Answers::replaced))]
 pub extern "C" fn tankcurve_row(running: &[u64], point: u16, bandwidth: u32, row: &mut [u64]) -> u64
     ensures value { result ≡ answered no_detail (sized record_length running.now (sized row_width row.old (given (record_row (record_meaning running.now) point bandwidth)))) }
     ensures row_after { row.new ≡ stored fields (sized record_length running.now (sized row_width row.old (given (record_row (record_meaning running.now) point bandwidth)))) row.old }
 {
-    let numbers = running.len();
-    if numbers != RECORD_LENGTH {
+    let Ok(record) = RunningSums::try_from(running) else {
+        return 8;
+    };
+    if row.len() != ROW_WIDTH {
         return 8;
     }
-    let width = row.len();
-    if width != ROW_WIDTH {
-        return 8;
-    }
-    put_estimate(row, record_row(record_of(running), point, bandwidth));
+    let mark = Mark { point, bandwidth };
+    put_numbers(record_row(record, mark).into(), row);
     0
 }

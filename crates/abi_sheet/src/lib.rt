@@ -8,7 +8,7 @@ ghost use Rattle.meanings.specs.Calls.{counts as counts_of, read, read_minutes, 
 ghost use Rattle.meanings.specs.Codes.{answered, no_detail};
 ghost use Rattle.abi_answers.specs.Answers.{sized, stored, count_numbers};
 
-use abi_answers::{put_pair, refusal_code};
+use abi_answers::{put_numbers, refusal_code};
 use sheet::read_sheet;
 
 // The reader. counts: two numbers, the kept readings and the marks.
@@ -34,7 +34,7 @@ pub extern "C" fn tankcurve_read(
     match read_sheet(sheet, minutes, values, points, bandwidths) {
         Err(refusal) => refusal_code(refusal),
         Ok(used) => {
-            put_pair(counts, used.samples as u64, used.points as u64);
+            put_numbers([used.samples as u64, used.points as u64], counts);
             0
         }
     }

@@ -2,15 +2,15 @@
 // The answer is one number, DETAIL_UNIT × detail + report: report 0 is accepted, and the detail of a report is its place.
 #![tactic(auto)]
 
-ghost use Rattle.std.specs.Prelude.{◌≡◌, [], ◌∷◌};
+ghost use Rattle.std.specs.Prelude.{◌≡◌};
 ghost use Rattle.meanings.specs.Limits.{full};
 ghost use Rattle.meanings.specs.Codes.{answered, no_detail};
 ghost use Rattle.meanings_ranges.specs.RangeCalls.{range_counts, range_front, read_ranges, minutes_of, lows_of};
 ghost use Rattle.meanings_ranges.specs.RangeCalls.{highs_of, points_of, bandwidths_of};
-ghost use Rattle.abi_answers.specs.Answers.{sized, stored, replaced};
+ghost use Rattle.abi_answers.specs.Answers.{sized, stored};
 ghost use Rattle.abi_sheet_ranges.specs.KindNumbers.{kind_number, range_count_numbers};
 
-use abi_answers::refusal_code;
+use abi_answers::{put_numbers, refusal_code};
 use meanings_ranges::Kind;
 use sheet_ranges::read_ranges;
 
@@ -21,22 +21,7 @@ pub(crate) const RANGE_COUNTS: usize = 3;
 pub(crate) fn kind_number(kind: Kind) -> u64
     ensures { result ≡ kind_number kind }
 {
-    match kind {
-        Kind::Plain => 0,
-        Kind::Ranges => 1,
-    }
-}
-
-// Stores three numbers; a list of another length stays as it was.
-pub(crate) fn put_triple(out: &mut [u64], first: u64, second: u64, third: u64)
-    ensures { out.new ≡ replaced (first ∷ second ∷ third ∷ []) out.old }
-{
-    if out.len() != RANGE_COUNTS {
-        return;
-    }
-    out[0] = first;
-    out[1] = second;
-    out[2] = third;
+    kind as u64
 }
 
 // The reader. counts: three numbers, the kept readings, the marks and the kind.
@@ -65,12 +50,9 @@ pub extern "C" fn tankcurve_read_ranges(
     match read_ranges(sheet, minutes, lows, highs, points, bandwidths) {
         Err(refusal) => refusal_code(refusal),
         Ok(used) => {
-            put_triple(
-                counts,
-                used.samples as u64,
-                used.points as u64,
-                kind_number(used.kind),
-            );
+            let samples = used.samples as u64;
+            let points = used.points as u64;
+            put_numbers([samples, points, kind_number(used.kind)], counts);
             0
         }
     }

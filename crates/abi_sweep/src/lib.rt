@@ -9,11 +9,12 @@ ghost use Rattle.meanings.specs.Codes.{answered, no_detail};
 
 use abi_answers::refusal_code;
 use grid::fill_grid;
-use meanings::DETAIL_UNIT;
+use meanings::{DETAIL_UNIT, Marks, Readings};
 use sweep::{preview, smooth};
 
 // The whole sweep: rows receives five numbers a mark, and the detail is the passes.
 #[unsafe(no_mangle)]
+#[tactic(auto, using(abi_answers::proofs::Answered::refused_code, crate::proofs::Places::smooth_place, crate::proofs::Places::passes_few, meanings::proofs::Checks::same_limits))]
 pub extern "C" fn tankcurve_smooth(
     minutes: &[u16],
     values: &[u16],
@@ -24,7 +25,9 @@ pub extern "C" fn tankcurve_smooth(
     ensures value { result ≡ answered (λ n. n) (smooth_meaning full minutes.now values.now points.now bandwidths.now rows.old) }
     ensures rows_after { rows.new ≡ smooth_rows full minutes.now values.now points.now bandwidths.now rows.old }
 {
-    match smooth(minutes, values, points, bandwidths, rows) {
+    let readings = Readings { minutes, values };
+    let marks = Marks { points, bandwidths };
+    match smooth(readings, marks, rows) {
         Err(refusal) => refusal_code(refusal),
         Ok(passes) => DETAIL_UNIT * passes,
     }
@@ -32,6 +35,7 @@ pub extern "C" fn tankcurve_smooth(
 
 // The preview on the panel: the same under its own limits, 256 readings and 64 marks.
 #[unsafe(no_mangle)]
+#[tactic(auto, using(abi_answers::proofs::Answered::refused_code, crate::proofs::Places::smooth_place, crate::proofs::Places::passes_few, meanings::proofs::Checks::preview_within_full))]
 pub extern "C" fn tankcurve_preview(
     minutes: &[u16],
     values: &[u16],
@@ -42,7 +46,9 @@ pub extern "C" fn tankcurve_preview(
     ensures value { result ≡ answered (λ n. n) (smooth_meaning small_limits minutes.now values.now points.now bandwidths.now rows.old) }
     ensures rows_after { rows.new ≡ smooth_rows small_limits minutes.now values.now points.now bandwidths.now rows.old }
 {
-    match preview(minutes, values, points, bandwidths, rows) {
+    let readings = Readings { minutes, values };
+    let marks = Marks { points, bandwidths };
+    match preview(readings, marks, rows) {
         Err(refusal) => refusal_code(refusal),
         Ok(n) => DETAIL_UNIT * n,
     }
@@ -50,6 +56,7 @@ pub extern "C" fn tankcurve_preview(
 
 // The mark filler.
 #[unsafe(no_mangle)]
+#[tactic(auto, using(abi_answers::proofs::Answered::refused_code, crate::proofs::Places::fill_place))]
 pub extern "C" fn tankcurve_fill(
     first: u16,
     spacing: u16,

@@ -7,12 +7,13 @@ ghost use Rattle.meanings.specs.Turn.{turn_answer};
 ghost use Rattle.meanings.specs.Codes.{answered, no_detail};
 ghost use Rattle.abi_answers.specs.Answers.{sized, stored, record_length, record_numbers, record_of as record_meaning};
 
-use abi_answers::{RECORD_LENGTH, put_record, record_of, refusal_code};
+use abi_answers::{put_numbers, refusal_code};
+use meanings::{Mark, Readings, RunningSums};
 use turn::turn_own;
 
 // The turn. running: nine numbers of any origin, left, right, the six sums s00, s10, s20, s01, s11, s21, and the passes.
 #[unsafe(no_mangle)]
-#[tactic(auto, using(abi_answers::proofs::Answered::other_code, abi_answers::proofs::Answered::other_stays))]
+#[tactic(auto, unfolding(abi_answers::specs::Answers::sized, abi_answers::specs::Answers::replaced, meanings::specs::Turn::turn_answer, meanings::specs::Turn::turn_record))]
 pub extern "C" fn tankcurve_turn(
     running: &mut [u64],
     minutes: &[u16],
@@ -23,15 +24,16 @@ pub extern "C" fn tankcurve_turn(
     ensures value { result ≡ answered no_detail (sized record_length running.old (turn_answer minutes.now values.now (record_meaning running.old) point bandwidth)) }
     ensures running_after { running.new ≡ stored record_numbers (sized record_length running.old (turn_answer minutes.now values.now (record_meaning running.old) point bandwidth)) running.old }
 {
-    if running.len() != RECORD_LENGTH {
+    let Ok(before) = RunningSums::try_from(&running[..]) else {
         return 8;
-    }
-    let turning = turn_own(record_of(running), minutes, values, point, bandwidth);
-    let verdict = turning.verdict;
-    match verdict {
+    };
+    let readings = Readings { minutes, values };
+    let mark = Mark { point, bandwidth };
+    let turning = turn_own(before, readings, mark);
+    match turning.verdict {
         Err(refusal) => refusal_code(refusal),
         Ok(()) => {
-            put_record(running, turning.running);
+            put_numbers(turning.running.into(), running);
             0
         }
     }

@@ -21,6 +21,7 @@ pub trait Change {
 }
 
 // The term is taken in.
+#[derive(Clone, Copy, Debug, PartialEq, Eq)]
 pub struct Plus;
 
 impl Change for Plus {
@@ -38,6 +39,7 @@ impl Change for Plus {
 }
 
 // The term is let go.
+#[derive(Clone, Copy, Debug, PartialEq, Eq)]
 pub struct Minus;
 
 impl Change for Minus {
@@ -55,27 +57,14 @@ impl Change for Minus {
 }
 
 // Where an edge stands among the readings, and the sums there.
-#[derive(Clone, Copy)]
+#[derive(Clone, Copy, Debug, PartialEq, Eq)]
 pub struct Edge<S> {
     pub at: usize,
     pub sums: S,
 }
 
-// All six zero.
-pub fn zero_sums() -> PowerSums
-    ensures { result ≡ six (λ p q. 0) }
-{
-    PowerSums {
-        s00: 0,
-        s10: 0,
-        s20: 0,
-        s01: 0,
-        s11: 0,
-        s21: 0,
-    }
-}
-
 // The six of one reading: products of powers of minute and value.
+#[tactic(auto, using(crate::proofs::OneSample::sample_terms))]
 pub fn sample_sums(time: u16, value: u16) -> PowerSums
     ensures { result ≡ six (λ p q. time ^ p * value ^ q) }
 {
@@ -114,6 +103,7 @@ pub fn sample_changed<C: Change>(s: PowerSums, time: u16, value: u16) -> PowerSu
 }
 
 // Passes with the way of one edge more, forth or back, modulo 2^64.
+#[tactic(auto, unfolding(meanings::specs::Lists::distance))]
 pub fn plus_travel(passes: u64, from: usize, to: usize) -> u64
     ensures { result ≡ plus 64 passes (distance from to) }
 {

@@ -5,8 +5,12 @@ ghost use Rattle.std.specs.Prelude.{◌≡◌, ◌-◌};
 ghost use Rattle.meanings.specs.Estimate.{value_of};
 ghost use Rattle.arithmetic_values.specs.Positions.{FirstAtLeast};
 
-// A sum divided by its weight to the nearest whole number, a half to the even neighbour; 65,536 for missing if the weight is 0. The rest is held
-// against what it lacks of the weight, so that nothing is doubled.
+use meanings::Mark;
+
+// A sum divided by its weight to the nearest whole number, a half to the even neighbour; 65,536 for missing if the weight is 0, which is
+// the number of a missing value in a row that C reads; no three calls have sum and weight, so they stay two numbers.
+// The rest is held against what it lacks of the weight, so that nothing is doubled.
+#[tactic(auto, using(crate::proofs::Quotients::no_weight, crate::proofs::Quotients::keeps, crate::proofs::Quotients::raises, crate::proofs::Quotients::makes_even))]
 pub fn value(sum: u64, weight: u64) -> u64
     ensures { result ≡ value_of sum weight }
 {
@@ -26,10 +30,10 @@ pub fn value(sum: u64, weight: u64) -> u64
 }
 
 // The least minute that is not under the left edge: z − h, or 0 where that is negative.
-pub fn lowest_minute(point: u16, bandwidth: u32) -> u64
-    ensures { result ≡ point - bandwidth }
+pub fn lowest_minute(mark: Mark) -> u64
+    ensures { result ≡ mark.point - mark.bandwidth }
 {
-    (point as u64).saturating_sub(bandwidth as u64)
+    (mark.point as u64).saturating_sub(mark.bandwidth as u64)
 }
 
 // Among ordered minutes the first position whose minute is at least `bound`, else their number.

@@ -730,6 +730,7 @@ const WEIGHTS: [u64; 721] = [
 ];
 
 // The whole table, for a caller to lend.
+#[tactic(auto, using(crate::proofs::Table::table_holds))]
 pub fn biweight_weights() -> [u64; 721]
     ensures { IsTable result }
 {
@@ -740,9 +741,5 @@ pub fn biweight_weights() -> [u64; 721]
 pub fn weight_at(weights: &[u64], distance: u16) -> u64
     ensures { result ≡ get_or weights.now distance 0 }
 {
-    let u = distance as usize;
-    if weights.len() <= u {
-        return 0;
-    }
-    weights[u]
+    weights.get(usize::from(distance)).copied().unwrap_or(0)
 }

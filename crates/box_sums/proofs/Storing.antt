@@ -1,11 +1,16 @@
 -- Two numbers of a pair stand behind those of the pairs before it, and a minute mark's row behind the rows before it; and the call from it.
-use Rattle.std.proofs.Common.{◌≡◌, ℕ, zero, suc, ◌+◌, ◌-◌, ◌*◌, ◌%◌, ◌^◌, ◌<◌, ◌≤◌, List, [], ◌∷◌, ◌++◌, length, get_or, take, set, sym}
-use Rattle.std.proofs.Common.{refl, ap, ◌∙◌, mul_comm, add-one, arith, length-set, length-append, take_all, take-suc-set}
-use Rattle.std.proofs.lemmas.List.{get_or-take, length-take-le}
+use Rattle.std.proofs.Common.{◌≡◌, ℕ, zero, suc, ◌+◌, ◌-◌, ◌*◌, ◌%◌, ◌^◌, ◌<◌, ◌≤◌, List, [], ◌∷◌, ◌++◌, length, get_or, take, drop, set, sym}
+use Rattle.std.proofs.Common.{refl, ap, ◌∙◌, mul_comm, add-one, arith, length-set, length-append, length-drop, take_all, take-suc-set}
+use Rattle.std.proofs.lemmas.List.{length-map, get_or-map, length-take-le}
+use Rattle.std.specs.List.{All}
 use Rattle.std.proofs.lemmas.Slice.{take-put_mid}
 use borrow.Rule.Slice.PartMut.{put_mid}
+use Rattle.meanings_boxes.specs.declared.Window.{Window}
 use Rattle.meanings_boxes.specs.Boxes.{joined}
-use Rattle.box_sums.specs.Pairs.{four_terms, pair_places, table_row, table_boxes, Fitting, BoxesTried}
+use Rattle.meanings_boxes.specs.Lent.{firsts, ends}
+use Rattle.box_sums.specs.Pairs.{four_terms, pair_places, table_row, table_boxes, Corners, Strips, Fitting, BoxesTried}
+use Rattle.box_sums.specs.declared.Tables.{Tables}
+use Rattle.box_sums.specs.Rows.{WithinStrips, RowReady, BoxesFit}
 
 -- the four numbers of a box: the first two added, then each of the others taken away
 pub four_terms_are : (xs : List ℕ) (a b c d : ℕ) → ((i : ℕ) → get_or xs i 0 < 2 ^ 64)
@@ -41,12 +46,45 @@ pub row_none : (xs ys : List ℕ) (a b : ℕ) (ls hs : List ℕ) → table_row x
 unfolding table_row
 row_none xs ys a b ls hs = refl
 
-pub row_goes_on : (xs ys : List ℕ) (a b : ℕ) (ls hs bs : List ℕ) (k u v : ℕ) → 2 * k + 1 < length bs → take (2 * k) bs ≡ table_row xs ys a b ls hs k
+numbers_go_on : (xs ys : List ℕ) (a b : ℕ) (ls hs bs : List ℕ) (k u v : ℕ) → 2 * k + 1 < length bs → take (2 * k) bs ≡ table_row xs ys a b ls hs k
     → u ≡ four_terms xs a b (get_or ls k 0) (get_or hs k 0) → v ≡ four_terms ys a b (get_or ls k 0) (get_or hs k 0)
     → take (2 * (k + 1)) (set (set bs (2 * k) u) (2 * k + 1) v) ≡ table_row xs ys a b ls hs (k + 1)
-row_goes_on xs ys a b ls hs bs k u v l s e f =
+numbers_go_on xs ys a b ls hs bs k u v l s e f =
     let q : 2 * (k + 1) ≡ 2 * k + 2 = omega arith in
     rw q (take_two_more bs (2 * k) u v l ∙ ap (λ us. us ++ u ∷ v ∷ []) s ∙ rw (e, f) (sym (row_more xs ys a b ls hs k)))
+
+-- the strips of window k
+first_at : (ws : List Window) (k : ℕ) (w : Window) → k < length ws → get_or (firsts ws) k 0 ≡ (get_or ws k w).first
+first_at ws k w l = get_or-map (λ (v : Window). v.first) ws k w 0 l
+
+end_at : (ws : List Window) (k : ℕ) (w : Window) → k < length ws → get_or (ends ws) k 0 ≡ (get_or ws k w).end
+end_at ws k w l = get_or-map (λ (v : Window). v.end) ws k w 0 l
+
+pub row_goes_on : (xs ys : List ℕ) (a b : ℕ) (os : List Window) (bs : List ℕ) (k u v : ℕ) (w : Window) → k < length os → 2 * k + 1 < length bs
+    → take (2 * k) bs ≡ table_row xs ys a b (firsts os) (ends os) k
+    → u ≡ four_terms xs a b (get_or os k w).first (get_or os k w).end → v ≡ four_terms ys a b (get_or os k w).first (get_or os k w).end
+    → take (2 * (k + 1)) (set (set bs (2 * k) u) (2 * k + 1) v) ≡ table_row xs ys a b (firsts os) (ends os) (k + 1)
+row_goes_on xs ys a b os bs k u v w m l s e f =
+    numbers_go_on xs ys a b (firsts os) (ends os) bs k u v l s (rw (first_at os k w m, end_at os k w m) e) (rw (first_at os k w m, end_at os k w m) f)
+
+-- windows of strips, either way round
+pub all_strips : (ws : List Window) → All WithinStrips ws → Strips (firsts ws) (ends ws) (length ws)
+all_strips ws a = record {
+  firsts = omega (arith, length-map ws (λ (v : Window). v.first));
+  ends = omega (arith, length-map ws (λ (v : Window). v.end));
+  first = λ k l. let w : Window = record { first = 0; end = 0 } in rw (first_at ws k w l) (a k w l).0;
+  end = λ k l. let w : Window = record { first = 0; end = 0 } in rw (end_at ws k w l) (a k w l).1;
+}
+
+pub strips_all : (ws : List Window) → Strips (firsts ws) (ends ws) (length ws) → All WithinStrips ws
+strips_all ws s k w l = (rw (first_at ws k w l) at (s.first k l), rw (end_at ws k w l) at (s.end k l))
+
+-- what a pair's four numbers and a window's row ask
+pub corners_at : (t : Tables) (w : Window) (os : List Window) (bs xs : List ℕ) (k : ℕ) (o : Window) → RowReady t w os bs → length xs ≡ 4356 → k < length os
+    → Corners xs w.first w.end (get_or os k o).first (get_or os k o).end
+corners_at t w os bs xs k o r e l =
+    let s = strips_all os r.others k o l in
+    record { room = e; first = r.first; end = r.end; low = s.0; high = s.1 }
 
 pub row_ends : (xs ys : List ℕ) (a b : ℕ) (ls hs bs : List ℕ) (n k : ℕ) → length bs ≡ 2 * n → k ≤ n → n ≤ k → take (2 * k) bs ≡ table_row xs ys a b ls hs k
     → bs ≡ table_row xs ys a b ls hs n
@@ -69,9 +107,9 @@ unfolding table_boxes
 boxes_none xs ys fs es ls hs m = refl
 
 -- the rows of the first j minute windows, up to `at`
-pub record RowsTo (xs ys fs es ls hs bs : List ℕ) (at j : ℕ) : Type 0 where
-  pub reached : at ≡ 2 * (length ls * j)
-  pub stored : take at bs ≡ table_boxes xs ys fs es j ls hs (length ls)
+pub record RowsTo (xs ys : List ℕ) (ws os : List Window) (bs : List ℕ) (at j : ℕ) : Type 0 where
+  pub reached : at ≡ 2 * (length os * j)
+  pub stored : take at bs ≡ table_boxes xs ys (firsts ws) (ends ws) j (firsts os) (ends os) (length os)
 
 -- the places of all pairs
 scaled : (n m k : ℕ) → m ≤ k → n * m ≤ n * k
@@ -93,52 +131,54 @@ row_further : (m j : ℕ) → m * (j + 1) ≡ m * j + m
 row_further zero j = omega arith
 row_further (suc m) j = omega (arith, row_further m j)
 
-pub rows_begin : (xs ys fs es ls hs bs : List ℕ) → RowsTo xs ys fs es ls hs bs 0 0
-rows_begin xs ys fs es ls hs bs = record { reached = omega arith; stored = boxes_none xs ys fs es ls hs (length ls) }
+pub rows_begin : (xs ys : List ℕ) (ws os : List Window) (bs : List ℕ) → RowsTo xs ys ws os bs 0 0
+rows_begin xs ys ws os bs = record { reached = omega arith; stored = boxes_none xs ys (firsts ws) (ends ws) (firsts os) (ends os) (length os) }
 
-module _ (xs ys fs es ls hs bs : List ℕ) (at j : ℕ) (r : RowsTo xs ys fs es ls hs bs at j) (c : length bs ≡ 2 * length fs * length ls) where
-  pub row_there : j < length fs → at + 2 * length ls ≤ length bs
+module _ (xs ys : List ℕ) (ws os : List Window) (bs : List ℕ) (at j : ℕ) (r : RowsTo xs ys ws os bs at j) (c : length bs ≡ 2 * length ws * length os) where
+  pub row_there : j < length ws → at + 2 * length os ≤ length bs
   row_there l =
-      let s = rows_scaled (length ls) j (length fs) l in
-      let e = all_places (length fs) (length ls) in
+      let s = rows_scaled (length os) j (length ws) l in
+      let e = all_places (length ws) (length os) in
       omega (arith, r.reached, c)
 
-  pub rows_go_on : (cs : List ℕ) → j < length fs → cs ≡ table_row xs ys (get_or fs j 0) (get_or es j 0) ls hs (length ls)
-      → RowsTo xs ys fs es ls hs (put_mid at (at + 2 * length ls - at) bs cs) (at + 2 * length ls) (j + 1)
-  rows_go_on cs l p =
-      let w : length cs ≡ 2 * length ls = ap length p ∙ row_length xs ys (get_or fs j 0) (get_or es j 0) ls hs (length ls) in
+  pub rows_go_on : (cs : List ℕ) (w : Window) → j < length ws
+      → cs ≡ table_row xs ys (get_or ws j w).first (get_or ws j w).end (firsts os) (ends os) (length os)
+      → RowsTo xs ys ws os (put_mid at (at + 2 * length os - at) bs cs) (at + 2 * length os) (j + 1)
+  rows_go_on cs v l p =
+      let q : cs ≡ table_row xs ys (get_or (firsts ws) j 0) (get_or (ends ws) j 0) (firsts os) (ends os) (length os)
+      = rw (first_at ws j v l, end_at ws j v l) p in
+      let w : length cs ≡ 2 * length os
+      = ap length q ∙ row_length xs ys (get_or (firsts ws) j 0) (get_or (ends ws) j 0) (firsts os) (ends os) (length os) in
       record {
-        reached = let e = row_further (length ls) j in omega (arith, r.reached);
+        reached = let e = row_further (length os) j in omega (arith, r.reached);
         stored =
-            take-put_mid at (at + 2 * length ls - at) bs cs (at + 2 * length ls) (omega (arith, w)) (omega (arith, row_there l))
-            ∙ rw (r.stored, p) (sym (boxes_more xs ys fs es j ls hs (length ls)));
+            take-put_mid at (at + 2 * length os - at) bs cs (at + 2 * length os) (omega (arith, w)) (omega (arith, row_there l))
+            ∙ rw (r.stored, q) (sym (boxes_more xs ys (firsts ws) (ends ws) j (firsts os) (ends os) (length os)));
       }
 
-  pub rows_end : length fs ≤ j → j ≤ length fs → bs ≡ table_boxes xs ys fs es (length fs) ls hs (length ls)
+  pub rows_end : length ws ≤ j → j ≤ length ws → bs ≡ table_boxes xs ys (firsts ws) (ends ws) (length ws) (firsts os) (ends os) (length os)
   rows_end l m =
-      let q : length fs ≡ j = omega arith in
-      let e = all_places (length fs) (length ls) in
+      let q : length ws ≡ j = omega arith in
+      let e = all_places (length ws) (length os) in
       let s : length bs ≤ at = rw (r.reached, c, e, q) (omega arith) in
       sym (take_all at bs s) ∙ (rw q r.stored)
 
--- Of lists that hold more, their fronts.
-joined_same : (f g : ℕ → List ℕ) (n : ℕ) → ((k : ℕ) → k < n → f k ≡ g k) → joined f n ≡ joined g n
-joined_same f g zero h = refl
-joined_same f g (suc n) h = rw (joined_same f g n (λ k l. h k (omega arith)), h n (omega arith)) refl
+pub row_ready : (t : Tables) (ws os : List Window) (bs₀ bs : List ℕ) (at j : ℕ) (w : Window) → BoxesFit t ws os bs₀
+    → RowsTo t.counts.now t.sums.now ws os bs at j → length bs ≡ length bs₀ → j < length ws
+    → RowReady t (get_or ws j w) os (take (at + 2 * length os - at) (drop at bs))
+row_ready t ws os bs₀ bs at j w f r e l =
+    let s = strips_all ws f.strips j w l in
+    let q = row_there t.counts.now t.sums.now ws os bs at j r (e ∙ f.room) l in
+    record {
+      counts = f.counts;
+      sums = f.sums;
+      first = s.0;
+      end = s.1;
+      few = f.other_few;
+      others = f.others;
+      room = length-take-le (at + 2 * length os - at) (drop at bs) (omega (arith, length-drop at bs)) ∙ omega arith;
+    }
 
-module _ (xs ys fs es : List ℕ) (n : ℕ) (ls hs : List ℕ) (m : ℕ) where
-  row_of_fronts : (a b : ℕ) → table_row xs ys a b (take m ls) (take m hs) m ≡ table_row xs ys a b ls hs m
-  unfolding table_row
-  row_of_fronts a b = joined_same _ _ m (λ k l. rw (get_or-take m ls k 0 l, get_or-take m hs k 0 l) refl)
-
-  boxes_of_fronts : table_boxes xs ys (take n fs) (take n es) n (take m ls) (take m hs) m ≡ table_boxes xs ys fs es n ls hs m
-  unfolding table_boxes
-  boxes_of_fronts = joined_same _ _ n (λ j l. rw (get_or-take n fs j 0 l, get_or-take n es j 0 l) (row_of_fronts (get_or fs j 0) (get_or es j 0)))
-
-  pub boxes_put : (bs bs' : List ℕ) → Fitting xs ys fs es n ls hs m bs
-      → bs' ≡ table_boxes xs ys (take n fs) (take n es) (length (take n fs)) (take m ls) (take m hs) (length (take m ls))
-      → BoxesTried xs ys fs es n ls hs m bs bs'
-  boxes_put bs bs' f e =
-      let u = length-take-le n fs f.strips.firsts in
-      let v = length-take-le m ls f.others.firsts in
-      record { put = λ g. e ∙ rw (u, v) boxes_of_fronts; left = λ g. absurd (g f) }
+pub boxes_put : (xs ys fs es : List ℕ) (n : ℕ) (ls hs : List ℕ) (m : ℕ) (bs bs' : List ℕ) → Fitting xs ys fs es n ls hs m bs
+    → bs' ≡ table_boxes xs ys fs es n ls hs m → BoxesTried xs ys fs es n ls hs m bs bs'
+boxes_put xs ys fs es n ls hs m bs bs' f e = record { put = λ g. e; left = λ g. absurd (g f) }

@@ -1,6 +1,6 @@
 -- Boxes by two tables of cumulative sums, modulo 2^64. xs and ys are tables; a and b are the first strip of a minute window and the one behind it, c
 -- and d those of a temperature window; fs and es, ls and hs are lists of these; bs is the list of boxes.
-use Rattle.std.specs.Prelude.{◌≡◌, ℕ, ◌+◌, ◌*◌, ◌<◌, ◌≤◌, Bool, true, false, List, [], ◌∷◌, length, slice_index}
+use Rattle.std.specs.Prelude.{◌≡◌, ℕ, ◌+◌, ◌*◌, ◌<◌, ◌≤◌, List, [], ◌∷◌, length, slice_index}
 use Rattle.meanings.specs.Running.{plus, minus}
 use Rattle.meanings_boxes.specs.Boxes.{joined}
 
@@ -31,21 +31,12 @@ table_row xs ys a b ls hs m = joined (pair_places xs ys a b ls hs) m
 unfoldable pub table_boxes : List ℕ → List ℕ → List ℕ → List ℕ → ℕ → List ℕ → List ℕ → ℕ → List ℕ
 table_boxes xs ys fs es n ls hs m = joined (λ j. table_row xs ys (slice_index fs j) (slice_index es j) ls hs m) n
 
--- the first n numbers of a list are strips
-pub record StripList (xs : List ℕ) (n : ℕ) : Type 0 where
-  pub there : n ≤ length xs
-  pub each : (k : ℕ) → k < n → slice_index xs k ≤ 65
-
 -- the first n numbers of both lists are strips
 pub record Strips (fs es : List ℕ) (n : ℕ) : Type 0 where
   pub firsts : n ≤ length fs
   pub ends : n ≤ length es
   pub first : (k : ℕ) → k < n → slice_index fs k ≤ 65
   pub end : (k : ℕ) → k < n → slice_index es k ≤ 65
-
-pub record StripsTested (fs es : List ℕ) (n : ℕ) (r : Bool) : Type 0 where
-  pub are : r ≡ true → Strips fs es n
-  pub are_not : r ≡ false → ¬ Strips fs es n
 
 -- two tables, strips of at most 32 windows of each direction, and two numbers for each pair
 pub record Fitting (xs ys fs es : List ℕ) (n : ℕ) (ls hs : List ℕ) (m : ℕ) (bs : List ℕ) : Type 0 where

@@ -3,57 +3,44 @@
 
 mod pairs;
 
-ghost use Rattle.std.specs.Prelude.{IsTrue, ◌↔◌};
-ghost use Rattle.box_sums.specs.Pairs.{StripList, StripsTested, BoxesTried};
+ghost use Rattle.std.specs.Prelude.{IsTrue, ◌↔◌, length};
+ghost use Rattle.std.specs.List.{All};
+ghost use Rattle.meanings_boxes.specs.Lent.{firsts, ends};
+ghost use Rattle.box_sums.specs.Pairs.{BoxesTried};
+ghost use Rattle.box_sums.specs.Rows.{WithinStrips};
 
-use crate::pairs::{Tables, Windows, put_box_rows};
+use meanings_boxes::{BOX_LIMITS, STRIPS, Window};
 
-// Whether a list's first n numbers are strips: 0 to 65.
-pub(crate) fn strips(list: &[usize], n: usize) -> bool
-    ensures { IsTrue result ↔ StripList list.now n }
-{
-    n <= list.len() && list[..n].iter().all(|k| *k <= 65)
+// Tables of cumulative sums: of how many readings lie in each cell, and of their values.
+#[derive(Clone, Copy)]
+pub struct Tables<'a> {
+    pub counts: &'a [u64],
+    pub sums: &'a [u64],
 }
 
-// Whether the first n numbers of both lists are.
-pub(crate) fn strips_within(firsts: &[usize], ends: &[usize], n: usize) -> bool
-    ensures { StripsTested firsts.now ends.now n result }
+// Whether each window begins and ends at strips: 0 to 65.
+pub(crate) fn strips_within(windows: &[Window]) -> bool
+    ensures { IsTrue result ↔ All WithinStrips windows.now }
 {
-    strips(firsts, n) && strips(ends, n)
+    windows
+        .iter()
+        .all(|window| window.first <= STRIPS && window.end <= STRIPS)
 }
 
-// Fills the list of boxes, two numbers for each of n minute windows with each of m temperature windows, by tables of 66 × 66 numbers; a list that
-// doesn't fit stays as it is.
-#[tactic(auto, using(crate::proofs::Storing::boxes_put))]
-pub fn put_boxes(
-    counts: &[u64],
-    sums: &[u64],
-    firsts: &[usize],
-    ends: &[usize],
-    n: usize,
-    lows: &[usize],
-    highs: &[usize],
-    m: usize,
-    boxes: &mut [u64],
-)
-    ensures { BoxesTried counts.now sums.now firsts.now ends.now n lows.now highs.now m boxes.old boxes.new }
+// Fills the list of boxes, two numbers for each minute window with each temperature window, by tables of 66 × 66 numbers; a list that doesn't fit stays
+// as it is.
+#[tactic(auto, using(crate::proofs::Storing::boxes_put, crate::proofs::Storing::all_strips, crate::proofs::Storing::strips_all))]
+pub fn put_boxes(tables: Tables, minutes: &[Window], temperatures: &[Window], boxes: &mut [u64])
+    ensures { BoxesTried tables.entry.counts.now tables.entry.sums.now (firsts minutes.now) (ends minutes.now) (length minutes.now) (firsts temperatures.now) (ends temperatures.now) (length temperatures.now) boxes.old boxes.new }
 {
-    if counts.len() == 4356
-        && sums.len() == 4356
-        && n <= 32
-        && m <= 32
-        && boxes.len() == 2 * n * m
-        && strips_within(firsts, ends, n)
-        && strips_within(lows, highs, m)
+    if tables.counts.len() == 4356
+        && tables.sums.len() == 4356
+        && minutes.len() <= BOX_LIMITS.points
+        && temperatures.len() <= BOX_LIMITS.points
+        && boxes.len() == 2 * minutes.len() * temperatures.len()
+        && strips_within(minutes)
+        && strips_within(temperatures)
     {
-        let minutes = Windows {
-            firsts: &firsts[..n],
-            ends: &ends[..n],
-        };
-        let temperatures = Windows {
-            firsts: &lows[..m],
-            ends: &highs[..m],
-        };
-        put_box_rows(Tables { counts, sums }, minutes, temperatures, boxes)
+        pairs::put_box_rows(tables, minutes, temperatures, boxes)
     }
 }

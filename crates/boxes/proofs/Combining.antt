@@ -11,8 +11,11 @@ use Rattle.meanings_boxes.specs.Boxes.{Axis, one, value, joined, cell_list, box,
 use Rattle.laws_boxes.specs.Windows.{first_strip, end_strip, Narrow}
 use Rattle.laws_boxes.proofs.Strips.{end_strip_most, window_strips_in_order}
 use Rattle.laws_boxes.proofs.Corners.{cell_list_length}
-use Rattle.laws_tables.proofs.Tables.{box_by_table, table_most}
+use mir.Val.{Fits}
+use mir.Syntax.{w32}
+use Rattle.laws_tables.proofs.Tables.{box_by_table}
 use Rattle.cumulative.specs.Tables.{Accumulated, Tried}
+use Rattle.cumulative.proofs.Filling.{rows_most}
 use Rattle.box_sums.specs.Pairs.{number_at, four_terms, pair_places, table_row, table_boxes, Strips, BoxesTried}
 use Rattle.boxes.specs.Filling.{CellsOf, StripsOf, BoxesByStrips}
 
@@ -43,20 +46,27 @@ exact_terms p q s t x e l =
     let h : (x + t) % 2 ^ 64 ≡ x + t = mod-eq_of_lt (omega arith) in
     rw f (rw h at (minus_exact 64 (x + t) t x refl (omega arith)))
 
--- One table over the cells of at most 1,024 readings, none of which weighs more than 16 bits.
-module _ (A B : Axis) (p : Narrow A) (q : Narrow B) (w : ℕ → ℕ) (r : ℕ) (few : r ≤ 1024) (light : (i : ℕ) → i < r → w i ≤ 65535) {xs : List ℕ}
+-- One table, over cells of 32 bits.
+module _ (A B : Axis) (p : Narrow A) (q : Narrow B) (w : ℕ → ℕ) (r : ℕ) (fit : (i : ℕ) → Fits w32 (get_or (cell_list A B w r) i 0)) {xs : List ℕ}
     (T : Accumulated (cell_list A B w r) xs) (j k : ℕ) (l : j < length A.points) (m : k < length B.points) where
+  number_most : (x y : ℕ) → x ≤ 65 → y ≤ 65 → number_at xs x y ≤ 18146236825600
+  number_most x y u v =
+      let h = rows_most (cell_list A B w r) x y fit v in
+      let e = T.holds x y u v in
+      omega arith
+
   pub four_terms_make_box : four_terms xs (first_strip A j) (end_strip A j) (first_strip B k) (end_strip B k) ≡ box A B w r j k
   unfolding four_terms
   four_terms_make_box =
-      let a = table_most A B w r T p q 65535 (end_strip A j) (end_strip B k) light (end_most A p j) (end_most B q k) in
-      let b = table_most A B w r T p q 65535 (first_strip A j) (first_strip B k) light (first_most A p j) (first_most B q k) in
+      let a = number_most (end_strip A j) (end_strip B k) (end_most A p j) (end_most B q k) in
+      let b = number_most (first_strip A j) (first_strip B k) (first_most A p j) (first_most B q k) in
       exact_terms (number_at xs (end_strip A j) (end_strip B k)) (number_at xs (first_strip A j) (first_strip B k))
       (number_at xs (first_strip A j) (end_strip B k)) (number_at xs (end_strip A j) (first_strip B k)) (box A B w r j k)
       (box_by_table A B w r T p q j k l m) (omega arith)
 
 -- Both tables.
-module _ {cs ss : List ℕ} {A B : Axis} {vs : List ℕ} {r : ℕ} (C : CellsOf cs ss A B vs r) {fs es : List ℕ} {n : ℕ} (S : StripsOf fs es n A)
+module _ {cs ss : List ℕ} (fit : (i : ℕ) → Fits w32 (get_or cs i 0)) (fit-too : (i : ℕ) → Fits w32 (get_or ss i 0))
+    {A B : Axis} {vs : List ℕ} {r : ℕ} (C : CellsOf cs ss A B vs r) {fs es : List ℕ} {n : ℕ} (S : StripsOf fs es n A)
     {ls hs : List ℕ} {m : ℕ} (O : StripsOf ls hs m B) {xs ys : List ℕ} (X : Accumulated cs xs) (Y : Accumulated ss ys) where
   counted : Accumulated (cell_list A B one r) xs
   counted = rw (← C.counts) X
@@ -77,8 +87,8 @@ module _ {cs ss : List ℕ} {A B : Axis} {vs : List ℕ} {r : ℕ} (C : CellsOf 
         S.end j l,
         O.first k u,
         O.end k u,
-        four_terms_make_box A B C.narrow C.narrow_other one r C.few (λ i o. omega arith) counted j k (mark j l) (other k u),
-        four_terms_make_box A B C.narrow C.narrow_other (value vs) r C.few (λ i o. C.values i) summed j k (mark j l) (other k u),
+        four_terms_make_box A B C.narrow C.narrow_other one r (rw (← C.counts) fit) counted j k (mark j l) (other k u),
+        four_terms_make_box A B C.narrow C.narrow_other (value vs) r (rw (← C.sums) fit-too) summed j k (mark j l) (other k u),
       ) refl
 
   row_same : (j : ℕ) → j < n → table_row xs ys (get_or fs j 0) (get_or es j 0) ls hs m ≡ box_row A B vs r j (length B.points)
@@ -95,6 +105,7 @@ filled_table : (cs : List ℕ) (A B : Axis) (w : ℕ → ℕ) (r : ℕ) → cs �
 filled_table cs A B w r e xs₀ xs l t = t.filled (record { cells = ap length e ∙ cell_list_length A B w r; room = l })
 
 module _ {fs es : List ℕ} {n : ℕ} {ls hs : List ℕ} {m : ℕ} {cs ss bs bs' xs₀ ys₀ xs ys : List ℕ} (a : length xs₀ ≡ 4356) (b : length ys₀ ≡ 4356)
+    (fit : (i : ℕ) → Fits w32 (get_or cs i 0)) (fit-too : (i : ℕ) → Fits w32 (get_or ss i 0))
     (X : Tried cs xs₀ xs) (Y : Tried ss ys₀ ys) (t : BoxesTried xs ys fs es n ls hs m bs bs') where
   pub boxes_by_strips : BoxesByStrips fs es n ls hs m cs ss bs bs'
   boxes_by_strips = record {
@@ -109,5 +120,5 @@ module _ {fs es : List ℕ} {n : ℕ} {ls hs : List ℕ} {m : ℕ} {cs ss bs bs'
           room = room;
           strips = strips_there A C.narrow S;
           others = strips_there B C.narrow_other O;
-        }) ∙ tables_make_boxes C S O U Z;
+        }) ∙ tables_make_boxes fit fit-too C S O U Z;
   }

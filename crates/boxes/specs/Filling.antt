@@ -1,23 +1,21 @@
--- What the functions under the call ask and say. cs and ss are the lists of counts and of value sums, bs is the list of boxes. fs and es hold the
--- strips that minute windows begin with and those behind them, ls and hs those of temperature windows. ds are minute cuts, os temperature cuts.
--- Where a function has no readings, what it says holds of all whose cells it has.
+-- What the functions under the call ask and say. q is what is asked, d are the cuts of both directions. cs and ss are the lists of counts and of
+-- value sums, bs is the list of boxes. fs and es hold the strips that minute windows begin with and those behind them, ls and hs those of temperature
+-- windows. Where a function has no readings, what it says holds of all whose cells it has.
 use Rattle.std.specs.Prelude.{ℕ, ◌*◌, ◌≤◌, ◌<◌, ◌≡◌, List, length, get_or}
-use Rattle.std.specs.Prelude.{Result}
-use Rattle.meanings.specs.declared.Refusal.{Refusal}
-use Rattle.meanings.specs.Reports.{verdict_fault, first_of}
-use Rattle.meanings_boxes.specs.Boxes.{Axis, minute_axis, temperature_axis, one, value, cuts_to, cell_list, box_list, box_checks}
+use Rattle.meanings_boxes.specs.declared.Question.{Question}
+use Rattle.meanings_boxes.specs.Boxes.{Axis, one, value, cuts_to, cell_list, box_list}
+use Rattle.meanings_boxes.specs.Lent.{along_minutes, along_temperatures}
 use Rattle.laws_boxes.specs.Accepted.{BoxesAccepted}
 use Rattle.laws_boxes.specs.Windows.{first_strip, end_strip, Narrow}
 use Rattle.cuts.specs.Cuts.{Ranked}
+use Rattle.cells.specs.declared.Cuts.{Cuts}
 
--- r readings that the call takes, and their cells
+-- the cells of r readings, by marks that the call takes
 pub record CellsOf (cs ss : List ℕ) (A B : Axis) (vs : List ℕ) (r : ℕ) : Type 0 where
   pub counts : cs ≡ cell_list A B one r
   pub sums : ss ≡ cell_list A B (value vs) r
   pub narrow : Narrow A
   pub narrow_other : Narrow B
-  pub few : r ≤ 1024
-  pub values : (i : ℕ) → get_or vs i 0 ≤ 65535
 
 -- the strips of a direction's windows
 pub record StripsOf (fs es : List ℕ) (n : ℕ) (A : Axis) : Type 0 where
@@ -38,21 +36,25 @@ pub record CutsOf (zs hs : List ℕ) (s : ℕ) (ds : List ℕ) : Type 0 where
   pub few : length zs ≤ 32
   pub ranked : Ranked (cuts_to s zs hs (length zs)) ds (length ds)
 
--- boxes by the cuts of both directions
-pub record BoxesByCuts (zs hs ds ys ks os cs ss bs₀ bs : List ℕ) : Type 0 where
-  pub boxes : CutsOf zs hs 65537 ds → CutsOf ys ks 257 os → length bs₀ ≡ 2 * length zs * length ys → (ts us vs : List ℕ) (r : ℕ)
-      → CellsOf cs ss (minute_axis ts zs hs) (temperature_axis us ys ks) vs r → bs ≡ box_list (minute_axis ts zs hs) (temperature_axis us ys ks) vs r
+-- no more marks than there are windows for
+pub record FewMarks (q : Question) : Type 0 where
+  pub minutes : length q.minute_marks.points.now ≤ 32
+  pub temperatures : length q.temperature_marks.points.now ≤ 32
 
--- v is what the call is refused for, with lists of b boxes, c counts and s sums
-pub record Judged (ts us vs zs hs ys ks : List ℕ) (b c s : ℕ) (v : Result Unit Refusal) : Type 0 where
-  pub refusal : verdict_fault v ≡ first_of (box_checks (minute_axis ts zs hs) (temperature_axis us ys ks) vs b c s)
+-- boxes by the cuts of both directions
+pub record BoxesByCuts (q : Question) (d : Cuts) (cs ss bs₀ bs : List ℕ) : Type 0 where
+  pub boxes : CutsOf q.minute_marks.points.now q.minute_marks.bandwidths.now 65537 d.minutes.now
+      → CutsOf q.temperature_marks.points.now q.temperature_marks.bandwidths.now 257 d.temperatures.now
+      → length bs₀ ≡ 2 * length q.minute_marks.points.now * length q.temperature_marks.points.now
+      → CellsOf cs ss (along_minutes q) (along_temperatures q) q.readings.values.now (length q.readings.minutes.now)
+      → bs ≡ box_list (along_minutes q) (along_temperatures q) q.readings.values.now (length q.readings.minutes.now)
 
 -- lists that no check refuses
-pub record ListsAccepted (ts us vs zs hs ys ks bs cs ss : List ℕ) : Type 0 where
-  pub accepted : BoxesAccepted (minute_axis ts zs hs) (temperature_axis us ys ks) vs (length bs) (length cs) (length ss)
+pub record ListsAccepted (q : Question) (bs cs ss : List ℕ) : Type 0 where
+  pub accepted : BoxesAccepted (along_minutes q) (along_temperatures q) q.readings.values.now (length bs) (length cs) (length ss)
 
 -- all three lists
-pub record Filled (ts us vs zs hs ys ks bs cs ss : List ℕ) : Type 0 where
-  pub boxes : bs ≡ box_list (minute_axis ts zs hs) (temperature_axis us ys ks) vs (length ts)
-  pub counts : cs ≡ cell_list (minute_axis ts zs hs) (temperature_axis us ys ks) one (length ts)
-  pub sums : ss ≡ cell_list (minute_axis ts zs hs) (temperature_axis us ys ks) (value vs) (length ts)
+pub record Filled (q : Question) (bs cs ss : List ℕ) : Type 0 where
+  pub boxes : bs ≡ box_list (along_minutes q) (along_temperatures q) q.readings.values.now (length q.readings.minutes.now)
+  pub counts : cs ≡ cell_list (along_minutes q) (along_temperatures q) one (length q.readings.minutes.now)
+  pub sums : ss ≡ cell_list (along_minutes q) (along_temperatures q) (value q.readings.values.now) (length q.readings.minutes.now)

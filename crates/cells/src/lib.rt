@@ -7,58 +7,36 @@ mod readings;
 ghost use Rattle.std.specs.Prelude.{length};
 ghost use Rattle.cells.specs.Cells.{FitsTested, CellsTried};
 
-// Whether lists of such lengths can be filled: readings alike in number and at most 1,024, at most 64 cuts a direction, and 4,225 cells in each list.
-pub fn fillable(
-    minutes: usize,
-    temperatures: usize,
-    values: usize,
-    cuts: usize,
-    temperature_cuts: usize,
-    counts: usize,
-    sums: usize,
-) -> bool
-    ensures { FitsTested minutes temperatures values cuts temperature_cuts counts sums result }
-{
-    minutes == temperatures
-        && minutes == values
-        && minutes <= 1024
-        && cuts <= 64
-        && temperature_cuts <= 64
-        && counts == 4225
-        && sums == 4225
+use meanings_boxes::{BOX_LIMITS, BoxReadings, CELLS, MAX_CUTS};
+
+// The cuts of both directions, in rising order.
+#[derive(Clone, Copy)]
+pub struct Cuts<'a> {
+    pub minutes: &'a [u64],
+    pub temperatures: &'a [u64],
 }
 
-// Fills both lists of cells, by the cuts of both directions; lists that don't fit stay as they are.
-pub fn fill_cells(
-    minutes: &[u16],
-    temperatures: &[u8],
-    values: &[u16],
-    cuts: &[u64],
-    temperature_cuts: &[u64],
-    counts: &mut [u32],
-    sums: &mut [u32],
-)
-    ensures { CellsTried minutes.now temperatures.now values.now cuts.now temperature_cuts.now counts.old sums.old counts.new sums.new }
+// Whether lists of such lengths can be filled: readings alike in number and at most 1,024, at most 64 cuts a direction, and 4,225 cells in each list.
+pub fn fillable(readings: BoxReadings, cuts: Cuts, counts: usize, sums: usize) -> bool
+    ensures { FitsTested (length readings.entry.minutes.now) (length readings.entry.temperatures.now) (length readings.entry.values.now) (length cuts.entry.minutes.now) (length cuts.entry.temperatures.now) counts sums result }
 {
-    if fillable(
-        minutes.len(),
-        temperatures.len(),
-        values.len(),
-        cuts.len(),
-        temperature_cuts.len(),
-        counts.len(),
-        sums.len(),
-    ) {
+    readings.minutes.len() == readings.temperatures.len()
+        && readings.minutes.len() == readings.values.len()
+        && readings.minutes.len() <= BOX_LIMITS.samples
+        && cuts.minutes.len() <= MAX_CUTS
+        && cuts.temperatures.len() <= MAX_CUTS
+        && counts == CELLS
+        && sums == CELLS
+}
+
+// Fills both lists of cells, by the cuts of both directions; lists that don't fit stay as they are. Both stand side by side, as in the C interface: they
+// are written here and read for the tables, so that a struct would be one of `&mut` here and another of `&` there.
+pub fn fill_cells(readings: BoxReadings, cuts: Cuts, counts: &mut [u32], sums: &mut [u32])
+    ensures { CellsTried readings.entry.minutes.now readings.entry.temperatures.now readings.entry.values.now cuts.entry.minutes.now cuts.entry.temperatures.now counts.old sums.old counts.new sums.new }
+{
+    if fillable(readings, cuts, counts.len(), sums.len()) {
         counts.fill(0);
         sums.fill(0);
-        readings::put_readings(
-            minutes,
-            temperatures,
-            values,
-            cuts,
-            temperature_cuts,
-            counts,
-            sums,
-        );
+        readings::put_readings(readings, cuts, counts, sums);
     }
 }

@@ -5,13 +5,14 @@ ghost use Rattle.std.specs.Prelude.{◌*◌, ◌≡◌, ◌++◌, length};
 ghost use Rattle.meanings.specs.Limits.{max_bandwidth};
 ghost use Rattle.meanings.specs.Lists.{lowest};
 ghost use Rattle.meanings.specs.Reports.{verdict_fault, first_of, differ, decreases, point_order_checks, bandwidth_list_checks};
-ghost use Rattle.meanings_boxes.specs.Boxes.{max_temperature_bandwidth, minute_axis, temperature_axis, box_limits, uneven_boxes, box_size_checks};
+ghost use Rattle.meanings_boxes.specs.Boxes.{max_temperature_bandwidth, box_limits, uneven_boxes, box_size_checks};
 ghost use Rattle.meanings_boxes.specs.Boxes.{second_order_checks, box_checks};
+ghost use Rattle.meanings_boxes.specs.Lent.{along_minutes, along_temperatures};
 
 use checks::{first_decrease, uneven_rows};
 use checks_curve::first_out_of_range;
 use meanings::{MAX_BANDWIDTH, Refusal, Report};
-use meanings_boxes::MAX_TEMPERATURE_BANDWIDTH;
+use meanings_boxes::{BOX_LIMITS, CELLS, MAX_TEMPERATURE_BANDWIDTH, Question, Sizes};
 
 // Whether a list has other than two places for each pair of marks. No product is made, so none wraps.
 pub fn uneven_pairs(places: usize, points: usize, others: usize) -> bool
@@ -24,101 +25,71 @@ pub fn uneven_pairs(places: usize, points: usize, others: usize) -> bool
 }
 
 // Whether lengths don't agree: of the readings, of marks with half widths, of the boxes, of the two lists of cells.
-pub fn uneven_lengths(
-    minutes: &[u16],
-    temperatures: &[u8],
-    values: &[u16],
-    points: &[u16],
-    bandwidths: &[u32],
-    temperature_points: &[u8],
-    temperature_bandwidths: &[u32],
-    boxes: usize,
-    counts: usize,
-    sums: usize,
-) -> bool
-    ensures { result ≡ uneven_boxes (minute_axis minutes.now points.now bandwidths.now) (temperature_axis temperatures.now temperature_points.now temperature_bandwidths.now) values.now boxes counts sums }
+pub fn uneven_lengths(asked: Question, sizes: Sizes) -> bool
+    ensures { result ≡ uneven_boxes (along_minutes asked.entry) (along_temperatures asked.entry) asked.entry.readings.values.now sizes.boxes sizes.counts sizes.sums }
 {
-    if minutes.len() != temperatures.len() {
+    let readings = asked.readings;
+    let marks = asked.minute_marks;
+    let others = asked.temperature_marks;
+    if readings.minutes.len() != readings.temperatures.len() {
         return true;
     }
-    if minutes.len() != values.len() {
+    if readings.minutes.len() != readings.values.len() {
         return true;
     }
-    if points.len() != bandwidths.len() {
+    if marks.points.len() != marks.bandwidths.len() {
         return true;
     }
-    if temperature_points.len() != temperature_bandwidths.len() {
+    if others.points.len() != others.bandwidths.len() {
         return true;
     }
-    if uneven_pairs(boxes, points.len(), temperature_points.len()) {
+    if uneven_pairs(sizes.boxes, marks.points.len(), others.points.len()) {
         return true;
     }
-    if counts != 4225 {
+    if sizes.counts != CELLS {
         return true;
     }
-    if sums != 4225 {
+    if sizes.sums != CELLS {
         return true;
     }
     false
 }
 
 // What the lengths earn: 8, 6, 7.
-pub fn box_size_fault(
-    minutes: &[u16],
-    temperatures: &[u8],
-    values: &[u16],
-    points: &[u16],
-    bandwidths: &[u32],
-    temperature_points: &[u8],
-    temperature_bandwidths: &[u32],
-    boxes: usize,
-    counts: usize,
-    sums: usize,
-) -> Result<(), Refusal>
-    ensures { verdict_fault result ≡ first_of (box_size_checks box_limits (minute_axis minutes.now points.now bandwidths.now) (temperature_axis temperatures.now temperature_points.now temperature_bandwidths.now) values.now boxes counts sums) }
+pub fn box_size_fault(asked: Question, sizes: Sizes) -> Result<(), Refusal>
+    ensures { verdict_fault result ≡ first_of (box_size_checks box_limits (along_minutes asked.entry) (along_temperatures asked.entry) asked.entry.readings.values.now sizes.boxes sizes.counts sizes.sums) }
 {
-    if uneven_lengths(
-        minutes,
-        temperatures,
-        values,
-        points,
-        bandwidths,
-        temperature_points,
-        temperature_bandwidths,
-        boxes,
-        counts,
-        sums,
-    ) {
+    let points = asked.minute_marks.points;
+    let others = asked.temperature_marks.points;
+    if uneven_lengths(asked, sizes) {
         return Err(Report::LengthMismatch.at(0));
     }
-    if 1024 < minutes.len() {
+    if BOX_LIMITS.samples < asked.readings.minutes.len() {
         return Err(Report::TooMany.at(0));
     }
-    if 32 < points.len() {
+    if BOX_LIMITS.points < points.len() {
         return Err(Report::TooMany.at(0));
     }
-    if 32 < temperature_points.len() {
+    if BOX_LIMITS.points < others.len() {
         return Err(Report::TooMany.at(0));
     }
     if points.len() == 0 {
         return Err(Report::NoPoints.at(0));
     }
-    if temperature_points.len() == 0 {
+    if others.len() == 0 {
         return Err(Report::NoPoints.at(0));
     }
     Ok(())
 }
 
-// The lowest position whose byte is below the one before.
+// The lowest position whose byte is below the one before. Beside first_decrease of `checks`: one for both types would say in its clause how a type's numbers are read.
 pub fn first_byte_decrease(xs: &[u8]) -> Option<usize>
     ensures { result ≡ lowest (decreases xs.now) (length xs.now) }
 {
-    let mut i = 1;
-    while i < xs.len() {
+    for i in 1..xs.len() {
         if xs[i] < xs[i - 1] {
             return Some(i);
         }
-        i += 1;
     }
     None
 }
@@ -150,32 +121,13 @@ pub fn half_width_fault(bandwidths: &[u32], temperature_bandwidths: &[u32]) -> R
 }
 
 // What the call is refused for, with so many numbers in its three lists: 8, 6, 7, 5, 17, 9.
-pub fn box_fault(
-    minutes: &[u16],
-    temperatures: &[u8],
-    values: &[u16],
-    points: &[u16],
-    bandwidths: &[u32],
-    temperature_points: &[u8],
-    temperature_bandwidths: &[u32],
-    boxes: usize,
-    counts: usize,
-    sums: usize,
-) -> Result<(), Refusal>
-    ensures { verdict_fault result ≡ first_of (box_checks (minute_axis minutes.now points.now bandwidths.now) (temperature_axis temperatures.now temperature_points.now temperature_bandwidths.now) values.now boxes counts sums) }
+pub fn box_fault(asked: Question, sizes: Sizes) -> Result<(), Refusal>
+    ensures { verdict_fault result ≡ first_of (box_checks (along_minutes asked.entry) (along_temperatures asked.entry) asked.entry.readings.values.now sizes.boxes sizes.counts sizes.sums) }
 {
-    box_size_fault(
-        minutes,
-        temperatures,
-        values,
-        points,
-        bandwidths,
-        temperature_points,
-        temperature_bandwidths,
-        boxes,
-        counts,
-        sums,
-    )?;
-    mark_order_fault(points, temperature_points)?;
-    half_width_fault(bandwidths, temperature_bandwidths)
+    box_size_fault(asked, sizes)?;
+    mark_order_fault(asked.minute_marks.points, asked.temperature_marks.points)?;
+    half_width_fault(
+        asked.minute_marks.bandwidths,
+        asked.temperature_marks.bandwidths,
+    )
 }

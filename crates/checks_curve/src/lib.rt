@@ -6,39 +6,30 @@ ghost use Rattle.std.specs.Prelude.{◌≡◌, ◌||◌, length};
 ghost use Rattle.meanings.specs.Lists.{lowest};
 ghost use Rattle.meanings.specs.Reports.{verdict_fault, first_of, outside_at, uneven_samples, uneven_points};
 ghost use Rattle.meanings.specs.Reports.{curve_size_checks, order_checks};
-ghost use Rattle.checks_curve.specs.Verdicts.{SizesJudged};
 
 use checks::{first_decrease, outside};
-use meanings::{Limits, Refusal, Report};
+use meanings::{Limits, Marks, Readings, Refusal, Report};
 
 // The lowest position whose half width is 0 or over the greatest one.
 pub fn first_out_of_range(bandwidths: &[u32], most: u32) -> Option<usize>
     ensures { result ≡ lowest (outside_at most bandwidths.now) (length bandwidths.now) }
 {
-    let mut i = 0;
-    while i < bandwidths.len() {
-        if outside(bandwidths[i], most) {
+    for (i, &bandwidth) in bandwidths.iter().enumerate() {
+        if outside(bandwidth, most) {
             return Some(i);
         }
-        i += 1;
     }
     None
 }
 
 // Whether the lengths of readings and marks don't agree, or those of one more list, as `more` says.
-pub fn uneven(
-    minutes: &[u16],
-    values: &[u16],
-    points: &[u16],
-    bandwidths: &[u32],
-    more: bool,
-) -> bool
-    ensures { result ≡ (uneven_samples minutes.now values.now || uneven_points points.now bandwidths.now || more) }
+pub fn uneven(readings: Readings, marks: Marks, more: bool) -> bool
+    ensures { result ≡ (uneven_samples readings.entry.minutes.now readings.entry.values.now || uneven_points marks.entry.points.now marks.entry.bandwidths.now || more) }
 {
-    if minutes.len() != values.len() {
+    if readings.minutes.len() != readings.values.len() {
         return true;
     }
-    if points.len() != bandwidths.len() {
+    if marks.points.len() != marks.bandwidths.len() {
         return true;
     }
     more
@@ -46,39 +37,23 @@ pub fn uneven(
 
 // What the lengths of readings and marks earn: 8, 6, 7.
 pub fn curve_size_fault(
-    minutes: &[u16],
-    values: &[u16],
-    points: &[u16],
-    bandwidths: &[u32],
+    readings: Readings,
+    marks: Marks,
     more: bool,
     limits: Limits,
 ) -> Result<(), Refusal>
-    ensures { verdict_fault result ≡ first_of (curve_size_checks limits minutes.now values.now points.now bandwidths.now more) }
+    ensures { verdict_fault result ≡ first_of (curve_size_checks limits readings.entry.minutes.now readings.entry.values.now marks.entry.points.now marks.entry.bandwidths.now more) }
 {
-    sizes_judged(minutes, values, points, bandwidths, more, limits)
-}
-
-// The same, as the record that the functions here read.
-pub(crate) fn sizes_judged(
-    minutes: &[u16],
-    values: &[u16],
-    points: &[u16],
-    bandwidths: &[u32],
-    more: bool,
-    limits: Limits,
-) -> Result<(), Refusal>
-    ensures { SizesJudged limits minutes.now values.now points.now bandwidths.now more result }
-{
-    if uneven(minutes, values, points, bandwidths, more) {
+    if uneven(readings, marks, more) {
         return Err(Report::LengthMismatch.at(0));
     }
-    if limits.samples < minutes.len() {
+    if limits.samples < readings.minutes.len() {
         return Err(Report::TooMany.at(0));
     }
-    if limits.points < points.len() {
+    if limits.points < marks.points.len() {
         return Err(Report::TooMany.at(0));
     }
-    if points.len() == 0 {
+    if marks.points.is_empty() {
         return Err(Report::NoPoints.at(0));
     }
     Ok(())

@@ -7,7 +7,7 @@ ghost use Rattle.meanings_neighbours.specs.Neighbours.{too_few_checks, neighbour
 
 use checks::uneven_rows;
 use checks_curve::{curve_size_fault, order_fault};
-use meanings::{Limits, ROW_WIDTH, Refusal, Report};
+use meanings::{Limits, Marks, ROW_WIDTH, Readings, Refusal, Report};
 
 // What K earns over so many readings: 14.
 pub fn too_few_fault(samples: usize, k: usize) -> Result<(), Refusal>
@@ -24,18 +24,16 @@ pub fn too_few_fault(samples: usize, k: usize) -> Result<(), Refusal>
 
 // What the call is refused for, with so many numbers for its rows: 8, 6, 7, 4, 5, 14.
 pub fn neighbours_fault(
-    minutes: &[u16],
-    values: &[u16],
-    points: &[u16],
+    readings: Readings,
+    marks: Marks,
     k: usize,
-    bandwidths: &[u32],
     rows: usize,
     limits: Limits,
 ) -> Result<(), Refusal>
-    ensures { verdict_fault result ≡ first_of (neighbours_checks limits minutes.now values.now points.now k bandwidths.now rows) }
+    ensures { verdict_fault result ≡ first_of (neighbours_checks limits readings.entry.minutes.now readings.entry.values.now marks.entry.points.now k marks.entry.bandwidths.now rows) }
 {
-    let more = uneven_rows(rows, ROW_WIDTH, points.len());
-    curve_size_fault(minutes, values, points, bandwidths, more, limits)?;
-    order_fault(minutes, points)?;
-    too_few_fault(minutes.len(), k)
+    let more = uneven_rows(rows, ROW_WIDTH, marks.points.len());
+    curve_size_fault(readings, marks, more, limits)?;
+    order_fault(readings.minutes, marks.points)?;
+    too_few_fault(readings.minutes.len(), k)
 }

@@ -5,48 +5,39 @@ ghost use Rattle.std.specs.Prelude.{◌≡◌};
 ghost use Rattle.meanings.specs.Reports.{verdict_fault, first_of, evaluate_checks, advance_checks, turn_checks};
 
 use checks_series::{bandwidth_fault, record_fault, series_fault, size_fault};
-use meanings::{Limits, Refusal};
+use meanings::{Limits, Readings, Refusal, RunningSums};
 
 // What the question at one mark is refused for: 8, 6, 4, 9.
-pub fn evaluate_fault(
-    minutes: &[u16],
-    values: &[u16],
-    bandwidth: u32,
-    limits: Limits,
-) -> Result<(), Refusal>
-    ensures { verdict_fault result ≡ first_of (evaluate_checks limits minutes.now values.now bandwidth) }
+pub fn evaluate_fault(readings: Readings, bandwidth: u32, limits: Limits) -> Result<(), Refusal>
+    ensures { verdict_fault result ≡ first_of (evaluate_checks limits readings.entry.minutes.now readings.entry.values.now bandwidth) }
 {
-    series_fault(minutes, values, limits).and_then(|()| bandwidth_fault(bandwidth))
+    series_fault(readings, limits).and_then(|()| bandwidth_fault(bandwidth))
 }
 
 // What a step is refused for, on a record with these edges: 8, 6, 11, 9.
 pub fn advance_fault(
-    minutes: &[u16],
-    values: &[u16],
-    left: usize,
-    right: usize,
+    readings: Readings,
+    running: &RunningSums,
     bandwidth: u32,
     limits: Limits,
 ) -> Result<(), Refusal>
-    ensures { verdict_fault result ≡ first_of (advance_checks limits minutes.now values.now left right bandwidth) }
+    ensures { verdict_fault result ≡ first_of (advance_checks limits readings.entry.minutes.now readings.entry.values.now running.now.left running.now.right bandwidth) }
 {
-    size_fault(minutes, values, limits)?;
-    record_fault(minutes.len(), left, right)?;
+    size_fault(readings, limits)?;
+    record_fault(readings.minutes.len(), running)?;
     bandwidth_fault(bandwidth)
 }
 
-// What a turn is refused for, of a record with these edges: 8, 6, 4, 11, 9.
+// What a turn is refused for, of a record with these edges: 8, 6, 4, 11, 9. It differs from the step in its first line alone, which is all of it but two calls.
 pub fn turn_fault(
-    minutes: &[u16],
-    values: &[u16],
-    left: usize,
-    right: usize,
+    readings: Readings,
+    running: &RunningSums,
     bandwidth: u32,
     limits: Limits,
 ) -> Result<(), Refusal>
-    ensures { verdict_fault result ≡ first_of (turn_checks limits minutes.now values.now left right bandwidth) }
+    ensures { verdict_fault result ≡ first_of (turn_checks limits readings.entry.minutes.now readings.entry.values.now running.now.left running.now.right bandwidth) }
 {
-    series_fault(minutes, values, limits)?;
-    record_fault(minutes.len(), left, right)?;
+    series_fault(readings, limits)?;
+    record_fault(readings.minutes.len(), running)?;
     bandwidth_fault(bandwidth)
 }

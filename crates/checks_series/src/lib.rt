@@ -5,40 +5,40 @@ ghost use Rattle.std.specs.Prelude.{◌≡◌};
 ghost use Rattle.meanings.specs.Reports.{verdict_fault, first_of, size_checks, series_checks, record_checks, bandwidth_checks};
 
 use checks::{first_decrease, out_of_range};
-use meanings::{Limits, Refusal, Report};
+use meanings::{Limits, Readings, Refusal, Report, RunningSums};
 
 // What the lengths of readings earn: 8, 6.
-pub fn size_fault(minutes: &[u16], values: &[u16], limits: Limits) -> Result<(), Refusal>
-    ensures { verdict_fault result ≡ first_of (size_checks limits minutes.now values.now) }
+pub fn size_fault(readings: Readings, limits: Limits) -> Result<(), Refusal>
+    ensures { verdict_fault result ≡ first_of (size_checks limits readings.entry.minutes.now readings.entry.values.now) }
 {
-    if minutes.len() != values.len() {
+    if readings.minutes.len() != readings.values.len() {
         return Err(Report::LengthMismatch.at(0));
     }
-    if limits.samples < minutes.len() {
+    if limits.samples < readings.minutes.len() {
         return Err(Report::TooMany.at(0));
     }
     Ok(())
 }
 
 // What the lengths and the order of readings earn: 8, 6, 4.
-pub fn series_fault(minutes: &[u16], values: &[u16], limits: Limits) -> Result<(), Refusal>
-    ensures { verdict_fault result ≡ first_of (series_checks limits minutes.now values.now) }
+pub fn series_fault(readings: Readings, limits: Limits) -> Result<(), Refusal>
+    ensures { verdict_fault result ≡ first_of (series_checks limits readings.entry.minutes.now readings.entry.values.now) }
 {
-    size_fault(minutes, values, limits)?;
-    if let Some(i) = first_decrease(minutes) {
+    size_fault(readings, limits)?;
+    if let Some(i) = first_decrease(readings.minutes) {
         return Err(Report::SampleOutOfOrder.at(i));
     }
     Ok(())
 }
 
 // What a record's edges earn over so many readings: 11.
-pub fn record_fault(samples: usize, left: usize, right: usize) -> Result<(), Refusal>
-    ensures { verdict_fault result ≡ first_of (record_checks samples left right) }
+pub fn record_fault(samples: usize, running: &RunningSums) -> Result<(), Refusal>
+    ensures { verdict_fault result ≡ first_of (record_checks samples running.now.left running.now.right) }
 {
-    if right < left {
+    if running.right < running.left {
         return Err(Report::InvalidRecord.at(0));
     }
-    if samples < right {
+    if samples < running.right {
         return Err(Report::InvalidRecord.at(0));
     }
     Ok(())

@@ -3,37 +3,43 @@
 #![tactic(auto)]
 
 ghost use Rattle.std.specs.Prelude.{◌≡◌, length};
-ghost use Rattle.meanings.specs.Reports.{verdict_fault, first_of, curve_checks, smooth_checks};
-ghost use Rattle.checks_smooth.specs.Verdicts.{WindowsJudged, FirstEdgeBack};
+ghost use Rattle.meanings.specs.Lists.{lowest};
+ghost use Rattle.meanings.specs.Reports.{verdict_fault, first_of, edge_decreases, windows_checks, curve_checks, smooth_checks};
 
 use checks::{edge_below, uneven_rows};
 use checks_curve::{curve_size_fault, first_out_of_range, order_fault};
-use meanings::{Limits, MAX_BANDWIDTH, ROW_WIDTH, Refusal, Report};
+use meanings::{Limits, MAX_BANDWIDTH, Mark, Marks, ROW_WIDTH, Readings, Refusal, Report};
 
 // The lowest position at which an edge lies below the one before.
-pub(crate) fn first_edge_decrease(points: &[u16], bandwidths: &[u32]) -> Option<usize>
-    requires { length points.now ≡ length bandwidths.now }
-    ensures { FirstEdgeBack points.now bandwidths.now result }
+pub(crate) fn first_edge_decrease(marks: Marks) -> Option<usize>
+    requires { length marks.points.now ≡ length marks.bandwidths.now }
+    ensures { result ≡ lowest (edge_decreases marks.entry.points.now marks.entry.bandwidths.now) (length marks.entry.points.now) }
 {
-    let mut i = 1;
-    while i < points.len() {
-        if edge_below(points[i], bandwidths[i], points[i - 1], bandwidths[i - 1]) {
+    for i in 1..marks.points.len() {
+        let mark = Mark {
+            point: marks.points[i],
+            bandwidth: marks.bandwidths[i],
+        };
+        let before = Mark {
+            point: marks.points[i - 1],
+            bandwidth: marks.bandwidths[i - 1],
+        };
+        if edge_below(mark, before) {
             return Some(i);
         }
-        i += 1;
     }
     None
 }
 
 // What the windows of the marks earn: 9, 10.
-pub(crate) fn windows_fault(points: &[u16], bandwidths: &[u32]) -> Result<(), Refusal>
-    requires { length points.now ≡ length bandwidths.now }
-    ensures { WindowsJudged points.now bandwidths.now result }
+pub(crate) fn windows_fault(marks: Marks) -> Result<(), Refusal>
+    requires { length marks.points.now ≡ length marks.bandwidths.now }
+    ensures { verdict_fault result ≡ first_of (windows_checks marks.entry.points.now marks.entry.bandwidths.now) }
 {
-    if let Some(i) = first_out_of_range(bandwidths, MAX_BANDWIDTH) {
+    if let Some(i) = first_out_of_range(marks.bandwidths, MAX_BANDWIDTH) {
         return Err(Report::BandwidthOutOfRange.at(i));
     }
-    if let Some(i) = first_edge_decrease(points, bandwidths) {
+    if let Some(i) = first_edge_decrease(marks) {
         return Err(Report::EdgeDecreases.at(i));
     }
     Ok(())
@@ -41,31 +47,27 @@ pub(crate) fn windows_fault(points: &[u16], bandwidths: &[u32]) -> Result<(), Re
 
 // What a call over readings and marks is refused for, where `more` says that one more list does not fit: 8, 6, 7, 4, 5, 9, 10.
 pub fn curve_fault(
-    minutes: &[u16],
-    values: &[u16],
-    points: &[u16],
-    bandwidths: &[u32],
+    readings: Readings,
+    marks: Marks,
     more: bool,
     limits: Limits,
 ) -> Result<(), Refusal>
-    ensures { verdict_fault result ≡ first_of (curve_checks limits minutes.now values.now points.now bandwidths.now more) }
+    ensures { verdict_fault result ≡ first_of (curve_checks limits readings.entry.minutes.now readings.entry.values.now marks.entry.points.now marks.entry.bandwidths.now more) }
 {
-    curve_size_fault(minutes, values, points, bandwidths, more, limits)?;
-    order_fault(minutes, points)?;
-    windows_fault(points, bandwidths)
+    curve_size_fault(readings, marks, more, limits)?;
+    order_fault(readings.minutes, marks.points)?;
+    windows_fault(marks)
 }
 
 // What a sweep with so many numbers for its rows is refused for: the same, with five numbers a mark.
 pub fn smooth_fault(
-    minutes: &[u16],
-    values: &[u16],
-    points: &[u16],
-    bandwidths: &[u32],
+    readings: Readings,
+    marks: Marks,
     rows: usize,
     limits: Limits,
 ) -> Result<(), Refusal>
-    ensures { verdict_fault result ≡ first_of (smooth_checks limits minutes.now values.now points.now bandwidths.now rows) }
+    ensures { verdict_fault result ≡ first_of (smooth_checks limits readings.entry.minutes.now readings.entry.values.now marks.entry.points.now marks.entry.bandwidths.now rows) }
 {
-    let more = uneven_rows(rows, ROW_WIDTH, points.len());
-    curve_fault(minutes, values, points, bandwidths, more, limits)
+    let more = uneven_rows(rows, ROW_WIDTH, marks.points.len());
+    curve_fault(readings, marks, more, limits)
 }

@@ -1,43 +1,36 @@
 -- The invariant of the search: none of the marks before k is low enough, and the record is that after k steps. So the row that the next step gives
 -- is the mark's, and the record's edges are the passes.
-use Prim.Native.Nat.{ℕ, ◌+◌, ◌^◌, ◌≤◌, ◌<◌, zero-le}
-use Rattle.std.specs.Prelude.{Result, Ok, Err}
+use Prim.Native.Nat.{ℕ, ◌+◌, ◌^◌, ◌≤◌, ◌<◌}
+use Rattle.std.specs.Prelude.{Result, Ok}
 use Rattle.meanings_limit.specs.declared.Located.{Located}
-use Rattle.meanings.specs.Calls.{answer_of}
 use mathlib.Core.Path.{◌≡◌, sym, ap, ◌∙◌}
 use mathlib.Core.Bool.{Bool, true, false}
 use mathlib.Core.List.{List}
 use Rattle.std.specs.Prelude.{None, Some}
 use native.Mathlib.Omega.{arith}
-use mir.Val.{Fits}
-use mir.Syntax.{w16}
 use lib.ListN.{length, get_or}
 use Rattle.meanings.specs.declared.Limits.{Limits}
 use Rattle.meanings.specs.declared.Refusal.{Refusal}
 use Rattle.meanings.specs.declared.RunningSums.{RunningSums}
 use Rattle.meanings.specs.Limits.{full}
 use Rattle.meanings.specs.Moves.{moves}
-use Rattle.meanings.specs.Reports.{given, refused, fault_of, verdict_fault, first_of, curve_checks}
+use Rattle.meanings.specs.Reports.{verdict_fault, first_of, curve_checks}
 use Rattle.meanings.specs.Running.{fresh, passes}
 use Rattle.meanings.proofs.Checks.{same_limits}
 use Rattle.meanings.proofs.Search.{NoneBelow, one_more_below, none_lowest, lowest_at}
 use Rattle.meanings.proofs.SmoothSteps.{CurveAccepted, curve_accepts, running_at, passes_are_edges}
 use Rattle.meanings_limit.specs.Threshold.{at_or_below, low_enough}
-use Rattle.meanings_limit.specs.Crossing.{low_at, crossing_refusal, first_at_most}
+use Rattle.meanings_limit.specs.Crossing.{low_at, crossing_refusal}
 use Rattle.meanings_limit.proofs.Passes.{passes_to_point}
 use Rattle.stepping.specs.declared.Reached.{Reached as Step}
-use Rattle.stepping.specs.Steps.{IsFresh, SteppedRow}
-use Rattle.stepping.proofs.Sweeping.{SteppedTo, steps_begin, edges_fit, steps_go_on, next_running, row_there}
+use Rattle.stepping.specs.Steps.{SteppedRow}
+use Rattle.stepping.proofs.Sweeping.{SteppedTo, edges_fit, steps_go_on, next_running, row_there}
 use Rattle.crossing.specs.Search.{Searched}
 
 pub record NoneLowTo (ts vs zs hs : List ℕ) (limit k : ℕ) (r : RunningSums) : Type 0 where
   pub steps : SteppedTo ts vs zs hs k r
   pub upto : k ≤ length zs
   pub none_low : NoneBelow (low_at ts vs zs hs limit) k
-
-pub search_begins : {ts vs zs hs : List ℕ} {limit : ℕ} {r : RunningSums} → CurveAccepted ts vs zs hs → ((i : ℕ) → Fits w16 (get_or ts i 0))
-    → ((i : ℕ) → Fits w16 (get_or vs i 0)) → IsFresh r → NoneLowTo ts vs zs hs limit 0 r
-search_begins a t v f = record { steps = steps_begin a t v f; upto = zero-le; none_low = λ j l. absurd (omega arith) }
 
 module _ {ts vs zs hs : List ℕ} {limit k : ℕ} {r : RunningSums} (w : NoneLowTo ts vs zs hs limit k r) where
   pub passes_fit : r.right + r.left < 2 ^ 64
@@ -86,18 +79,10 @@ module _ {ts vs zs hs : List ℕ} {limit k : ℕ} {r : RunningSums} (w : NoneLow
     }
 
 -- the call, by what its checks found
-module _ (ts vs zs hs : List ℕ) (limit : ℕ) {L : Limits} {v : Result Unit Refusal} (l : L ≡ full)
+module _ (ts vs zs hs : List ℕ) {L : Limits} {v : Result Unit Refusal} (l : L ≡ full)
     (f : verdict_fault v ≡ first_of (curve_checks L ts vs zs hs false)) where
   found : {w : Result Unit Refusal} → v ≡ w → crossing_refusal full ts vs zs hs ≡ verdict_fault w
   found q = sym (ap verdict_fault (sym q) ∙ f ∙ ap (λ (M : Limits). crossing_refusal M ts vs zs hs) l)
 
   pub lists_accepted : {unit : Unit {0}} → v ≡ Ok unit → CurveAccepted ts vs zs hs
   lists_accepted q = curve_accepts full (same_limits full) ts vs zs hs false (found q)
-
-  pub call_refused : {e : Refusal} → v ≡ Err e → refused (fault_of e) ≡ first_at_most full ts vs zs hs limit
-  unfolding first_at_most
-  call_refused q = rw (found q)
-
-  pub call_answers : {c : Located} → {unit : Unit {0}} → v ≡ Ok unit → Searched ts vs zs hs limit c → given c ≡ first_at_most full ts vs zs hs limit
-  unfolding first_at_most
-  call_answers q s = rw (found q) (ap given s.answer)

@@ -1,10 +1,6 @@
 -- What the search under the call says.
 use Rattle.std.specs.Prelude.{ℕ, ◌≡◌, List}
-use Rattle.std.specs.Prelude.{Result}
 use Rattle.meanings_limit.specs.declared.Located.{Located}
-use Rattle.meanings.specs.declared.Refusal.{Refusal}
-use Rattle.meanings.specs.Calls.{answer_of}
-use Rattle.meanings.specs.Reports.{given}
 use Rattle.meanings_limit.specs.Crossing.{located}
 
 -- c is what accepted lists answer

@@ -6,40 +6,42 @@ ghost use Rattle.meanings.specs.Calls.{answer_of};
 ghost use Rattle.meanings.specs.Limits.{full as full_limits};
 ghost use Rattle.meanings.proofs.SmoothSteps.{CurveAccepted};
 ghost use Rattle.meanings_limit.specs.Crossing.{first_at_most};
+ghost use Rattle.estimator.specs.Rows.{Of16Bits};
 ghost use Rattle.crossing.specs.Search.{Searched};
 
 use checks::full;
 use checks_smooth::curve_fault;
-use meanings::Refusal;
+use meanings::{Mark, Marks, Readings, Refusal, RunningSums};
 use meanings_limit::Located;
-use stepping::{fresh_record, step_to};
+use stepping::step_to;
 use threshold::at_or_below;
 
+// What a list's type says, which is not known of a list in a struct: its numbers fit 16 bits.
+fn of_16_bits(numbers: &[u16])
+    ensures { Of16Bits numbers.now }
+{}
+
 // The search in accepted lists.
-fn search(
-    minutes: &[u16],
-    values: &[u16],
-    points: &[u16],
-    bandwidths: &[u32],
-    limit: u16,
-) -> Located
-    requires { CurveAccepted minutes.now values.now points.now bandwidths.now }
-    ensures { Searched minutes.now values.now points.now bandwidths.now limit result }
+fn search(readings: Readings, marks: Marks, limit: u16) -> Located
+    requires { CurveAccepted readings.minutes.now readings.values.now marks.points.now marks.bandwidths.now }
+    ensures { Searched readings.entry.minutes.now readings.entry.values.now marks.entry.points.now marks.entry.bandwidths.now limit result }
 {
-    let mut running = fresh_record();
-    let mut k = 0;
-    while k < points.len() {
-        let point = points[k];
-        let bandwidth = bandwidths[k];
-        let reached = step_to(running, minutes, values, point, bandwidth);
-        running = reached.running;
+    of_16_bits(readings.minutes);
+    of_16_bits(readings.values);
+    let mut running = RunningSums::default();
+    for k in 0..marks.points.len() {
+        let mark = Mark {
+            point: marks.points[k],
+            bandwidth: marks.bandwidths[k],
+        };
+        let reached = step_to(running, readings, mark);
         if at_or_below(limit, reached.row.weight, reached.row.value) {
             return Located {
                 position: Some(k),
-                passes: running.right as u64 + running.left as u64,
+                passes: reached.running.right as u64 + reached.running.left as u64,
             };
         }
-        k += 1;
+        running = reached.running;
     }
     Located {
         position: None,
@@ -50,15 +52,9 @@ fn search(
 // The first mark that has a value of at most the limit, with the passes up to and with it; none with the passes of all marks; or
 // the report that a sweep with room for its rows would give.
 #[tactic(auto, unfolding(meanings_limit::specs::Crossing::first_at_most))]
-pub fn first_at_most(
-    minutes: &[u16],
-    values: &[u16],
-    points: &[u16],
-    bandwidths: &[u32],
-    limit: u16,
-) -> Result<Located, Refusal>
-    ensures { answer_of result ≡ first_at_most full_limits minutes.now values.now points.now bandwidths.now limit }
+pub fn first_at_most(readings: Readings, marks: Marks, limit: u16) -> Result<Located, Refusal>
+    ensures { answer_of result ≡ first_at_most full_limits readings.entry.minutes.now readings.entry.values.now marks.entry.points.now marks.entry.bandwidths.now limit }
 {
-    curve_fault(minutes, values, points, bandwidths, false, full())?;
-    Ok(search(minutes, values, points, bandwidths, limit))
+    curve_fault(readings, marks, false, full())?;
+    Ok(search(readings, marks, limit))
 }

@@ -47,7 +47,7 @@ row_most cs a b f l =
     let h = total_most (λ y. get_or cs (65 * a + y) 0) 4294967296 0 b (λ y. let q = f (65 * a + y) in omega (arith, q)) in
     omega arith
 
-rows_most : (cs : List ℕ) (a b : ℕ) → ((i : ℕ) → Fits w32 (get_or cs i 0)) → b ≤ 65 → cumulative cs a b ≤ a * 279172874240
+pub rows_most : (cs : List ℕ) (a b : ℕ) → ((i : ℕ) → Fits w32 (get_or cs i 0)) → b ≤ 65 → cumulative cs a b ≤ a * 279172874240
 unfolding cumulative
 rows_most cs a b f l = total_most (λ x. row_sum cs x b) 279172874240 0 a (λ x. row_most cs x b f l)
 

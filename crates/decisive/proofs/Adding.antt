@@ -34,7 +34,6 @@ term_small z h t v l m = mul-le-mul (kernel_small z h t l) m
 -- weight and sum of the readings before i; those before left and from right on have none
 pub record TotalTo (ts vs : List ℕ) (z h left right i w s : ℕ) : Type 0 where
   pub accepted : EvaluateAccepted ts vs h
-  pub values : AtMost max_u16 vs
   pub upto : i ≤ right
   pub within : right ≤ length ts
   pub nothing_before : (j : ℕ) → j < left → kernel z h (get_or ts j 0) ≡ 0
@@ -45,11 +44,10 @@ pub record TotalTo (ts vs : List ℕ) (z h left right i w s : ℕ) : Type 0 wher
 weightless_term : (k v : ℕ) → k ≡ 0 → k * v ≡ 0
 weightless_term k v e = ap (λ (x : ℕ). x * v) e ∙ zero-mul v
 
-pub total_begins : (ts vs : List ℕ) (z h low left right : ℕ) → EvaluateAccepted ts vs h → ((i : ℕ) → Fits w16 (get_or vs i 0)) → low ≡ z - h
+pub total_begins : (ts vs : List ℕ) (z h low left right : ℕ) → EvaluateAccepted ts vs h → low ≡ z - h
     → FirstAtLeast ts low left → FirstAtLeast ts (z + h + 1) right → TotalTo ts vs z h left right left 0 0
-total_begins ts vs z h low left right a f e b d = record {
+total_begins ts vs z h low left right a e b d = record {
   accepted = a;
-  values = of_16_bits vs f;
   upto = let n = in_order in omega arith;
   within = d.within;
   nothing_before = nothing;
@@ -92,11 +90,8 @@ module _ {ts vs : List ℕ} {z h left right i w s : ℕ} (c : TotalTo ts vs z h 
 
   module _ (l : i < right) where
     module _ {k : ℕ} (e : k ≡ kernel z h (get_or ts i 0)) where
-      value_small : get_or vs i 0 ≤ max_u16
-      value_small = c.values i (omega (arith, c.accepted.even, c.within))
-
-      term : k * get_or vs i 0 ≤ 281470681743360
-      term = rw e (term_small z h (get_or ts i 0) (get_or vs i 0) c.accepted.bandwidth value_small)
+      term : ((j : ℕ) → Fits w16 (get_or vs j 0)) → k * get_or vs i 0 ≤ 281470681743360
+      term f = rw e (term_small z h (get_or ts i 0) (get_or vs i 0) c.accepted.bandwidth (of_16_bits vs f i (omega (arith, c.accepted.even, c.within))))
 
       pub weight_fits : w + k < 2 ^ 64
       weight_fits =
@@ -106,22 +101,21 @@ module _ {ts vs : List ℕ} {z h left right i w s : ℕ} (c : TotalTo ts vs z h 
           let q : k ≤ 4294967296 = omega (arith, e) in
           omega (arith, c.weight_is)
 
-      pub term_fits : k * get_or vs i 0 < 2 ^ 64
-      term_fits = omega (arith, term)
+      pub term_fits : ((j : ℕ) → Fits w16 (get_or vs j 0)) → k * get_or vs i 0 < 2 ^ 64
+      term_fits f = omega (arith, term f)
 
-      pub sum_fits : s + k * get_or vs i 0 < 2 ^ 64
-      sum_fits =
+      pub sum_fits : ((j : ℕ) → Fits w16 (get_or vs j 0)) → s + k * get_or vs i 0 < 2 ^ 64
+      sum_fits f =
           let a = total_at_most (λ j. kernel z h (get_or ts j 0) * get_or vs j 0) 281470681743360 0 i
           (λ j m.
           term_small z h (get_or ts (0 + j) 0) (get_or vs (0 + j) 0) c.accepted.bandwidth
-          (c.values (0 + j) (omega (arith, c.accepted.even, c.within)))) in
+          (of_16_bits vs f (0 + j) (omega (arith, c.accepted.even, c.within)))) in
           let n : i ≤ 1024 = omega (arith, c.accepted.few, c.within) in
-          omega (arith, c.sum_is, term)
+          omega (arith, c.sum_is, term f)
 
       pub total_goes_on : TotalTo ts vs z h left right (i + 1) (w + k) (s + k * get_or vs i 0)
       total_goes_on = rw (add-one i) (record {
         accepted = c.accepted;
-        values = c.values;
         upto = l;
         within = c.within;
         nothing_before = c.nothing_before;

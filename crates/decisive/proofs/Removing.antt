@@ -2,8 +2,7 @@
 -- and sum of the lists without it, and so their verdict.
 use Prim.Native.Nat.{ℕ, ◌+◌, ◌-◌, ◌*◌, ◌^◌, ◌≤◌, ◌<◌}
 use Rattle.std.specs.Prelude.{Some}
-use Rattle.std.specs.Prelude.{Option, None, Result, Ok, Err}
-use Rattle.meanings.specs.Calls.{answer_of}
+use Rattle.std.specs.Prelude.{None, Result, Ok}
 use mathlib.Core.Path.{◌≡◌, refl, sym, ap, ◌∙◌}
 use mathlib.Core.Bool.{Bool, true, false, not, beq}
 use mathlib.Core.List.{List}
@@ -14,23 +13,19 @@ use mir.Syntax.{w16}
 use lib.ListN.{length, get_or}
 use Rattle.meanings.specs.declared.Limits.{Limits}
 use Rattle.meanings.specs.declared.Refusal.{Refusal}
-use Rattle.meanings.specs.Limits.{full, max_u16}
-use Rattle.meanings.specs.Lists.{AtMost}
-use Rattle.meanings.specs.Reports.{given, refused, fault_of, verdict_fault, first_of, evaluate_checks}
+use Rattle.meanings.specs.Limits.{full}
+use Rattle.meanings.specs.Reports.{verdict_fault, first_of, evaluate_checks}
 use Rattle.meanings.specs.Estimate.{estimate, kernel, weight_of, sum_of, value_of}
 use Rattle.meanings.specs.Calls.{evaluate_refusal}
 use Rattle.meanings.proofs.Checks.{same_limits, EvaluateAccepted, evaluate_accepts}
 use Rattle.meanings.proofs.Search.{none_lowest, lowest_at}
 use Rattle.meanings_limit.specs.Threshold.{at_or_below}
-use Rattle.meanings_decisive.specs.Decisive.{without, verdict, differs, decides, decisive}
+use Rattle.meanings_decisive.specs.Decisive.{without, verdict, differs, decides}
 use Rattle.meanings_decisive.proofs.Decides.{weightless_keeps}
 use Rattle.meanings_decisive.proofs.Removal.{weight_without, sum_without}
 use Rattle.decisive.specs.declared.Run.{Run}
 use Rattle.decisive.specs.Search.{IsLow, IsRun, Searched}
 use Rattle.decisive.proofs.Adding.{of_16_bits, term_small}
-
-pub low_tested : (weight sum limit v : ℕ) (b : Bool) → v ≡ value_of sum weight → b ≡ at_or_below limit weight v → IsLow weight sum limit b
-low_tested weight sum limit v b e q = record { tested = q ∙ ap (at_or_below limit weight) e }
 
 low_of_totals : (ts vs : List ℕ) (z h limit w s : ℕ) → w ≡ weight_of ts z h → s ≡ sum_of ts vs z h
     → at_or_below limit w (value_of s w) ≡ verdict ts vs z h limit
@@ -46,16 +41,14 @@ differ_alike false false = refl
 
 pub record NoneDecides (ts vs : List ℕ) (z h limit : ℕ) (run : Run) (low : Bool) (i : ℕ) : Type 0 where
   pub accepted : EvaluateAccepted ts vs h
-  pub values : AtMost max_u16 vs
   pub run_is : IsRun ts vs z h run
   pub low_is : low ≡ verdict ts vs z h limit
   pub none_before : (j : ℕ) → j < i → j < length ts → decides ts vs z h limit j ≡ false
 
-pub search_begins : {ts vs : List ℕ} {z h limit : ℕ} {run : Run} {low : Bool} → EvaluateAccepted ts vs h → ((i : ℕ) → Fits w16 (get_or vs i 0))
-    → IsRun ts vs z h run → IsLow run.weight run.sum limit low → NoneDecides ts vs z h limit run low run.left
-search_begins {ts} {vs} {z} {h} {limit} a f r q = record {
+pub search_begins : {ts vs : List ℕ} {z h limit : ℕ} {run : Run} {low : Bool} → EvaluateAccepted ts vs h → IsRun ts vs z h run
+    → IsLow run.weight run.sum limit low → NoneDecides ts vs z h limit run low run.left
+search_begins {ts} {vs} {z} {h} {limit} a r q = record {
   accepted = a;
-  values = of_16_bits vs f;
   run_is = r;
   low_is = q.tested ∙ low_of_totals ts vs z h limit _ _ r.weight_is r.sum_is;
   none_before = λ j l m. weightless_keeps ts vs z h limit a.ordered j m (r.before j l m);
@@ -80,9 +73,9 @@ module _ {ts vs : List ℕ} {z h limit : ℕ} {run : Run} {low : Bool} {i : ℕ}
       pub weight_holds : k ≤ run.weight
       weight_holds = omega (arith, e, c.run_is.weight_is, weight_without ts vs z h c.accepted.ordered i inside)
 
-      pub term_fits : k * get_or vs i 0 < 2 ^ 64
-      term_fits =
-          let m = term_small z h (get_or ts i 0) (get_or vs i 0) c.accepted.bandwidth (c.values i inside_values) in
+      pub term_fits : ((j : ℕ) → Fits w16 (get_or vs j 0)) → k * get_or vs i 0 < 2 ^ 64
+      term_fits f =
+          let m = term_small z h (get_or ts i 0) (get_or vs i 0) c.accepted.bandwidth (of_16_bits vs f i inside_values) in
           rw e (omega arith)
 
       pub sum_holds : k * get_or vs i 0 ≤ run.sum
@@ -113,7 +106,6 @@ module _ {ts vs : List ℕ} {z h limit : ℕ} {run : Run} {low : Bool} {i : ℕ}
         pub goes_on : not (beq rest low) ≡ false → NoneDecides ts vs z h limit run low (i + 1)
         goes_on p = record {
           accepted = c.accepted;
-          values = c.values;
           run_is = c.run_is;
           low_is = c.low_is;
           none_before = λ j m n. by j n (dec_lt j i) m;
@@ -123,19 +115,11 @@ module _ {ts vs : List ℕ} {z h limit : ℕ} {run : Run} {low : Bool} {i : ℕ}
             by j n (yes a) m = c.none_before j a n
             by j n (no a) m = let q : j ≡ i = omega arith in rw q (sym decided ∙ differ_alike rest low ∙ p)
 
--- the call, by what its checks found
-module _ (ts vs : List ℕ) (z h limit : ℕ) {L : Limits} {v : Result Unit Refusal} (l : L ≡ full)
+-- the call, by what its check found
+module _ (ts vs : List ℕ) (h : ℕ) {L : Limits} {v : Result Unit Refusal} (l : L ≡ full)
     (f : verdict_fault v ≡ first_of (evaluate_checks L ts vs h)) where
   found : {w : Result Unit Refusal} → v ≡ w → evaluate_refusal full ts vs h ≡ verdict_fault w
   found q = sym (ap verdict_fault (sym q) ∙ f ∙ ap (λ (M : Limits). evaluate_refusal M ts vs h) l)
 
   pub lists_accepted : {unit : Unit {0}} → v ≡ Ok unit → EvaluateAccepted ts vs h
   lists_accepted q = evaluate_accepts full (same_limits full) ts vs h (found q)
-
-  pub call_refused : {e : Refusal} → v ≡ Err e → refused (fault_of e) ≡ decisive full ts vs z h limit
-  unfolding decisive
-  call_refused q = rw (found q)
-
-  pub call_answers : {d : Option ℕ} → {unit : Unit {0}} → v ≡ Ok unit → Searched ts vs z h limit d → given d ≡ decisive full ts vs z h limit
-  unfolding decisive
-  call_answers q s = rw (found q) (ap given s.answer)

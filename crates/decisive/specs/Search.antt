@@ -1,9 +1,6 @@
 -- What the functions under the call say.
 use Rattle.std.specs.Prelude.{ℕ, ◌≤◌, ◌<◌, ◌≡◌, Bool, List, length, get_or}
-use Rattle.std.specs.Prelude.{Option, Result}
-use Rattle.meanings.specs.declared.Refusal.{Refusal}
-use Rattle.meanings.specs.Calls.{answer_of}
-use Rattle.meanings.specs.Reports.{given}
+use Rattle.std.specs.Prelude.{Option}
 use Rattle.meanings.specs.Estimate.{kernel, weight_of, sum_of, value_of}
 use Rattle.meanings_limit.specs.Threshold.{at_or_below}
 use Rattle.meanings_decisive.specs.Decisive.{first_decisive}

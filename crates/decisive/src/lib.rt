@@ -12,12 +12,12 @@ ghost use Rattle.decisive.specs.Search.{IsLow, IsRun, Searched};
 use arithmetic_values::{first_at_least, lowest_minute, value};
 use checks::full;
 use checks_point::evaluate_fault;
-use meanings::Refusal;
+use meanings::{Mark, Readings, Refusal};
 use sample_weight::sample_weight;
 use threshold::at_or_below;
 
 // Bounds outside of which no reading has weight, with the row's weight and sum.
-#[derive(Clone, Copy)]
+#[derive(Clone, Copy, Debug, PartialEq, Eq)]
 pub(crate) struct Run {
     pub(crate) left: usize,
     pub(crate) right: usize,
@@ -26,17 +26,18 @@ pub(crate) struct Run {
 }
 
 // The run of accepted lists, each of its readings added once.
-fn add_run(minutes: &[u16], values: &[u16], point: u16, bandwidth: u32) -> Run
-    requires { EvaluateAccepted minutes.now values.now bandwidth }
-    ensures { IsRun minutes.now values.now point bandwidth result }
+fn add_run(readings: Readings, mark: Mark) -> Run
+    requires { EvaluateAccepted readings.minutes.now readings.values.now mark.bandwidth }
+    ensures { IsRun readings.entry.minutes.now readings.entry.values.now mark.point mark.bandwidth result }
 {
-    let over = point as u64 + bandwidth as u64 + 1;
-    let left = first_at_least(minutes, lowest_minute(point, bandwidth));
+    let Readings { minutes, values } = readings;
+    let over = mark.point as u64 + mark.bandwidth as u64 + 1;
+    let left = first_at_least(minutes, lowest_minute(mark));
     let right = first_at_least(minutes, over);
     let mut weight = 0u64;
     let mut sum = 0u64;
     for i in left..right {
-        let k = sample_weight(minutes[i], point, bandwidth);
+        let k = sample_weight(minutes[i], mark);
         weight += k;
         sum += k * values[i] as u64;
     }
@@ -48,7 +49,7 @@ fn add_run(minutes: &[u16], values: &[u16], point: u16, bandwidth: u32) -> Run
     }
 }
 
-// Whether a row with this weight and sum is low enough.
+// Whether a row with this weight and sum is low enough. Two numbers that two calls share.
 fn is_low(weight: u64, sum: u64, limit: u16) -> bool
     ensures { IsLow weight sum limit result }
 {
@@ -56,15 +57,16 @@ fn is_low(weight: u64, sum: u64, limit: u16) -> bool
 }
 
 // The search in accepted lists: without reading i weight and sum are less by its terms.
-fn search(minutes: &[u16], values: &[u16], point: u16, bandwidth: u32, limit: u16) -> Option<usize>
-    requires { EvaluateAccepted minutes.now values.now bandwidth }
-    ensures { Searched minutes.now values.now point bandwidth limit result }
+fn search(readings: Readings, mark: Mark, limit: u16) -> Option<usize>
+    requires { EvaluateAccepted readings.minutes.now readings.values.now mark.bandwidth }
+    ensures { Searched readings.entry.minutes.now readings.entry.values.now mark.point mark.bandwidth limit result }
 {
-    let run = add_run(minutes, values, point, bandwidth);
+    let Readings { minutes, values } = readings;
+    let run = add_run(readings, mark);
     let low = is_low(run.weight, run.sum, limit);
     let left = run.left;
     for i in left..run.right {
-        let k = sample_weight(minutes[i], point, bandwidth);
+        let k = sample_weight(minutes[i], mark);
         let rest = is_low(run.weight - k, run.sum - k * values[i] as u64, limit);
         if rest != low {
             return Some(i);
@@ -76,15 +78,9 @@ fn search(minutes: &[u16], values: &[u16], point: u16, bandwidth: u32, limit: u1
 // The lowest position of a reading without which alone the row at the mark is low enough where it was not, or is not where it was; none; or
 // the report of the question at one mark.
 #[tactic(auto, unfolding(meanings_decisive::specs::Decisive::decisive))]
-pub fn decisive_sample(
-    minutes: &[u16],
-    values: &[u16],
-    point: u16,
-    bandwidth: u32,
-    limit: u16,
-) -> Result<Option<usize>, Refusal>
-    ensures { answer_of result ≡ decisive_meaning full_limits minutes.now values.now point bandwidth limit }
+pub fn decisive_sample(readings: Readings, mark: Mark, limit: u16) -> Result<Option<usize>, Refusal>
+    ensures { answer_of result ≡ decisive_meaning full_limits readings.entry.minutes.now readings.entry.values.now mark.point mark.bandwidth limit }
 {
-    evaluate_fault(minutes, values, bandwidth, full())?;
-    Ok(search(minutes, values, point, bandwidth, limit))
+    evaluate_fault(readings, mark.bandwidth, full())?;
+    Ok(search(readings, mark, limit))
 }

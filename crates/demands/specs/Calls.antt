@@ -5,6 +5,9 @@
 use Rattle.std.specs.Prelude.{ℕ, List}
 use Rattle.std.specs.Prelude.{Result}
 use Rattle.meanings.specs.declared.Counts.{Counts}
+use Rattle.meanings.specs.declared.Mark.{Mark}
+use Rattle.meanings.specs.declared.Marks.{Marks}
+use Rattle.meanings.specs.declared.Readings.{Readings}
 use Rattle.meanings.specs.declared.Refusal.{Refusal}
 use denote.Ref.{Bor, MutBor, Gone}
 use contract.Lifetimes.{Lfts}
@@ -90,54 +93,64 @@ lent x xs = record { ref_ptr = x.ref_ptr; now = xs }
 abbrev pub lent_mut : Place → List ℕ → MutBor (List ℕ)
 lent_mut x xs = record { ref_ptr = x.ref_ptr; ghost_name = x.ghost_name; now = xs }
 
+-- readings and marks, their lists lent to be read
+abbrev pub readings : Place → Place → List ℕ → List ℕ → Readings
+readings x y ts vs = record { minutes = lent x ts; values = lent y vs }
+
+abbrev pub marks : Place → Place → List ℕ → List ℕ → Marks
+marks x y zs hs = record { points = lent x zs; bandwidths = lent y hs }
+
+abbrev pub mark : ℕ → ℕ → Mark
+mark z h = record { point = z; bandwidth = h }
+
 pub record EvaluateCall (ts vs : List ℕ) (z h : ℕ) (a : Result Estimate Refusal) : Type 0 where
-  pub lifetimes : Lfts 2
+  pub lifetimes : Lfts 1
   pub minutes_at : Place
   pub values_at : Place
   pub ensured :
-      evaluate.Post lifetimes (lent minutes_at ts, (lent values_at vs, (z, (h, tt)))) a (lent minutes_at ts, (lent values_at vs, (z, (h, tt))))
+      evaluate.Post lifetimes (readings minutes_at values_at ts vs, (mark z h, tt)) a (readings minutes_at values_at ts vs, (mark z h, tt))
 
 -- the answer is a part of the lent values
 pub record WindowCall (ts vs : List ℕ) (z h : ℕ) (values_at : Place) (part : Bor (List ℕ)) : Type 0 where
   pub lifetimes : Lfts 2
   pub minutes_at : Place
   pub ensured :
-      window.Post lifetimes (lent minutes_at ts, (lent values_at vs, (z, (h, tt)))) part (lent minutes_at ts, (lent values_at vs, (z, (h, tt))))
+      window.Post lifetimes (lent minutes_at ts, (lent values_at vs, (mark z h, tt))) part (lent minutes_at ts, (lent values_at vs, (mark z h, tt)))
 
 pub record AdvanceCall (r : RunningSums) (ts vs : List ℕ) (z h : ℕ) (a : Result RunningSums Refusal) : Type 0 where
-  pub lifetimes : Lfts 2
+  pub lifetimes : Lfts 1
   pub minutes_at : Place
   pub values_at : Place
   pub ensured :
-      advance.Post lifetimes (r, (lent minutes_at ts, (lent values_at vs, (z, (h, tt))))) a
-      (r, (lent minutes_at ts, (lent values_at vs, (z, (h, tt)))))
+      advance.Post lifetimes (r, (readings minutes_at values_at ts vs, (mark z h, tt))) a
+      (r, (readings minutes_at values_at ts vs, (mark z h, tt)))
 
 pub record RecordRowCall (r : RunningSums) (z h : ℕ) (e : Estimate) : Type 0 where
   pub lifetimes : Lfts 0
-  pub ensured : record_row.Post lifetimes (r, (z, (h, tt))) e (r, (z, (h, tt)))
+  pub ensured : record_row.Post lifetimes (r, (mark z h, tt)) e (r, (mark z h, tt))
 
 -- rs and rs' are the rows at entry and at exit, and so for every list below
 pub record SmoothCall (ts vs zs hs rs : List ℕ) (a : Result ℕ Refusal) (rs' : List ℕ) : Type 0 where
-  pub lifetimes : Lfts 5
+  pub lifetimes : Lfts 3
   pub minutes_at : Place
   pub values_at : Place
   pub points_at : Place
   pub bandwidths_at : Place
   pub rows_at : Place
   pub ensured :
-      smooth.Post lifetimes (lent minutes_at ts, (lent values_at vs, (lent points_at zs, (lent bandwidths_at hs, (lent_mut rows_at rs, tt))))) a
-      (lent minutes_at ts, (lent values_at vs, (lent points_at zs, (lent bandwidths_at hs, (lent_mut rows_at rs', tt)))))
+      smooth.Post lifetimes (readings minutes_at values_at ts vs, (marks points_at bandwidths_at zs hs, (lent_mut rows_at rs, tt))) a
+      (readings minutes_at values_at ts vs, (marks points_at bandwidths_at zs hs, (lent_mut rows_at rs', tt)))
 
 pub record PreviewCall (ts vs zs hs rs : List ℕ) (a : Result ℕ Refusal) (rs' : List ℕ) : Type 0 where
-  pub lifetimes : Lfts 5
+  pub lifetimes : Lfts 3
   pub minutes_at : Place
   pub values_at : Place
   pub points_at : Place
   pub bandwidths_at : Place
   pub rows_at : Place
   pub ensured :
-      preview.Post lifetimes (lent minutes_at ts, (lent values_at vs, (lent points_at zs, (lent bandwidths_at hs, (lent_mut rows_at rs, tt))))) a
-      (lent minutes_at ts, (lent values_at vs, (lent points_at zs, (lent bandwidths_at hs, (lent_mut rows_at rs', tt)))))
+      preview.Post lifetimes (readings minutes_at values_at ts vs, (marks points_at bandwidths_at zs hs, (lent_mut rows_at rs, tt))) a
+      (readings minutes_at values_at ts vs, (marks points_at bandwidths_at zs hs, (lent_mut rows_at rs', tt)))
 
 pub record FillCall (z₀ spacing preset : ℕ) (zs hs : List ℕ) (a : Result Unit Refusal) (zs' hs' : List ℕ) : Type 0 where
   pub lifetimes : Lfts 2
@@ -283,17 +296,17 @@ pub record ExportedVersion (v : ℕ) : Type 0 where
 -- Every other function that another crate can reach is held to the same by tests/public-calls.
 pub record EveryInputTaken : Type 2 where
   pub evaluate_ends : {M : Type 1} → evaluate_code.statement M
-  pub evaluate_asks_nothing : (κs : Lfts 2) (a : Dens κs evaluate_kinds.ps) → evaluate.Asked κs a
+  pub evaluate_asks_nothing : (κs : Lfts 1) (a : Dens κs evaluate_kinds.ps) → evaluate.Asked κs a
   pub window_ends : {M : Type 1} → window_code.statement M
   pub window_asks_nothing : (κs : Lfts 2) (a : Dens κs window_kinds.ps) → window.Asked κs a
   pub advance_ends : {M : Type 1} → advance_code.statement M
-  pub advance_asks_nothing : (κs : Lfts 2) (a : Dens κs advance_kinds.ps) → advance.Asked κs a
+  pub advance_asks_nothing : (κs : Lfts 1) (a : Dens κs advance_kinds.ps) → advance.Asked κs a
   pub record_row_ends : {M : Type 1} → record_row_code.statement M
   pub record_row_asks_nothing : (κs : Lfts 0) (a : Dens κs record_row_kinds.ps) → record_row.Asked κs a
   pub smooth_ends : {M : Type 1} → smooth_code.statement M
-  pub smooth_asks_nothing : (κs : Lfts 5) (a : Dens κs smooth_kinds.ps) → smooth.Asked κs a
+  pub smooth_asks_nothing : (κs : Lfts 3) (a : Dens κs smooth_kinds.ps) → smooth.Asked κs a
   pub preview_ends : {M : Type 1} → preview_code.statement M
-  pub preview_asks_nothing : (κs : Lfts 5) (a : Dens κs preview_kinds.ps) → preview.Asked κs a
+  pub preview_asks_nothing : (κs : Lfts 3) (a : Dens κs preview_kinds.ps) → preview.Asked κs a
   pub fill_ends : {M : Type 1} → fill_grid_code.statement M
   pub fill_asks_nothing : (κs : Lfts 2) (a : Dens κs fill_grid_kinds.ps) → fill_grid.Asked κs a
   pub read_ends : {M : Type 1} → read_sheet_code.statement M

@@ -25,19 +25,19 @@ use Rattle.crossing.proofs.first_at_most.Statement as first_at_most_code
 use Rattle.abi_crossing.proofs.tankcurve_first_at_most.Reads as exported_first_at_most
 use Rattle.abi_crossing.proofs.tankcurve_first_at_most.Kinds as exported_first_at_most_kinds
 use Rattle.abi_crossing.proofs.tankcurve_first_at_most.Statement as exported_first_at_most_code
-use Rattle.demands.specs.Calls.{Place, lent, lent_mut, SmoothCall}
+use Rattle.demands.specs.Calls.{Place, lent, lent_mut, readings, marks, SmoothCall}
 use Rattle.demands.specs.Conditions.{Conditions, RefusedExactly, FirstFault, curve_conditions, length_first, code_refusal}
 
 -- calls that were made
 pub record FirstAtMostCall (ts vs zs hs : List ℕ) (limit : ℕ) (a : Result Located Refusal) : Type 0 where
-  pub lifetimes : Lfts 4
+  pub lifetimes : Lfts 2
   pub minutes_at : Place
   pub values_at : Place
   pub points_at : Place
   pub bandwidths_at : Place
   pub ensured :
-      first_at_most.Post lifetimes (lent minutes_at ts, (lent values_at vs, (lent points_at zs, (lent bandwidths_at hs, (limit, tt))))) a
-      (lent minutes_at ts, (lent values_at vs, (lent points_at zs, (lent bandwidths_at hs, (limit, tt)))))
+      first_at_most.Post lifetimes (readings minutes_at values_at ts vs, (marks points_at bandwidths_at zs hs, (limit, tt))) a
+      (readings minutes_at values_at ts vs, (marks points_at bandwidths_at zs hs, (limit, tt)))
 
 pub record ExportedFirstAtMost (ts vs zs hs : List ℕ) (limit : ℕ) (xs : List ℕ) (c : ℕ) (xs' : List ℕ) : Type 0 where
   pub lifetimes : Lfts 5
@@ -73,7 +73,7 @@ NoneLow ts vs zs hs limit =
 pub record Crossings : Type 2 where
   -- every input is taken, each call ends, and nothing is left for the caller to check
   pub first_at_most_ends : {M : Type 1} → first_at_most_code.statement M
-  pub first_at_most_asks_nothing : (κs : Lfts 4) (a : Dens κs first_at_most_kinds.ps) → first_at_most.Asked κs a
+  pub first_at_most_asks_nothing : (κs : Lfts 2) (a : Dens κs first_at_most_kinds.ps) → first_at_most.Asked κs a
   pub exported_ends : {M : Type 1} → exported_first_at_most_code.statement M
   pub exported_asks_nothing : (κs : Lfts 5) (a : Dens κs exported_first_at_most_kinds.ps) → exported_first_at_most.Asked κs a
   -- unfit lists are refused before any answer, under the listed conditions only

@@ -25,16 +25,16 @@ use Rattle.abi_biweight.proofs.tankcurve_biweight.Reads as exported_biweight
 use Rattle.abi_biweight.proofs.tankcurve_biweight.Kinds as exported_biweight_kinds
 use Rattle.abi_biweight.proofs.tankcurve_biweight.Statement as exported_biweight_code
 use Rattle.text.specs.Table.{stored_row}
-use Rattle.demands.specs.Calls.{Place, lent, lent_mut, EvaluateCall, WindowCall, ExportedEvaluate, ExportedWindow}
+use Rattle.demands.specs.Calls.{Place, lent, lent_mut, readings, EvaluateCall, WindowCall, ExportedEvaluate, ExportedWindow}
 use Rattle.demands.specs.Conditions.{Conditions, RefusedExactly, NoFault, FirstFault, no_more, series_conditions, length_first, code_refusal}
 use Rattle.demands.specs.Demands.{RefusedAndStays}
 
 -- calls that were made
 pub record BiweightCall (ts vs : List ℕ) (z : ℕ) (a : Result Estimate Refusal) : Type 0 where
-  pub lifetimes : Lfts 2
+  pub lifetimes : Lfts 1
   pub minutes_at : Place
   pub values_at : Place
-  pub ensured : biweight.Post lifetimes (lent minutes_at ts, (lent values_at vs, (z, tt))) a (lent minutes_at ts, (lent values_at vs, (z, tt)))
+  pub ensured : biweight.Post lifetimes (readings minutes_at values_at ts vs, (z, tt)) a (readings minutes_at values_at ts vs, (z, tt))
 
 -- for C and Rust, with a lent row that is row' at exit
 pub record ExportedBiweight (ts vs : List ℕ) (z : ℕ) (row : List ℕ) (c : ℕ) (row' : List ℕ) : Type 0 where
@@ -66,7 +66,7 @@ pub record RunOf (vs : List ℕ) (values_at : Place) (e : Estimate) (part : Bor 
 pub record Biweights : Type 2 where
   -- every input is taken, each call ends, and nothing is left for the caller to check
   pub biweight_ends : {M : Type 1} → biweight_code.statement M
-  pub biweight_asks_nothing : (κs : Lfts 2) (a : Dens κs biweight_kinds.ps) → biweight.Asked κs a
+  pub biweight_asks_nothing : (κs : Lfts 1) (a : Dens κs biweight_kinds.ps) → biweight.Asked κs a
   pub exported_ends : {M : Type 1} → exported_biweight_code.statement M
   pub exported_asks_nothing : (κs : Lfts 3) (a : Dens κs exported_biweight_kinds.ps) → exported_biweight.Asked κs a
   -- refused exactly for the first report whose condition holds

@@ -33,10 +33,10 @@ module _ (q : TenLists) where
       (either_not _ _ _ _ (either_not _ _ _ _ (either_not _ _ _ _ (either_not _ _ _ _ (either_not _ _ _ _
       (either_not _ _ _ _ (unequal _ _) (unequal _ _)) (unequal _ _)) (unequal _ _)) (unequal _ _)) (unequal _ _)) (unequal _ _))
 
-  crowded : Decides
+  too_many : Decides
       (ltb 1024 (length q.minutes) || ltb 32 (length q.points) || ltb 32 (length q.temperature_points))
       ((1024 < length q.minutes) ⊎ (32 < length q.points) ⊎ (32 < length q.temperature_points))
-  crowded =
+  too_many =
       same_condition _ _ _ regroup back (either _ _ _ _ (either _ _ _ _ (above _ _) (above _ _)) (above _ _))
     where
       regroup : {X Y Z : Type 0} → (X ⊎ Y) ⊎ Z → X ⊎ Y ⊎ Z
@@ -56,7 +56,7 @@ module _ (q : TenLists) where
     each = (
       finds 8 lengths,
       (
-        finds 6 crowded,
+        finds 6 too_many,
         (
           finds 7 (either _ _ _ _ (equal _ 0) (equal _ 0)),
           (

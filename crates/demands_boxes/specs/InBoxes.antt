@@ -10,6 +10,7 @@ use borrow.Fn.Kinds.{Dens}
 use Rattle.meanings.specs.Limits.{max_u16}
 use Rattle.meanings.specs.Lists.{AtMost}
 use Rattle.meanings.specs.Claim.{refusal}
+use Rattle.meanings_boxes.specs.declared.Question.{Question}
 use Rattle.meanings_boxes.specs.Boxes.{Axis, shift, cuts, member, tally, strip_of}
 use Rattle.meanings_boxes.specs.Cases.{BoxesInput, outcome, sevens, four, four_outcome, RefusalCase, refusal_expected, refusal_cases}
 use Rattle.meanings_boxes.specs.Cases.{StripsCase, strips_result, strips_cases, PairsCase, pairs_result, pairs_cases}
@@ -37,55 +38,24 @@ pub record Loans : Type 0 where
   pub counts : Place
   pub sums : Place
 
+-- what is asked, in lists that are lent to be read
+abbrev pub asked : Loans → TenLists → Question
+asked l q = record {
+  readings = record { minutes = lent l.minutes q.minutes; temperatures = lent l.temperatures q.temperatures; values = lent l.values q.values };
+  minute_marks = record { points = lent l.points q.points; bandwidths = lent l.bandwidths q.bandwidths };
+  temperature_marks = record {
+    points = lent l.temperature_points q.temperature_points;
+    bandwidths = lent l.temperature_bandwidths q.temperature_bandwidths;
+  };
+}
+
 -- calls that were made: the lists, the answer, and boxes, counts and sums at exit
 pub record BoxesCall (q : TenLists) (a : Result Unit Refusal) (bs' cs' ss' : List ℕ) : Type 0 where
-  pub lifetimes : Lfts 10
+  pub lifetimes : Lfts 4
   pub loans : Loans
   pub ensured :
-      boxes.Post lifetimes (
-        lent loans.minutes q.minutes,
-        (
-          lent loans.temperatures q.temperatures,
-          (
-            lent loans.values q.values,
-            (
-              lent loans.points q.points,
-              (
-                lent loans.bandwidths q.bandwidths,
-                (
-                  lent loans.temperature_points q.temperature_points,
-                  (
-                    lent loans.temperature_bandwidths q.temperature_bandwidths,
-                    (lent_mut loans.boxes q.boxes, (lent_mut loans.counts q.counts, (lent_mut loans.sums q.sums, tt))),
-                  ),
-                ),
-              ),
-            ),
-          ),
-        ),
-      )
-      a (
-        lent loans.minutes q.minutes,
-        (
-          lent loans.temperatures q.temperatures,
-          (
-            lent loans.values q.values,
-            (
-              lent loans.points q.points,
-              (
-                lent loans.bandwidths q.bandwidths,
-                (
-                  lent loans.temperature_points q.temperature_points,
-                  (
-                    lent loans.temperature_bandwidths q.temperature_bandwidths,
-                    (lent_mut loans.boxes bs', (lent_mut loans.counts cs', (lent_mut loans.sums ss', tt))),
-                  ),
-                ),
-              ),
-            ),
-          ),
-        ),
-      )
+      boxes.Post lifetimes (asked loans q, (lent_mut loans.boxes q.boxes, (lent_mut loans.counts q.counts, (lent_mut loans.sums q.sums, tt))))
+      a (asked loans q, (lent_mut loans.boxes bs', (lent_mut loans.counts cs', (lent_mut loans.sums ss', tt))))
 
 pub record ExportedBoxes (q : TenLists) (c : ℕ) (bs' cs' ss' : List ℕ) : Type 0 where
   pub lifetimes : Lfts 10
@@ -172,7 +142,7 @@ unordered_boxes = 0 ∷ 0 ∷ 1 ∷ 5 ∷ 1 ∷ 9 ∷ 2 ∷ 14 ∷ []
 pub record InBoxes : Type 2 where
   -- every input is taken, each call ends, and nothing is left for the caller to check
   pub ends : {M : Type 1} → boxes_code.statement M
-  pub asks_nothing : (κs : Lfts 10) (a : Dens κs boxes_kinds.ps) → boxes.Asked κs a
+  pub asks_nothing : (κs : Lfts 4) (a : Dens κs boxes_kinds.ps) → boxes.Asked κs a
   pub exported_ends : {M : Type 1} → exported_boxes_code.statement M
   pub exported_asks_nothing : (κs : Lfts 10) (a : Dens κs exported_boxes_kinds.ps) → exported_boxes.Asked κs a
   -- refused exactly for the first report whose condition holds, at its lowest place; then all three lists stay

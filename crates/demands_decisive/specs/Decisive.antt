@@ -25,18 +25,18 @@ use Rattle.decisive.proofs.decisive_sample.Statement as decisive_sample_code
 use Rattle.abi_decisive.proofs.tankcurve_decisive.Reads as exported_decisive
 use Rattle.abi_decisive.proofs.tankcurve_decisive.Kinds as exported_decisive_kinds
 use Rattle.abi_decisive.proofs.tankcurve_decisive.Statement as exported_decisive_code
-use Rattle.demands.specs.Calls.{Place, lent, lent_mut, EvaluateCall, ExportedEvaluate}
+use Rattle.demands.specs.Calls.{Place, lent, lent_mut, readings, mark, EvaluateCall, ExportedEvaluate}
 use Rattle.demands.specs.Conditions.{RefusedExactly, FirstFault, evaluate_conditions, length_first, code_refusal}
 use Rattle.demands.specs.Crossing.{LowEnough}
 
 -- calls that were made
 pub record DecisiveCall (ts vs : List ℕ) (z h limit : ℕ) (a : Result (Option ℕ) Refusal) : Type 0 where
-  pub lifetimes : Lfts 2
+  pub lifetimes : Lfts 1
   pub minutes_at : Place
   pub values_at : Place
   pub ensured :
-      decisive_sample.Post lifetimes (lent minutes_at ts, (lent values_at vs, (z, (h, (limit, tt))))) a
-      (lent minutes_at ts, (lent values_at vs, (z, (h, (limit, tt)))))
+      decisive_sample.Post lifetimes (readings minutes_at values_at ts vs, (mark z h, (limit, tt))) a
+      (readings minutes_at values_at ts vs, (mark z h, (limit, tt)))
 
 pub record ExportedDecisive (ts vs : List ℕ) (z h limit : ℕ) (xs : List ℕ) (c : ℕ) (xs' : List ℕ) : Type 0 where
   pub lifetimes : Lfts 3
@@ -113,7 +113,7 @@ pub record SameSums (e e' : Estimate) : Type 0 where
 pub record DecisiveReadings : Type 2 where
   -- every input is taken, each call ends, and nothing is left for the caller to check
   pub decisive_ends : {M : Type 1} → decisive_sample_code.statement M
-  pub decisive_asks_nothing : (κs : Lfts 2) (a : Dens κs decisive_sample_kinds.ps) → decisive_sample.Asked κs a
+  pub decisive_asks_nothing : (κs : Lfts 1) (a : Dens κs decisive_sample_kinds.ps) → decisive_sample.Asked κs a
   pub exported_ends : {M : Type 1} → exported_decisive_code.statement M
   pub exported_asks_nothing : (κs : Lfts 3) (a : Dens κs exported_decisive_kinds.ps) → exported_decisive.Asked κs a
   -- refused under the conditions of the question at one mark, and as it is

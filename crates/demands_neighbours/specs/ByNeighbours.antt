@@ -23,14 +23,14 @@ use Rattle.neighbours.proofs.neighbours.Statement as neighbours_code
 use Rattle.abi_neighbours.proofs.tankcurve_neighbours.Reads as exported_neighbours
 use Rattle.abi_neighbours.proofs.tankcurve_neighbours.Kinds as exported_neighbours_kinds
 use Rattle.abi_neighbours.proofs.tankcurve_neighbours.Statement as exported_neighbours_code
-use Rattle.demands.specs.Calls.{Place, lent, lent_mut, SmoothCall, ExportedSmooth}
+use Rattle.demands.specs.Calls.{Place, lent, lent_mut, readings, SmoothCall, ExportedSmooth}
 use Rattle.demands.specs.Conditions.{Conditions, no_more, condition, NoFault, FirstFault, AtZero, OutOfRange, EdgeFallsAt, curve_size_conditions}
 use Rattle.demands.specs.Conditions.{order_conditions, code_refusal}
 use Rattle.demands.specs.Demands.{RefusedAndStays}
 
 -- calls that were made
 pub record NeighboursCall (ts vs zs : List ℕ) (k : ℕ) (hs rs : List ℕ) (a : Result Unit Refusal) (hs' rs' : List ℕ) : Type 0 where
-  pub lifetimes : Lfts 5
+  pub lifetimes : Lfts 4
   pub minutes_at : Place
   pub values_at : Place
   pub points_at : Place
@@ -38,8 +38,8 @@ pub record NeighboursCall (ts vs zs : List ℕ) (k : ℕ) (hs rs : List ℕ) (a 
   pub rows_at : Place
   pub ensured :
       neighbours.Post lifetimes
-      (lent minutes_at ts, (lent values_at vs, (lent points_at zs, (k, (lent_mut bandwidths_at hs, (lent_mut rows_at rs, tt)))))) a
-      (lent minutes_at ts, (lent values_at vs, (lent points_at zs, (k, (lent_mut bandwidths_at hs', (lent_mut rows_at rs', tt))))))
+      (readings minutes_at values_at ts vs, (lent points_at zs, (k, (lent_mut bandwidths_at hs, (lent_mut rows_at rs, tt))))) a
+      (readings minutes_at values_at ts vs, (lent points_at zs, (k, (lent_mut bandwidths_at hs', (lent_mut rows_at rs', tt)))))
 
 pub record ExportedNeighbours (ts vs zs : List ℕ) (k : ℕ) (hs rs : List ℕ) (c : ℕ) (hs' rs' : List ℕ) : Type 0 where
   pub lifetimes : Lfts 5
@@ -87,7 +87,7 @@ pub record FilledIn (ts vs zs : List ℕ) (k : ℕ) (hs' rs' : List ℕ) : Type 
 pub record ByNeighbours : Type 2 where
   -- every input is taken, each call ends, and nothing is left for the caller to check
   pub ends : {M : Type 1} → neighbours_code.statement M
-  pub asks_nothing : (κs : Lfts 5) (a : Dens κs neighbours_kinds.ps) → neighbours.Asked κs a
+  pub asks_nothing : (κs : Lfts 4) (a : Dens κs neighbours_kinds.ps) → neighbours.Asked κs a
   pub exported_ends : {M : Type 1} → exported_neighbours_code.statement M
   pub exported_asks_nothing : (κs : Lfts 5) (a : Dens κs exported_neighbours_kinds.ps) → exported_neighbours.Asked κs a
   -- refused exactly for the first report whose condition holds; then both lists stay

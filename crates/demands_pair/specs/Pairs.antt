@@ -27,14 +27,14 @@ use Rattle.pair.proofs.compare_run.Statement as compare_run_code
 use Rattle.abi_pair.proofs.tankcurve_compare.Reads as exported_compare
 use Rattle.abi_pair.proofs.tankcurve_compare.Kinds as exported_compare_kinds
 use Rattle.abi_pair.proofs.tankcurve_compare.Statement as exported_compare_code
-use Rattle.demands.specs.Calls.{Place, lent, lent_mut, SmoothCall}
+use Rattle.demands.specs.Calls.{Place, lent, lent_mut, readings, marks, SmoothCall}
 use Rattle.demands.specs.Conditions.{Conditions, no_more, condition, FirstFault, RefusedExactly, series_conditions, curve_size_conditions, order_conditions}
 use Rattle.demands.specs.Conditions.{windows_conditions, length_first, code_refusal}
 use Rattle.demands.specs.Demands.{RefusedAndStays}
 
 -- a call of the comparison: the first tank's minutes and values, the second's, marks and half widths
 pub record CompareCall (ts vs us ws zs hs : List ℕ) (a : Result (Option Parting) Refusal) : Type 0 where
-  pub lifetimes : Lfts 6
+  pub lifetimes : Lfts 3
   pub minutes_at : Place
   pub values_at : Place
   pub others_at : Place
@@ -43,16 +43,16 @@ pub record CompareCall (ts vs us ws zs hs : List ℕ) (a : Result (Option Partin
   pub bandwidths_at : Place
   pub ensured :
       compare.Post lifetimes (
-        lent minutes_at ts,
-        (lent values_at vs, (lent others_at us, (lent other_values_at ws, (lent points_at zs, (lent bandwidths_at hs, tt))))),
+        readings minutes_at values_at ts vs,
+        (readings others_at other_values_at us ws, (marks points_at bandwidths_at zs hs, tt)),
       ) a (
-        lent minutes_at ts,
-        (lent values_at vs, (lent others_at us, (lent other_values_at ws, (lent points_at zs, (lent bandwidths_at hs, tt))))),
+        readings minutes_at values_at ts vs,
+        (readings others_at other_values_at us ws, (marks points_at bandwidths_at zs hs, tt)),
       )
 
 -- of its run: the answer is a part of the values lent from first_at or from second_at
 pub record CompareRunCall (ts vs us ws zs hs : List ℕ) (first_at second_at : Place) (part : Bor (List ℕ)) : Type 0 where
-  pub lifetimes : Lfts 5
+  pub lifetimes : Lfts 4
   pub minutes_at : Place
   pub others_at : Place
   pub points_at : Place
@@ -60,10 +60,10 @@ pub record CompareRunCall (ts vs us ws zs hs : List ℕ) (first_at second_at : P
   pub ensured :
       compare_run.Post lifetimes (
         lent minutes_at ts,
-        (lent first_at vs, (lent others_at us, (lent second_at ws, (lent points_at zs, (lent bandwidths_at hs, tt))))),
+        (lent first_at vs, (lent others_at us, (lent second_at ws, (marks points_at bandwidths_at zs hs, tt)))),
       ) part (
         lent minutes_at ts,
-        (lent first_at vs, (lent others_at us, (lent second_at ws, (lent points_at zs, (lent bandwidths_at hs, tt))))),
+        (lent first_at vs, (lent others_at us, (lent second_at ws, (marks points_at bandwidths_at zs hs, tt)))),
       )
 
 -- a call for C and Rust, with the lent list out at entry and out' at exit
@@ -116,9 +116,9 @@ pub record RunOfTank (ts vs us ws : List ℕ) (t : Tank) (z h : ℕ) (first_at s
 -- every input is taken, and the calls come to an end
 pub record EveryPairTaken : Type 2 where
   pub compare_ends : {M : Type 1} → compare_code.statement M
-  pub compare_asks_nothing : (κs : Lfts 6) (a : Dens κs compare_kinds.ps) → compare.Asked κs a
+  pub compare_asks_nothing : (κs : Lfts 3) (a : Dens κs compare_kinds.ps) → compare.Asked κs a
   pub compare_run_ends : {M : Type 1} → compare_run_code.statement M
-  pub compare_run_asks_nothing : (κs : Lfts 5) (a : Dens κs compare_run_kinds.ps) → compare_run.Asked κs a
+  pub compare_run_asks_nothing : (κs : Lfts 4) (a : Dens κs compare_run_kinds.ps) → compare_run.Asked κs a
   pub exported_compare_ends : {M : Type 1} → exported_compare_code.statement M
   pub exported_compare_asks_nothing : (κs : Lfts 7) (a : Dens κs exported_compare_kinds.ps) → exported_compare.Asked κs a
 

@@ -20,6 +20,7 @@ use Rattle.laws_rows.specs.Rearranged.{Rearranged}
 use Rattle.text.specs.Table.{stored_row}
 pub use Rattle.text_ranges.specs.RangeTable.{stored_range_row}
 use Rattle.meanings_ranges.specs.declared.RangeEstimate.{RangeEstimate}
+use Rattle.meanings_ranges.specs.declared.Ranges.{Ranges}
 use Rattle.meanings_ranges.specs.Ranges.{range_estimate, range_row_width}
 use Rattle.meanings_ranges.specs.RangeLaws.{Choice, LiesWithin, MissingTogether}
 use Rattle.meanings_ranges.specs.Cases.{RangeCase, range_result, range_cases}
@@ -29,13 +30,17 @@ use Rattle.ranges.proofs.smooth_ranges.Statement as smooth_ranges_code
 use Rattle.abi_ranges.proofs.tankcurve_smooth_ranges.Reads as exported_ranges
 use Rattle.abi_ranges.proofs.tankcurve_smooth_ranges.Kinds as exported_ranges_kinds
 use Rattle.abi_ranges.proofs.tankcurve_smooth_ranges.Statement as exported_ranges_code
-use Rattle.demands.specs.Calls.{Place, lent, lent_mut, SmoothCall, ExportedSmooth}
+use Rattle.demands.specs.Calls.{Place, lent, lent_mut, marks, SmoothCall, ExportedSmooth}
 use Rattle.demands.specs.Conditions.{Conditions, no_more, condition, FirstFault, FallsAt, curve_size_conditions, windows_conditions, code_refusal}
 use Rattle.demands.specs.Demands.{RefusedAndStays, log_passes}
 
+-- readings known as ranges, their lists lent to be read
+abbrev pub ranges : Place → Place → Place → List ℕ → List ℕ → List ℕ → Ranges
+ranges x y z ts ls us = record { minutes = lent x ts; lows = lent y ls; highs = lent z us }
+
 -- calls that were made
 pub record RangesCall (ts ls us zs hs rs : List ℕ) (a : Result ℕ Refusal) (rs' : List ℕ) : Type 0 where
-  pub lifetimes : Lfts 6
+  pub lifetimes : Lfts 3
   pub minutes_at : Place
   pub lows_at : Place
   pub highs_at : Place
@@ -43,9 +48,8 @@ pub record RangesCall (ts ls us zs hs rs : List ℕ) (a : Result ℕ Refusal) (r
   pub bandwidths_at : Place
   pub rows_at : Place
   pub ensured :
-      smooth_ranges.Post lifetimes
-      (lent minutes_at ts, (lent lows_at ls, (lent highs_at us, (lent points_at zs, (lent bandwidths_at hs, (lent_mut rows_at rs, tt)))))) a
-      (lent minutes_at ts, (lent lows_at ls, (lent highs_at us, (lent points_at zs, (lent bandwidths_at hs, (lent_mut rows_at rs', tt))))))
+      smooth_ranges.Post lifetimes (ranges minutes_at lows_at highs_at ts ls us, (marks points_at bandwidths_at zs hs, (lent_mut rows_at rs, tt))) a
+      (ranges minutes_at lows_at highs_at ts ls us, (marks points_at bandwidths_at zs hs, (lent_mut rows_at rs', tt)))
 
 pub record ExportedRanges (ts ls us zs hs rs : List ℕ) (c : ℕ) (rs' : List ℕ) : Type 0 where
   pub lifetimes : Lfts 6
@@ -127,7 +131,7 @@ pub record SweptRanges (ts ls us zs hs : List ℕ) (n : ℕ) (rs' : List ℕ) : 
 pub record OverRanges : Type 2 where
   -- every input is taken, each call ends, and nothing is left for the caller to check
   pub ends : {M : Type 1} → smooth_ranges_code.statement M
-  pub asks_nothing : (κs : Lfts 6) (a : Dens κs smooth_ranges_kinds.ps) → smooth_ranges.Asked κs a
+  pub asks_nothing : (κs : Lfts 3) (a : Dens κs smooth_ranges_kinds.ps) → smooth_ranges.Asked κs a
   pub exported_ends : {M : Type 1} → exported_ranges_code.statement M
   pub exported_asks_nothing : (κs : Lfts 6) (a : Dens κs exported_ranges_kinds.ps) → exported_ranges.Asked κs a
   -- refused exactly for the first report whose condition holds; then the rows stay

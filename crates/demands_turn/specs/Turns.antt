@@ -27,18 +27,19 @@ use Rattle.turn.proofs.turn_own.Statement as turn_own_code
 use Rattle.abi_turn.proofs.tankcurve_turn.Reads as exported_turn
 use Rattle.abi_turn.proofs.tankcurve_turn.Kinds as exported_turn_kinds
 use Rattle.abi_turn.proofs.tankcurve_turn.Statement as exported_turn_code
-use Rattle.demands.specs.Calls.{Place, lent, lent_mut, EvaluateCall, AdvanceCall, RecordRowCall, ExportedAdvance, ExportedEvaluate, ExportedRecordRow}
+use Rattle.demands.specs.Calls.{Place, lent, lent_mut, readings, mark}
+use Rattle.demands.specs.Calls.{EvaluateCall, AdvanceCall, RecordRowCall, ExportedAdvance, ExportedEvaluate, ExportedRecordRow}
 use Rattle.demands.specs.Conditions.{Conditions, FirstFault, no_more, series_conditions, record_conditions, bandwidth_conditions, length_first, code_refusal}
 use Rattle.demands.specs.Demands.{RefusedAndStays, held, Steps, OrderedSteps, ExportedSteps, zeros}
 
 -- a call of the turn by value
 pub record TurnCall (r : RunningSums) (ts vs : List ℕ) (z h : ℕ) (t : Turning) : Type 0 where
-  pub lifetimes : Lfts 2
+  pub lifetimes : Lfts 1
   pub minutes_at : Place
   pub values_at : Place
   pub ensured :
-      turn_own.Post lifetimes (r, (lent minutes_at ts, (lent values_at vs, (z, (h, tt))))) t
-      (r, (lent minutes_at ts, (lent values_at vs, (z, (h, tt)))))
+      turn_own.Post lifetimes (r, (readings minutes_at values_at ts vs, (mark z h, tt))) t
+      (r, (readings minutes_at values_at ts vs, (mark z h, tt)))
 
 -- a call for C and Rust, on a lent list xs of numbers that is xs' at exit
 pub record ExportedTurn (xs ts vs : List ℕ) (z h c : ℕ) (xs' : List ℕ) : Type 0 where
@@ -74,7 +75,7 @@ pub data ExportedMotions (ts vs : List ℕ) : List ℕ → List Motion → List 
 pub record EveryTurnTaken : Type 2 where
   pub lent_turn_ends : {M : Type 1} → lent_turn_code.statement M
   pub turn_own_ends : {M : Type 1} → turn_own_code.statement M
-  pub turn_own_asks_nothing : (κs : Lfts 2) (a : Dens κs turn_own_kinds.ps) → turn_own.Asked κs a
+  pub turn_own_asks_nothing : (κs : Lfts 1) (a : Dens κs turn_own_kinds.ps) → turn_own.Asked κs a
   pub exported_turn_ends : {M : Type 1} → exported_turn_code.statement M
   pub exported_turn_asks_nothing : (κs : Lfts 3) (a : Dens κs exported_turn_kinds.ps) → exported_turn.Asked κs a
 

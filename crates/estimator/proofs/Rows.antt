@@ -4,9 +4,7 @@ use mathlib.Core.Path.{◌≡◌, ◌∙◌}
 use mathlib.Core.List.{List}
 use native.Mathlib.Nat.{zero-add, mod-eq_of_lt}
 use native.Mathlib.Omega.{arith}
-use lib.ListN.{length, get_or}
-use mir.Val.{Fits}
-use mir.Syntax.{w16}
+use lib.ListN.{length}
 use Rattle.meanings.specs.declared.Estimate.{Estimate}
 use Rattle.meanings.specs.declared.PowerSums.{PowerSums}
 use Rattle.meanings.specs.Limits.{full}
@@ -17,13 +15,14 @@ use Rattle.meanings.proofs.Steps.{Small, power_sum_bound, six_agree, six_at}
 use Rattle.meanings.proofs.SmoothRows.{record_of_window_gives_row}
 use Rattle.meanings.proofs.Window.{left_at_most_right, right_at_most_length}
 use Rattle.estimator.specs.declared.point.Span.{Span}
-use Rattle.estimator.specs.Rows.{RunWithin, RunJoined, IsSpan}
+use Rattle.estimator.specs.Rows.{RunWithin, RunJoined, IsSpan, Of16Bits}
+use Rattle.arithmetic.proofs.Zeros.{IsZeros, zeros}
 use Rattle.estimator.proofs.Searches.{run_within}
 
 -- readings of 16 bits, as their type says
 pub of_16_bits : {ts vs : List ℕ} → length ts ≡ length vs → length ts ≤ full.samples
-    → ((i : ℕ) → Fits w16 (get_or ts i 0)) → ((i : ℕ) → Fits w16 (get_or vs i 0)) → Small ts vs
-of_16_bits e f t v = record { even = e; few = f; minutes = λ i l. omega (arith, t i); values = λ i l. omega (arith, v i) }
+    → Of16Bits ts → Of16Bits vs → Small ts vs
+of_16_bits e f t v = record { even = e; few = f; minutes = λ i l. omega (arith, t.fits i); values = λ i l. omega (arith, v.fits i) }
 
 -- what is taken in from zero at a window's edges is the window's sums
 inserted_from_zero : (ts vs : List ℕ) (z h : ℕ) → Small ts vs → (z₀ r : PowerSums) (a b : ℕ) → z₀ ≡ six (λ p q. 0)
@@ -49,13 +48,13 @@ module _ {ts vs : List ℕ} {z h : ℕ} {s : Span} (a : EvaluateAccepted ts vs h
       let l : s.left ≤ s.right = omega (arith, i.left_is, i.right_is, left_at_most_right ts z h) in
       run_within a.even l (omega (arith, i.right_is, right_at_most_length ts z h))
 
-  module _ {z₀ q : PowerSums} (t : (i : ℕ) → Fits w16 (get_or ts i 0)) (v : (i : ℕ) → Fits w16 (get_or vs i 0)) (e : z₀ ≡ six (λ p q. 0))
+  module _ {z₀ q : PowerSums} (t : Of16Bits ts) (v : Of16Bits vs) (e : IsZeros z₀)
       (g : RunJoined (plus 64) z₀ ts vs s.left s.right q) where
     small : Small ts vs
     small = of_16_bits a.even a.few t v
 
     sums_are : q ≡ window_sums ts vs z h
-    sums_are = inserted_from_zero ts vs z h small z₀ q s.left s.right e i.left_is i.right_is g.sums
+    sums_are = inserted_from_zero ts vs z h small z₀ q s.left s.right (zeros e) i.left_is i.right_is g.sums
 
     pub row_of_span : {r : Estimate} → r ≡ record_row (record { left = s.left; right = s.right; sums = q; passes = 0 }) z h
         → r ≡ estimate ts vs z h

@@ -6,29 +6,21 @@ use mathlib.Core.Path.{◌≡◌, sym, ap, ◌∙◌}
 use mathlib.Core.List.{List, []}
 use native.Mathlib.Omega.{arith}
 use lib.ListN.{length, take, drop}
-use Rattle.meanings.specs.declared.Estimate.{Estimate}
 use Rattle.meanings.specs.declared.Limits.{Limits}
 use Rattle.meanings.specs.declared.Refusal.{Refusal}
-use Rattle.meanings.specs.declared.RunningSums.{RunningSums}
 use Rattle.meanings.specs.Limits.{full}
 use Rattle.meanings.specs.Lists.{Ordered}
-use Rattle.meanings.specs.Reports.{Check, given, refused, fault_of, verdict_fault, first_of, evaluate_checks, advance_checks}
-use Rattle.meanings.specs.Estimate.{estimate}
-use Rattle.meanings.specs.Running.{moved, advance}
-use Rattle.meanings.specs.Calls.{evaluate, window, window_start}
-use Rattle.meanings.proofs.Checks.{same_limits, EvaluateAccepted, AdvanceAccepted, evaluate_accepts, advance_accepts}
+use Rattle.meanings.specs.Reports.{verdict_fault, first_of, evaluate_checks}
+use Rattle.meanings.specs.Calls.{window, window_start}
+use Rattle.meanings.proofs.Checks.{same_limits, EvaluateAccepted, evaluate_accepts}
 use Rattle.meanings.proofs.Window.{left_at_most_right, right_at_most_length}
 use Rattle.estimator.specs.declared.point.Span.{Span}
-use Rattle.estimator.specs.Rows.{Judged, IsSpan}
+use Rattle.estimator.specs.Rows.{IsSpan}
 
--- the call's refusal, by what the check found
-found : (checks : Limits → List Check) {L : Limits} {v w : Result Unit Refusal} → L ≡ full → verdict_fault v ≡ first_of (checks L) → v ≡ w
-    → first_of (checks full) ≡ verdict_fault w
-found checks l f q = sym (ap verdict_fault (sym q) ∙ f ∙ ap (λ (M : Limits). first_of (checks M)) l)
-
-module _ {ts vs : List ℕ} {h : ℕ} {v : Result Unit Refusal} (j : Judged ts vs h v) where
+module _ (ts vs : List ℕ) (h : ℕ) {L : Limits} {v : Result Unit Refusal} (l : L ≡ full)
+    (f : verdict_fault v ≡ first_of (evaluate_checks L ts vs h)) where
   refusal_is : {w : Result Unit Refusal} → v ≡ w → first_of (evaluate_checks full ts vs h) ≡ verdict_fault w
-  refusal_is q = sym (ap verdict_fault (sym q) ∙ j.refusal)
+  refusal_is q = sym (ap verdict_fault (sym q) ∙ f ∙ ap (λ (M : Limits). first_of (evaluate_checks M ts vs h)) l)
 
   pub evaluate_accepted : {unit : Unit {0}} → v ≡ Ok unit → EvaluateAccepted ts vs h
   evaluate_accepted q = evaluate_accepts full (same_limits full) ts vs h (refusal_is q)
@@ -36,19 +28,11 @@ module _ {ts vs : List ℕ} {h : ℕ} {v : Result Unit Refusal} (j : Judged ts v
   pub accepted_ordered : {unit : Unit {0}} → v ≡ Ok unit → Ordered ts
   accepted_ordered q = (evaluate_accepted q).ordered
 
-  pub evaluate_refused : (z : ℕ) {e : Refusal} → v ≡ Err e → refused (fault_of e) ≡ evaluate full ts vs z h
-  unfolding evaluate
-  evaluate_refused z q = rw (refusal_is q)
-
-  pub evaluate_given : (z : ℕ) {r : Estimate} → {unit : Unit {0}} → v ≡ Ok unit → r ≡ estimate ts vs z h → given r ≡ evaluate full ts vs z h
-  unfolding evaluate
-  evaluate_given z q e = rw (refusal_is q) (ap given e)
-
   pub window_refused : (z : ℕ) {e : Refusal} → v ≡ Err e → [] ≡ window full ts vs z h
   unfolding window
   window_refused z q = rw (refusal_is q)
 
-  pub start_refused : (z p : ℕ) {e : Refusal} → v ≡ Err e → 0 * 2 + p ≡ p + window_start full ts vs z h * 2
+  pub start_refused : (z p : ℕ) {e : Refusal} → v ≡ Err e → p ≡ p + window_start full ts vs z h * 2
   unfolding window_start
   start_refused z p q = rw (refusal_is q) (omega arith)
 
@@ -69,19 +53,3 @@ module _ {ts vs : List ℕ} {h : ℕ} {v : Result Unit Refusal} (j : Judged ts v
     pub start_given : (p : ℕ) → s.left * 2 + p ≡ p + window_start full ts vs z h * 2
     unfolding window_start
     start_given p = rw (refusal_is q, i.left_is) (omega arith)
-
-module _ (ts vs : List ℕ) (r : RunningSums) (h : ℕ) {L : Limits} {v : Result Unit Refusal} (l : L ≡ full)
-    (f : verdict_fault v ≡ first_of (advance_checks L ts vs r.left r.right h)) where
-  of_advance : {w : Result Unit Refusal} → v ≡ w → first_of (advance_checks full ts vs r.left r.right h) ≡ verdict_fault w
-  of_advance = found (λ M. advance_checks M ts vs r.left r.right h) l f
-
-  pub step_accepted : {unit : Unit {0}} → v ≡ Ok unit → AdvanceAccepted ts vs r.left r.right h
-  step_accepted q = advance_accepts full (same_limits full) ts vs r.left r.right h (of_advance q)
-
-  pub advance_refused : (z : ℕ) {e : Refusal} → v ≡ Err e → refused (fault_of e) ≡ advance ts vs r z h
-  unfolding advance
-  advance_refused z q = rw (of_advance q)
-
-  pub advance_given : (z : ℕ) {r' : RunningSums} → {unit : Unit {0}} → v ≡ Ok unit → r' ≡ moved ts vs r z h → given r' ≡ advance ts vs r z h
-  unfolding advance
-  advance_given z q e = rw (of_advance q) (ap given e)

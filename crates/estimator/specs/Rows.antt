@@ -1,19 +1,10 @@
--- What the estimator's own functions ask and say: verdicts, searches, spans and six sums.
-use Rattle.std.specs.Prelude.{ℕ, ◌-◌, ◌≤◌, ◌≡◌, List, leb, length, get_or}
-use Rattle.std.specs.Prelude.{Result}
-use Rattle.meanings.specs.declared.Refusal.{Refusal}
+-- What the estimator's own functions ask and say: searches, spans and six sums.
+use Rattle.std.specs.Prelude.{ℕ, ◌-◌, ◌≤◌, ◌≡◌, List, leb, length, get_or, ◌<◌}
 use Rattle.meanings.specs.declared.PowerSums.{PowerSums}
-use Rattle.meanings.specs.Limits.{full}
 use Rattle.meanings.specs.Lists.{first}
-use Rattle.meanings.specs.Reports.{verdict_fault}
 use Rattle.meanings.specs.Running.{six, sum_at, power_sum}
-use Rattle.meanings.specs.Calls.{evaluate_refusal}
 use Rattle.meanings.specs.Estimate.{left_of, right_of}
 use Rattle.estimator.specs.declared.point.Span.{Span}
-
--- v is what the question at one mark is refused for
-pub record Judged (ts vs : List ℕ) (h : ℕ) (v : Result Unit Refusal) : Type 0 where
-  pub refusal : verdict_fault v ≡ evaluate_refusal full ts vs h
 
 -- positions from a up to b of one list, or of two
 pub record Within (ts : List ℕ) (a b : ℕ) : Type 0 where
@@ -36,3 +27,7 @@ pub record RunJoined (op : ℕ → ℕ → ℕ) (s : PowerSums) (ts vs : List �
 pub record IsSpan (ts : List ℕ) (z h : ℕ) (s : Span) : Type 0 where
   pub left_is : s.left ≡ left_of ts z h
   pub right_is : s.right ≡ right_of ts z h
+
+-- every number of a list fits 16 bits
+pub record Of16Bits (xs : List ℕ) : Type 0 where
+  pub fits : (i : ℕ) → get_or xs i 0 < 65536

@@ -3,42 +3,49 @@ ghost use Rattle.std.specs.Prelude.{◌≡◌};
 ghost use Rattle.meanings.specs.Lists.{Ordered};
 ghost use Rattle.meanings.specs.Estimate.{estimate};
 ghost use Rattle.meanings.proofs.Checks.{EvaluateAccepted};
-ghost use Rattle.estimator.specs.Rows.{IsSpan};
+ghost use Rattle.estimator.specs.Rows.{IsSpan, Of16Bits};
 
 use crate::sums::run_changed;
-use arithmetic::{Plus, zero_sums};
+use arithmetic::Plus;
 use arithmetic_values::{first_at_least, lowest_minute};
-use meanings::{Estimate, RunningSums};
+use meanings::{Estimate, Mark, PowerSums, Readings, RunningSums};
 use row::record_row;
 
 // A window's run: positions left up to but without right.
-#[derive(Clone, Copy)]
+#[derive(Clone, Copy, Debug, PartialEq, Eq)]
 pub(crate) struct Span {
     pub(crate) left: usize,
     pub(crate) right: usize,
 }
 
-pub(crate) fn span_at(minutes: &[u16], point: u16, bandwidth: u32) -> Span
+pub(crate) fn span_at(minutes: &[u16], mark: Mark) -> Span
     requires { Ordered minutes.now }
-    ensures { IsSpan minutes.now point bandwidth result }
+    ensures { IsSpan minutes.now mark.point mark.bandwidth result }
 {
-    let over = point as u64 + bandwidth as u64 + 1;
+    let over = mark.point as u64 + mark.bandwidth as u64 + 1;
     let right = first_at_least(minutes, over);
-    let left = first_at_least(minutes, lowest_minute(point, bandwidth));
+    let left = first_at_least(minutes, lowest_minute(mark));
     Span { left, right }
 }
 
-pub(crate) fn estimate_at(minutes: &[u16], values: &[u16], point: u16, bandwidth: u32) -> Estimate
-    requires { EvaluateAccepted minutes.now values.now bandwidth }
-    ensures { result ≡ estimate minutes.now values.now point bandwidth }
+// What a list's type says, which is not known of a list in a struct: its numbers fit 16 bits.
+fn of_16_bits(numbers: &[u16])
+    ensures { Of16Bits numbers.now }
+{}
+
+pub(crate) fn estimate_at(readings: Readings, mark: Mark) -> Estimate
+    requires { EvaluateAccepted readings.minutes.now readings.values.now mark.bandwidth }
+    ensures { result ≡ estimate readings.entry.minutes.now readings.entry.values.now mark.point mark.bandwidth }
 {
-    let span = span_at(minutes, point, bandwidth);
-    let sums = run_changed::<Plus>(zero_sums(), minutes, values, span.left, span.right);
+    of_16_bits(readings.minutes);
+    of_16_bits(readings.values);
+    let span = span_at(readings.minutes, mark);
+    let sums = run_changed::<Plus>(PowerSums::default(), readings, span.left, span.right);
     let window = RunningSums {
         left: span.left,
         right: span.right,
         sums,
         passes: 0,
     };
-    record_row(window, point, bandwidth)
+    record_row(window, mark)
 }

@@ -8,24 +8,19 @@ use crate::edges::first_from;
 use crate::sums::run_changed;
 use arithmetic::{Minus, Plus, plus_travel};
 use arithmetic_values::lowest_minute;
-use meanings::RunningSums;
+use meanings::{Mark, Readings, RunningSums};
 
-pub(crate) fn moved(
-    running: RunningSums,
-    minutes: &[u16],
-    values: &[u16],
-    point: u16,
-    bandwidth: u32,
-) -> RunningSums
-    requires { AdvanceAccepted minutes.now values.now running.left running.right bandwidth }
-    ensures { result ≡ moved_meaning minutes.now values.now running point bandwidth }
+pub(crate) fn moved(running: RunningSums, readings: Readings, mark: Mark) -> RunningSums
+    requires { AdvanceAccepted readings.minutes.now readings.values.now running.left running.right mark.bandwidth }
+    ensures { result ≡ moved_meaning readings.entry.minutes.now readings.entry.values.now running mark.point mark.bandwidth }
 {
-    let over = point as u64 + bandwidth as u64 + 1;
+    let minutes = readings.minutes;
+    let over = mark.point as u64 + mark.bandwidth as u64 + 1;
     let right = first_from(minutes, running.right, minutes.len(), over);
-    let low = lowest_minute(point, bandwidth);
+    let low = lowest_minute(mark);
     let left = first_from(minutes, running.left, right, low);
-    let taken = run_changed::<Plus>(running.sums, minutes, values, running.right, right);
-    let sums = run_changed::<Minus>(taken, minutes, values, running.left, left);
+    let taken = run_changed::<Plus>(running.sums, readings, running.right, right);
+    let sums = run_changed::<Minus>(taken, readings, running.left, left);
     let passes = plus_travel(running.passes, running.left, left);
     let passes = plus_travel(passes, running.right, right);
     RunningSums {

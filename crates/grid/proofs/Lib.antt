@@ -1,2 +1,1 @@
-pub mod FillVerdicts
 pub mod Fills

@@ -11,16 +11,8 @@ use checks::full;
 use checks_grid::fill_fault;
 use meanings::Refusal;
 
-// The bandwidth presets, by position.
+// The bandwidth presets, by position: of the knob a program in C hands over the position.
 const PRESETS: [u32; 12] = [30, 45, 60, 90, 120, 180, 240, 360, 480, 720, 1080, 1440];
-
-// The half width of a position.
-pub(crate) fn preset_bandwidth(preset: u32) -> u32
-    requires { preset < 12 }
-    ensures { result ≡ get_or presets preset 0 }
-{
-    PRESETS[preset as usize]
-}
 
 // Stores mark k as first + k × spacing, for every k.
 #[tactic(auto, using(crate::proofs::Fills::point_fits, crate::proofs::Fills::points_go_on, crate::proofs::Fills::points_end))]
@@ -33,14 +25,7 @@ pub(crate) fn put_points(points: &mut [u16], first: u16, spacing: u16)
     }
 }
 
-// Stores one half width everywhere.
-pub(crate) fn put_bandwidths(bandwidths: &mut [u32], bandwidth: u32)
-    ensures { bandwidths.new ≡ replicate (length bandwidths.old) bandwidth }
-{
-    bandwidths.fill(bandwidth);
-}
-
-// The mark filler.
+// The mark filler. The two lists to be written stay apart, as C lends them.
 #[tactic(auto, unfolding(meanings::specs::Calls::fill, meanings::specs::Calls::fill_points, meanings::specs::Calls::fill_bandwidths))]
 pub fn fill_grid(
     first: u16,
@@ -62,6 +47,6 @@ pub fn fill_grid(
         full(),
     )?;
     put_points(points, first, spacing);
-    put_bandwidths(bandwidths, preset_bandwidth(preset));
+    bandwidths.fill(PRESETS[preset as usize]);
     Ok(())
 }

@@ -1,15 +1,15 @@
-// The front of one list stored at the front of another. The function takes every input.
+// A list stored at the front of another. The function takes every input.
 #![tactic(auto)]
 
-ghost use Rattle.std.specs.Prelude.{◌≡◌};
+ghost use Rattle.std.specs.Prelude.{◌≡◌, length};
 ghost use Rattle.list_fronts.specs.Copied.{copied};
 
-// Stores the first n elements of one list at the front of another, or nothing where either list is shorter.
+// Stores a list at the front of another, or nothing where that is shorter.
 #[tactic(auto, using(crate::proofs::Copies::stored_front, crate::proofs::Copies::unfitting))]
-pub fn copy_front<T: Copy>(xs: &[T], n: usize, out: &mut [T])
-    ensures { out.new ≡ copied xs.now n out.old }
+pub fn copy_front<T: Copy>(xs: &[T], out: &mut [T])
+    ensures { out.new ≡ copied xs.now (length xs.now) out.old }
 {
-    if n <= xs.len() && n <= out.len() {
-        out[..n].copy_from_slice(&xs[..n]);
+    if xs.len() <= out.len() {
+        out[..xs.len()].copy_from_slice(xs);
     }
 }

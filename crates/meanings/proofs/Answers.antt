@@ -8,7 +8,6 @@ use Rattle.meanings.specs.declared.Report.TheVariants.{TooLong, BadHeader, Malfo
 use Rattle.meanings.specs.declared.Report.TheVariants.{LengthMismatch, BandwidthOutOfRange, EdgeDecreases, InvalidRecord, UnknownPreset, GridOverflow}
 use Rattle.meanings.specs.declared.Report.TheVariants.{TooFewSamples, CrossedRange, SecondSeries, TemperatureOutOfOrder}
 use Rattle.meanings.specs.declared.Refusal.{Refusal}
-use Rattle.meanings.specs.declared.RunningSums.{RunningSums}
 use Rattle.meanings.specs.Reports.{number, verdict_fault, given, refused, first_of, buffer_checks}
 use Rattle.meanings.specs.EventLog.{insertion_count, eviction_count}
 use Rattle.meanings.specs.Output.{program, outcome_text}

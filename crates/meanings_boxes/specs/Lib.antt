@@ -1,2 +1,3 @@
+pub mod Lent
 pub mod Boxes
 pub mod Cases

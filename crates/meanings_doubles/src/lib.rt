@@ -2,14 +2,14 @@
 #![tactic(auto)]
 
 // A number from 2^53 on: the remainder by 2^32 as the low part, the rest as the high part.
-#[derive(Clone, Copy)]
+#[derive(Clone, Copy, Debug, PartialEq)]
 pub struct HighLow {
     pub high: f64,
     pub low: f64,
 }
 
 // What a weight or a sum is handed over as.
-#[derive(Clone, Copy)]
+#[derive(Clone, Copy, Debug, PartialEq)]
 pub enum Cell {
     Empty,
     One(f64),
@@ -17,7 +17,7 @@ pub enum Cell {
 }
 
 // The weight and the sum of a row.
-#[derive(Clone, Copy)]
+#[derive(Clone, Copy, Debug, PartialEq)]
 pub struct RowCells {
     pub weight: Cell,
     pub sum: Cell,

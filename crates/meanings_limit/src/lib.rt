@@ -3,7 +3,7 @@
 
 // Where the curve is first at or below the limit, a position among the marks with the passes up to and with that mark; or nowhere, with the passes
 // of all marks.
-#[derive(Clone, Copy)]
+#[derive(Clone, Copy, Debug, PartialEq, Eq)]
 pub struct Located {
     pub position: Option<usize>,
     pub passes: u64,

@@ -1,2 +1,2 @@
-// Half widths by neighbours: the meaning alone, in specs/. The call answers with `Filling` of the crate meanings.
+// Half widths by neighbours: the meaning alone, in specs/. The call answers with nothing, or the report.
 #![tactic(auto)]

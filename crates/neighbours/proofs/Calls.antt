@@ -7,10 +7,7 @@ use mathlib.Core.Path.{◌≡◌, sym, ap, ◌∙◌}
 use mathlib.Core.List.{List}
 use Rattle.std.specs.Prelude.{None}
 use native.Mathlib.Omega.{arith}
-use mir.Val.{Fits}
-use mir.Syntax.{w16}
-use lib.ListN.{length, get_or}
-use Rattle.meanings.specs.declared.Limits.{Limits}
+use lib.ListN.{length}
 use Rattle.meanings.specs.declared.Refusal.{Refusal}
 use Rattle.meanings.specs.Limits.{full, max_u16}
 use Rattle.meanings.specs.Lists.{AtMost}
@@ -20,63 +17,35 @@ use Rattle.meanings.specs.Running.{fresh, passes}
 use Rattle.meanings.specs.Estimate.{rows}
 use Rattle.meanings.specs.Calls.{smooth, smooth_refusal, smooth_rows}
 use Rattle.meanings.proofs.Checks.{same_limits}
-use Rattle.meanings_neighbours.specs.Neighbours.{neighbour_bandwidths, neighbours_checks, neighbours_refusal, neighbours, bandwidths_then, rows_then}
+use Rattle.meanings_neighbours.specs.Neighbours.{neighbour_bandwidths, neighbours_checks, neighbours_refusal, rows_then}
 use Rattle.laws_neighbours.proofs.Refusals.{neighbours_accepts, sweep_accepts}
-use Rattle.neighbours.specs.Nearest.{Judged, Fillable}
+use Rattle.neighbours.specs.Nearest.{Fillable}
 
-of_16_bits : (xs : List ℕ) → ((i : ℕ) → Fits w16 (get_or xs i 0)) → AtMost max_u16 xs
-of_16_bits xs f i l = omega (arith, f i)
-
-pub judges : (ts vs zs : List ℕ) (k : ℕ) (hs : List ℕ) (n : ℕ) {L : Limits} {v : Result Unit Refusal} → L ≡ full
-    → verdict_fault v ≡ first_of (neighbours_checks L ts vs zs k hs n) → Judged ts vs zs k hs n v
-judges ts vs zs k hs n l f = record { refusal = f ∙ ap (λ (M : Limits). first_of (neighbours_checks M ts vs zs k hs n)) l }
-
--- lists that the check finds nothing in
-pub fillable : {ts vs zs : List ℕ} {k : ℕ} {hs : List ℕ} {n : ℕ} {v : Result Unit Refusal} → Judged ts vs zs k hs n v → {unit : Unit {0}} → v ≡ Ok unit
-    → Fillable ts zs k hs
-fillable {ts} {vs} {zs} {k} {hs} {n} j q =
-    let a = neighbours_accepts full ts vs zs k hs (same_limits full) n (sym j.refusal ∙ ap verdict_fault q) in
-    record {
-      low = a.low;
-      high = a.high;
-      ordered = a.ordered;
-      ordered_points = a.ordered_points;
-      even = a.even_points;
-    }
-
-module _ {ts vs zs : List ℕ} {k : ℕ} {hs : List ℕ} (rs : List ℕ) {v : Result Unit Refusal} (j : Judged ts vs zs k hs (length rs) v) where
+module _ (ts vs zs : List ℕ) (k : ℕ) (hs rs : List ℕ) {v : Result Unit Refusal}
+    (f : verdict_fault v ≡ first_of (neighbours_checks full ts vs zs k hs (length rs))) where
   found : {w : Result Unit Refusal} → v ≡ w → neighbours_refusal full ts vs zs k hs rs ≡ verdict_fault w
-  found q = sym j.refusal ∙ ap verdict_fault q
-
-  module _ {e : Refusal} (q : v ≡ Err e) where
-    pub call_refused : refused (fault_of e) ≡ neighbours full ts vs zs k hs rs
-    unfolding neighbours
-    call_refused = rw (found q)
-
-    pub bandwidths_kept : hs ≡ bandwidths_then full ts vs zs k hs rs
-    unfolding bandwidths_then
-    bandwidths_kept = rw (found q)
-
-    pub rows_kept : rs ≡ rows_then full ts vs zs k hs rs
-    unfolding rows_then
-    rows_kept = rw (found q)
+  found q = sym (ap verdict_fault (sym q) ∙ f)
 
   module _ {unit : Unit {0}} (q : v ≡ Ok unit) where
-    pub call_given : given tt ≡ neighbours full ts vs zs k hs rs
-    unfolding neighbours
-    call_given = rw (found q)
+    -- lists that the check finds nothing in
+    pub fillable : Fillable ts zs k hs
+    fillable =
+        let a = neighbours_accepts full ts vs zs k hs (same_limits full) (length rs) (found q) in
+        record {
+          low = a.low;
+          high = a.high;
+          ordered = a.ordered;
+          ordered_points = a.ordered_points;
+          even = a.even_points;
+        }
 
     module _ {P : List ℕ} (filled : P ≡ neighbour_bandwidths ts zs k) where
-      pub bandwidths_given : P ≡ bandwidths_then full ts vs zs k hs rs
-      unfolding bandwidths_then
-      bandwidths_given = rw (found q) filled
-
       -- the sweep with the new half widths
-      module _ (minutes : (i : ℕ) → Fits w16 (get_or ts i 0)) (points : (i : ℕ) → Fits w16 (get_or zs i 0)) where
+      module _ (minutes : AtMost max_u16 ts) (points : AtMost max_u16 zs) where
         accepts : smooth_refusal full ts vs zs P rs ≡ None
         accepts =
             ap (λ (h : List ℕ). smooth_refusal full ts vs zs h rs) filled
-            ∙ sweep_accepts full ts vs zs k hs rs (of_16_bits ts minutes) (of_16_bits zs points) (found q)
+            ∙ sweep_accepts full ts vs zs k hs rs minutes points (found q)
 
         pub rows_given : {R : List ℕ} → R ≡ smooth_rows full ts vs zs P rs → R ≡ rows_then full ts vs zs k hs rs
         unfolding rows_then smooth_rows

@@ -1,16 +1,8 @@
 -- What the functions under the call ask and say. ts are ordered minutes, z a mark, k is K; a start is the position of the first of k readings in
 -- a row.
 use Rattle.std.specs.Prelude.{ℕ, ◌+◌, ◌*◌, ◌≤◌, ◌<◌, ◌≡◌, List, length, get_or}
-use Rattle.std.specs.Prelude.{Result}
-use Rattle.meanings.specs.declared.Refusal.{Refusal}
-use Rattle.meanings.specs.Limits.{full}
 use Rattle.meanings.specs.Lists.{Ordered}
-use Rattle.meanings.specs.Reports.{verdict_fault, first_of}
-use Rattle.meanings_neighbours.specs.Neighbours.{neighbour_bandwidth, neighbours_checks}
-
--- v is what the call is refused for
-pub record Judged (ts vs zs : List ℕ) (k : ℕ) (hs : List ℕ) (rows : ℕ) (v : Result Unit Refusal) : Type 0 where
-  pub refusal : verdict_fault v ≡ first_of (neighbours_checks full ts vs zs k hs rows)
+use Rattle.meanings_neighbours.specs.Neighbours.{neighbour_bandwidth}
 
 -- at every start before a the sum of its minute and of the one behind its run is below twice z
 pub record StartsPassed (ts : List ℕ) (k z a : ℕ) : Type 0 where

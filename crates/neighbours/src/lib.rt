@@ -4,47 +4,59 @@
 mod nearest;
 
 ghost use Rattle.std.specs.Prelude.{◌≡◌};
-ghost use Rattle.meanings.specs.Calls.{answer_of};
+ghost use Rattle.meanings.specs.Calls.{answer_of, smooth as smooth_meaning, smooth_rows};
+ghost use Rattle.meanings.specs.Reports.{verdict_fault, first_of};
 ghost use Rattle.meanings.specs.Limits.{full as full_limits};
-ghost use Rattle.meanings_neighbours.specs.Neighbours.{neighbours as neighbours_meaning, bandwidths_then, rows_then};
-ghost use Rattle.neighbours.specs.Nearest.{Judged};
+ghost use Rattle.meanings_neighbours.specs.Neighbours.{neighbours as neighbours_meaning, neighbours_checks, bandwidths_then, rows_then};
 
 use checks::full;
 use checks_neighbours::neighbours_fault;
-use meanings::Refusal;
+use meanings::{Marks, Readings, Refusal};
 use sweep::smooth;
 
-// What the call is refused for, at the full limits.
+// What the call is refused for, at the full limits. It and the next function make the marks: a caller that lends the half widths to be written cannot,
+// since the borrow checker doesn't cover marks beside half widths that are lent anew.
 fn judged(
-    minutes: &[u16],
-    values: &[u16],
+    readings: Readings,
     points: &[u16],
     k: usize,
     bandwidths: &[u32],
     rows: usize,
 ) -> Result<(), Refusal>
-    ensures { Judged minutes.now values.now points.now k bandwidths.now rows result }
+    ensures { verdict_fault result ≡ first_of (neighbours_checks full_limits readings.entry.minutes.now readings.entry.values.now points.now k bandwidths.now rows) }
 {
-    neighbours_fault(minutes, values, points, k, bandwidths, rows, full())
+    neighbours_fault(readings, Marks { points, bandwidths }, k, rows, full())
+}
+
+// The sweep with marks and half widths in two lists.
+fn swept(
+    readings: Readings,
+    points: &[u16],
+    bandwidths: &[u32],
+    rows: &mut [u64],
+) -> Result<u64, Refusal>
+    ensures result_value { answer_of result ≡ smooth_meaning full_limits readings.entry.minutes.now readings.entry.values.now points.now bandwidths.now rows.old }
+    ensures rows_after { rows.new ≡ smooth_rows full_limits readings.entry.minutes.now readings.entry.values.now points.now bandwidths.now rows.old }
+{
+    smooth(readings, Marks { points, bandwidths }, rows)
 }
 
 // Fills in the half width of each mark by its k nearest readings, and the rows with them; or answers with the report, both lists as they were.
 #[tactic(auto, unfolding(meanings_neighbours::specs::Neighbours::neighbours, meanings_neighbours::specs::Neighbours::bandwidths_then, meanings_neighbours::specs::Neighbours::rows_then))]
 pub fn neighbours(
-    minutes: &[u16],
-    values: &[u16],
+    readings: Readings,
     points: &[u16],
     k: usize,
     bandwidths: &mut [u32],
     rows: &mut [u64],
 ) -> Result<(), Refusal>
-    ensures result_value { answer_of result ≡ neighbours_meaning full_limits minutes.now values.now points.now k bandwidths.old rows.old }
-    ensures bandwidths_after { bandwidths.new ≡ bandwidths_then full_limits minutes.now values.now points.now k bandwidths.old rows.old }
-    ensures rows_after { rows.new ≡ rows_then full_limits minutes.now values.now points.now k bandwidths.old rows.old }
+    ensures result_value { answer_of result ≡ neighbours_meaning full_limits readings.entry.minutes.now readings.entry.values.now points.now k bandwidths.old rows.old }
+    ensures bandwidths_after { bandwidths.new ≡ bandwidths_then full_limits readings.entry.minutes.now readings.entry.values.now points.now k bandwidths.old rows.old }
+    ensures rows_after { rows.new ≡ rows_then full_limits readings.entry.minutes.now readings.entry.values.now points.now k bandwidths.old rows.old }
 {
-    judged(minutes, values, points, k, bandwidths, rows.len())?;
-    nearest::put_bandwidths(minutes, points, k, bandwidths);
+    judged(readings, points, k, bandwidths, rows.len())?;
+    nearest::put_bandwidths(readings.minutes, points, k, bandwidths);
     // Never refused: with marks in order no edge of these half widths goes back, and none is out of range.
-    smooth(minutes, values, points, bandwidths, rows)?;
+    swept(readings, points, bandwidths, rows)?;
     Ok(())
 }

@@ -5,7 +5,9 @@ use mathlib.Core.List.{List, []}
 use native.Mathlib.Omega.{arith}
 use lib.ListN.{length, get_or, take, drop}
 use Rattle.std.specs.Prelude.{Option, None, Some, Result, Ok, Err}
+use Rattle.std.specs.Option.{MatchOption, IsSomeAnd}
 use Rattle.meanings.specs.declared.Limits.{Limits}
+use denote.Ref.{Bor}
 use Rattle.meanings.specs.declared.Refusal.{Refusal}
 use Rattle.meanings.specs.Limits.{full}
 use Rattle.meanings.specs.Calls.{answer_of}
@@ -38,6 +40,13 @@ without_with : (ts us zs hs : List ℕ) (a : Answer (Option Parting)) → withou
 without_with ts us zs hs (given (Some p)) = refl
 without_with ts us zs hs (given None) = refl
 without_with ts us zs hs (refused e) = refl
+
+-- by the library's `map` of a function that leaves them away
+pub mapped : (P : Bounded → Parting → Type 0) (o : Option Bounded) (m : Option Parting) → MatchOption o (m ≡ None) (λ x. IsSomeAnd m (P x))
+    → ((x : Bounded) (p : Parting) → P x p → p ≡ x.parting) → given m ≡ without_bounds (given o)
+mapped P None m h f = ap given h
+mapped P (Some x) (Some p) h f = ap (λ (q : Parting). given (Some q)) (f x p h)
+mapped P (Some x) None h f = absurd h
 
 abbrev left_in : Answer (Option Bounded) → ℕ
 left_in (given (Some b)) = b.left
@@ -82,6 +91,9 @@ module _ (ts vs us ws zs hs : List ℕ) {r : Result (Option Bounded) Refusal} (a
     pub refused_start : (p r : ℕ) → p ≡ of_tank (run_tank full ts vs us ws zs hs) p r + run_start full ts vs us ws zs hs * 2
     unfolding run_tank run_start
     refused_start p r = rw (← compare_refused) (omega arith)
+
+  pub compare_met : {o : Option Bounded} {m : Option Parting} → r ≡ Ok o → given m ≡ without_bounds (given o) → given m ≡ compare full ts vs us ws zs hs
+  compare_met q e = e ∙ left_away q
 
   module _ {o : Option Bounded} (q : r ≡ Ok o) (n : o ≡ None) where
     pub compare_alike : given None ≡ compare full ts vs us ws zs hs
@@ -137,21 +149,18 @@ module _ (ts vs us ws zs hs : List ℕ) {r : Result (Option Bounded) Refusal} (a
       first_right : d.right ≡ right_of ts (at_parting zs d) (at_parting hs d)
       first_right = right_met ∙ ap (λ (u : Tank). edge_of ts us zs hs d right_of u) h
 
-      pub first_within : d.right ≤ length vs
+      first_within : d.right ≤ length vs
       first_within = omega (arith, first_right, right_at_most_length ts (at_parting zs d) (at_parting hs d), accepted.first.even)
 
-      pub first_fits : length vs * 2 < 2 ^ 63 → d.left * 2 < 2 ^ 64
-      first_fits f = omega (arith, run_ordered, first_within)
-
-      pub first_run : take (d.right - d.left) (drop d.left vs) ≡ compare_run full ts vs us ws zs hs
+      first_run : take (d.right - d.left) (drop d.left vs) ≡ compare_run full ts vs us ws zs hs
       unfolding compare_run
       first_run = rw (← compare_apart, h, first_left, first_right)
 
-      pub first_tank : {A : Type 0} (x y : A) → x ≡ of_tank (run_tank full ts vs us ws zs hs) x y
+      first_tank : {A : Type 0} (x y : A) → x ≡ of_tank (run_tank full ts vs us ws zs hs) x y
       unfolding run_tank
       first_tank x y = rw (← compare_apart, h)
 
-      pub first_start : (p r : ℕ) → d.left * 2 + p ≡ of_tank (run_tank full ts vs us ws zs hs) p r + run_start full ts vs us ws zs hs * 2
+      first_start : (p r : ℕ) → d.left * 2 + p ≡ of_tank (run_tank full ts vs us ws zs hs) p r + run_start full ts vs us ws zs hs * 2
       unfolding run_tank run_start
       first_start p r = rw (← compare_apart, h, first_left) (omega arith)
 
@@ -162,20 +171,67 @@ module _ (ts vs us ws zs hs : List ℕ) {r : Result (Option Bounded) Refusal} (a
       second_right : d.right ≡ right_of us (at_parting zs d) (at_parting hs d)
       second_right = right_met ∙ ap (λ (u : Tank). edge_of ts us zs hs d right_of u) h
 
-      pub second_within : d.right ≤ length ws
+      second_within : d.right ≤ length ws
       second_within = omega (arith, second_right, right_at_most_length us (at_parting zs d) (at_parting hs d), accepted.second.even)
 
-      pub second_fits : length ws * 2 < 2 ^ 63 → d.left * 2 < 2 ^ 64
-      second_fits f = omega (arith, run_ordered, second_within)
-
-      pub second_run : take (d.right - d.left) (drop d.left ws) ≡ compare_run full ts vs us ws zs hs
+      second_run : take (d.right - d.left) (drop d.left ws) ≡ compare_run full ts vs us ws zs hs
       unfolding compare_run
       second_run = rw (← compare_apart, h, second_left, second_right)
 
-      pub second_tank : {A : Type 0} (x y : A) → y ≡ of_tank (run_tank full ts vs us ws zs hs) x y
+      second_tank : {A : Type 0} (x y : A) → y ≡ of_tank (run_tank full ts vs us ws zs hs) x y
       unfolding run_tank
       second_tank x y = rw (← compare_apart, h)
 
-      pub second_start : (p r : ℕ) → d.left * 2 + r ≡ of_tank (run_tank full ts vs us ws zs hs) p r + run_start full ts vs us ws zs hs * 2
+      second_start : (p r : ℕ) → d.left * 2 + r ≡ of_tank (run_tank full ts vs us ws zs hs) p r + run_start full ts vs us ws zs hs * 2
       unfolding run_tank run_start
       second_start p r = rw (← compare_apart, h, second_left) (omega arith)
+
+    -- xs is the list of the tank that is higher, and so for any other of its things
+    pub higher_within : (xs : List ℕ) → xs ≡ of_tank d.parting.higher vs ws → d.right ≤ length xs
+    higher_within xs e = by d.parting.higher refl e
+      where
+        by : (u : Tank) → d.parting.higher ≡ u → xs ≡ of_tank u vs ws → d.right ≤ length xs
+        by First h e = rw e (first_within h)
+        by Second h e = rw e (second_within h)
+
+    pub higher_fits : d.left * 2 < 2 ^ 64
+    higher_fits = by d.parting.higher refl
+      where
+        by : (u : Tank) → d.parting.higher ≡ u → d.left * 2 < 2 ^ 64
+        by First h = omega (arith, run_ordered, first_within h, accepted.first.even, accepted.first.few)
+        by Second h = omega (arith, run_ordered, second_within h, accepted.second.even, accepted.second.few)
+
+    pub higher_run : (xs : List ℕ) → xs ≡ of_tank d.parting.higher vs ws → take (d.right - d.left) (drop d.left xs) ≡ compare_run full ts vs us ws zs hs
+    higher_run xs e = by d.parting.higher refl e
+      where
+        by : (u : Tank) → d.parting.higher ≡ u → xs ≡ of_tank u vs ws → take (d.right - d.left) (drop d.left xs) ≡ compare_run full ts vs us ws zs hs
+        by First h e = rw e (first_run h)
+        by Second h e = rw e (second_run h)
+
+    pub higher_tank : {A : Type 0} (x y z : A) → z ≡ of_tank d.parting.higher x y → z ≡ of_tank (run_tank full ts vs us ws zs hs) x y
+    unfolding run_tank
+    higher_tank x y z e = e ∙ rw (← compare_apart)
+
+    pub higher_start : (p r s : ℕ) → s ≡ of_tank d.parting.higher p r
+        → d.left * 2 + s ≡ of_tank (run_tank full ts vs us ws zs hs) p r + run_start full ts vs us ws zs hs * 2
+    higher_start p r s e = by d.parting.higher refl e
+      where
+        by : (u : Tank) → d.parting.higher ≡ u → s ≡ of_tank u p r
+            → d.left * 2 + s ≡ of_tank (run_tank full ts vs us ws zs hs) p r + run_start full ts vs us ws zs hs * 2
+        by First h e = rw e (first_start h p r)
+        by Second h e = rw e (second_start h p r)
+
+-- what is chosen of two tanks' values is chosen of what they hold and of where they lie
+picked : {A B : Type 0} (f : A → B) (u : Tank) (a b : A) → f (of_tank u a b) ≡ of_tank u (f a) (f b)
+picked f First a b = refl
+picked f Second a b = refl
+
+module _ (u : Tank) (r a b : Bor (List ℕ)) (e : r ≡ of_tank u a b) where
+  pub values_of : r.now ≡ of_tank u a.now b.now
+  values_of = ap (λ (x : Bor (List ℕ)). x.now) e ∙ picked (λ (x : Bor (List ℕ)). x.now) u a b
+
+  pub place_of : r.ref_ptr.0 ≡ of_tank u a.ref_ptr.0 b.ref_ptr.0
+  place_of = ap (λ (x : Bor (List ℕ)). x.ref_ptr.0) e ∙ picked (λ (x : Bor (List ℕ)). x.ref_ptr.0) u a b
+
+  pub start_of : r.ref_ptr.1 ≡ of_tank u a.ref_ptr.1 b.ref_ptr.1
+  start_of = ap (λ (x : Bor (List ℕ)). x.ref_ptr.1) e ∙ picked (λ (x : Bor (List ℕ)). x.ref_ptr.1) u a b

@@ -1,12 +1,10 @@
 -- The invariant of the search: the values of all marks before k agree, and both records are those of k steps. So the rows that they give are the
 -- mark's, and the first two whose values differ are those of the first such mark.
-use Prim.Native.Nat.{ℕ, ◌+◌, ◌≤◌, ◌<◌, zero-le}
+use Prim.Native.Nat.{ℕ, ◌+◌, ◌≤◌, ◌<◌}
 use mathlib.Core.Path.{◌≡◌, sym, ap, ◌∙◌}
 use mathlib.Core.Bool.{Bool, true, false}
 use mathlib.Core.List.{List}
 use native.Mathlib.Omega.{arith}
-use mir.Val.{Fits}
-use mir.Syntax.{w16}
 use lib.ListN.{length, get_or}
 use Rattle.std.specs.Prelude.{None, Some}
 use Rattle.meanings.specs.declared.Estimate.{Estimate}
@@ -16,10 +14,9 @@ use Rattle.meanings.specs.Estimate.{estimate}
 use Rattle.meanings.proofs.Search.{NoneBelow, one_more_below, none_lowest, lowest_at}
 use Rattle.meanings_pair.specs.declared.Bounded.{Bounded}
 use Rattle.meanings_pair.specs.Comparison.{unlike, unlike_at, split_of}
-use Rattle.meanings_pair.proofs.Accepted.{PairAccepted}
 use Rattle.stepping.specs.declared.Reached.{Reached}
-use Rattle.stepping.specs.Steps.{IsFresh, SteppedRow}
-use Rattle.stepping.proofs.Sweeping.{SteppedTo, steps_begin, steps_go_on, row_there}
+use Rattle.stepping.specs.Steps.{SteppedRow}
+use Rattle.stepping.proofs.Sweeping.{SteppedTo, steps_go_on, row_there}
 use Rattle.pair.specs.Search.{Searched}
 
 pub record AlikeTo (ts vs us ws zs hs : List ℕ) (k : ℕ) (r s : RunningSums) : Type 0 where
@@ -27,16 +24,6 @@ pub record AlikeTo (ts vs us ws zs hs : List ℕ) (k : ℕ) (r s : RunningSums) 
   pub second : SteppedTo us ws zs hs k s
   pub upto : k ≤ length zs
   pub alike : NoneBelow (unlike_at ts vs us ws zs hs) k
-
-pub search_begins : {ts vs us ws zs hs : List ℕ} {r s : RunningSums} → PairAccepted ts vs us ws zs hs → ((i : ℕ) → Fits w16 (get_or ts i 0))
-    → ((i : ℕ) → Fits w16 (get_or vs i 0)) → ((i : ℕ) → Fits w16 (get_or us i 0)) → ((i : ℕ) → Fits w16 (get_or ws i 0)) → IsFresh r → IsFresh s
-    → AlikeTo ts vs us ws zs hs 0 r s
-search_begins a t v u w f g = record {
-  first = steps_begin a.first t v f;
-  second = steps_begin a.second u w g;
-  upto = zero-le;
-  alike = λ j l. absurd (omega arith);
-}
 
 module _ {ts vs us ws zs hs : List ℕ} {k : ℕ} {r s : RunningSums} (w : AlikeTo ts vs us ws zs hs k r s) where
   pub alike_throughout : length zs ≤ k → Searched ts vs us ws zs hs None

@@ -7,38 +7,44 @@ ghost use Rattle.meanings.specs.Calls.{answer_of};
 ghost use Rattle.meanings.specs.Limits.{full as full_limits};
 ghost use Rattle.meanings_pair.specs.Comparison.{of_tank, compare as compare_meaning, compare_bounds, compare_run, run_tank, run_start};
 ghost use Rattle.meanings_pair.proofs.Accepted.{PairAccepted};
+ghost use Rattle.estimator.specs.Rows.{Of16Bits};
 ghost use Rattle.pair.specs.Search.{Searched};
 
 use checks::full;
 use checks_pair::compare_fault;
-use meanings::Refusal;
-use meanings_pair::{Bounded, Parting, Tank};
+use meanings::{Mark, Marks, Readings, Refusal, RunningSums};
+use meanings_pair::{Bounded, Parting};
 use ranking::{split_at, unlike};
-use stepping::{fresh_record, step_beside, step_to};
+use stepping::{step_beside, step_to};
+
+// What a list's type says, which is not known of a list in a struct: its numbers fit 16 bits.
+fn of_16_bits(numbers: &[u16])
+    ensures { Of16Bits numbers.now }
+{}
 
 // The search in accepted lists.
-fn parted(
-    minutes1: &[u16],
-    values1: &[u16],
-    minutes2: &[u16],
-    values2: &[u16],
-    points: &[u16],
-    bandwidths: &[u32],
-) -> Option<Bounded>
-    requires { PairAccepted minutes1.now values1.now minutes2.now values2.now points.now bandwidths.now }
-    ensures { Searched minutes1.now values1.now minutes2.now values2.now points.now bandwidths.now result }
+fn parted(first: Readings, second: Readings, marks: Marks) -> Option<Bounded>
+    requires { PairAccepted first.minutes.now first.values.now second.minutes.now second.values.now marks.points.now marks.bandwidths.now }
+    ensures { Searched first.entry.minutes.now first.entry.values.now second.entry.minutes.now second.entry.values.now marks.entry.points.now marks.entry.bandwidths.now result }
 {
-    let mut first = fresh_record();
-    let mut second = fresh_record();
-    for (k, point) in points.iter().enumerate() {
-        let bandwidth = bandwidths[k];
-        let one = step_to(first, minutes1, values1, *point, bandwidth);
-        let two = step_beside(second, minutes2, values2, *point, bandwidth);
+    of_16_bits(first.minutes);
+    of_16_bits(first.values);
+    of_16_bits(second.minutes);
+    of_16_bits(second.values);
+    let mut running1 = RunningSums::default();
+    let mut running2 = RunningSums::default();
+    for k in 0..marks.points.len() {
+        let mark = Mark {
+            point: marks.points[k],
+            bandwidth: marks.bandwidths[k],
+        };
+        let one = step_to(running1, first, mark);
+        let two = step_beside(running2, second, mark);
         if unlike(one.row, two.row) {
             return Some(split_at(k, one.row, two.row));
         }
-        first = one.running;
-        second = two.running;
+        running1 = one.running;
+        running2 = two.running;
     }
     None
 }
@@ -46,65 +52,53 @@ fn parted(
 // Where two tanks part, the tank that is higher there and the bounds of its run; alike; or the report. The calls below and the exported one are made
 // of it.
 #[tactic(auto, unfolding(meanings_pair::specs::Comparison::compare, meanings_pair::specs::Comparison::compare_bounds))]
-pub fn part(
-    minutes1: &[u16],
-    values1: &[u16],
-    minutes2: &[u16],
-    values2: &[u16],
-    points: &[u16],
-    bandwidths: &[u32],
-) -> Result<Option<Bounded>, Refusal>
-    ensures { answer_of result ≡ compare_bounds full_limits minutes1.now values1.now minutes2.now values2.now points.now bandwidths.now }
+pub fn part(first: Readings, second: Readings, marks: Marks) -> Result<Option<Bounded>, Refusal>
+    ensures { answer_of result ≡ compare_bounds full_limits first.entry.minutes.now first.entry.values.now second.entry.minutes.now second.entry.values.now marks.entry.points.now marks.entry.bandwidths.now }
 {
-    compare_fault(
-        minutes1,
-        values1,
-        minutes2,
-        values2,
-        points,
-        bandwidths,
-        full(),
-    )?;
-    Ok(parted(minutes1, values1, minutes2, values2, points, bandwidths))
+    compare_fault(first, second, marks, full())?;
+    Ok(parted(first, second, marks))
 }
 
 // The first mark at which the tanks' values differ and the tank that is higher there; alike; or the report.
-pub fn compare(
-    minutes1: &[u16],
-    values1: &[u16],
-    minutes2: &[u16],
-    values2: &[u16],
-    points: &[u16],
-    bandwidths: &[u32],
-) -> Result<Option<Parting>, Refusal>
-    ensures { answer_of result ≡ compare_meaning full_limits minutes1.now values1.now minutes2.now values2.now points.now bandwidths.now }
+pub fn compare(first: Readings, second: Readings, marks: Marks) -> Result<Option<Parting>, Refusal>
+    ensures { answer_of result ≡ compare_meaning full_limits first.entry.minutes.now first.entry.values.now second.entry.minutes.now second.entry.values.now marks.entry.points.now marks.entry.bandwidths.now }
 {
-    match part(minutes1, values1, minutes2, values2, points, bandwidths)? {
-        Some(bounded) => Ok(Some(bounded.parting)),
-        None => Ok(None),
-    }
+    let parting = part(first, second, marks)?;
+    Ok(parting.map(
+        |bounded|
+            ensures { result ≡ bounded.parting }
+        { bounded.parting },
+    ))
 }
 
 // The same question's run, as a part of the higher tank's own values: where the tanks do not part, and on a refusal, the empty part at the start of
-// the first tank's.
+// the first tank's. It was promised to callers as a part whatever the answer, so it is no Option. The lists stay apart, since the answer borrows the
+// values and not the minutes.
 pub fn compare_run<'a>(
     minutes1: &[u16],
     values1: &'a [u16],
     minutes2: &[u16],
     values2: &'a [u16],
-    points: &[u16],
-    bandwidths: &[u32],
+    marks: Marks,
 ) -> &'a [u16]
-    ensures result_value { result.now ≡ compare_run full_limits minutes1.now values1.now minutes2.now values2.now points.now bandwidths.now }
-    ensures ref_ptr_value { (result.ref_ptr.0 ≡ of_tank (run_tank full_limits minutes1.now values1.now minutes2.now values2.now points.now bandwidths.now) values1.entry.ref_ptr.0 values2.entry.ref_ptr.0) × (result.ref_ptr.1 ≡ of_tank (run_tank full_limits minutes1.now values1.now minutes2.now values2.now points.now bandwidths.now) values1.entry.ref_ptr.1 values2.entry.ref_ptr.1 + run_start full_limits minutes1.now values1.now minutes2.now values2.now points.now bandwidths.now * 2) }
+    ensures result_value { result.now ≡ compare_run full_limits minutes1.now values1.now minutes2.now values2.now marks.entry.points.now marks.entry.bandwidths.now }
+    ensures ref_ptr_value { (result.ref_ptr.0 ≡ of_tank (run_tank full_limits minutes1.now values1.now minutes2.now values2.now marks.entry.points.now marks.entry.bandwidths.now) values1.entry.ref_ptr.0 values2.entry.ref_ptr.0) × (result.ref_ptr.1 ≡ of_tank (run_tank full_limits minutes1.now values1.now minutes2.now values2.now marks.entry.points.now marks.entry.bandwidths.now) values1.entry.ref_ptr.1 values2.entry.ref_ptr.1 + run_start full_limits minutes1.now values1.now minutes2.now values2.now marks.entry.points.now marks.entry.bandwidths.now * 2) }
 {
-    match part(minutes1, values1, minutes2, values2, points, bandwidths) {
+    let first = Readings {
+        minutes: minutes1,
+        values: values1,
+    };
+    let second = Readings {
+        minutes: minutes2,
+        values: values2,
+    };
+    match part(first, second, marks) {
         // two arms for one part: behind an or-pattern or a let-else the proof is not told which of both was met
         Err(_) => &values1[..0],
         Ok(None) => &values1[..0],
-        Ok(Some(bounded)) => match bounded.parting.higher {
-            Tank::First => &values1[bounded.left..bounded.right],
-            Tank::Second => &values2[bounded.left..bounded.right],
-        },
+        Ok(Some(bounded)) => {
+            let higher = bounded.parting.higher.of(values1, values2);
+            &higher[bounded.left..bounded.right]
+        }
     }
 }

@@ -7,30 +7,35 @@ use Rattle.meanings.specs.Running.{six, sum_at, record_row}
 use Rattle.meanings_ranges.specs.declared.RangeEstimate.{RangeEstimate}
 use Rattle.range_sums.specs.declared.BothSums.{BothSums}
 use Rattle.range_sums.specs.declared.BothRecord.{BothRecord}
+use Rattle.range_sums.specs.declared.ValueSums.{ValueSums}
+
+-- the six sums of a side, of which v are the three that values move
+abbrev pub side_sums : BothSums → ValueSums → PowerSums
+side_sums s v = record { s00 = s.s00; s10 = s.s10; s20 = s.s20; s01 = v.s01; s11 = v.s11; s21 = v.s21 }
 
 abbrev pub low_sums : BothSums → PowerSums
-low_sums s =
-    record { s00 = s.s00; s10 = s.s10; s20 = s.s20; s01 = s.low.s01; s11 = s.low.s11; s21 = s.low.s21 }
+low_sums s = side_sums s s.low
 
 abbrev pub high_sums : BothSums → PowerSums
-high_sums s =
-    record { s00 = s.s00; s10 = s.s10; s20 = s.s20; s01 = s.high.s01; s11 = s.high.s11; s21 = s.high.s21 }
+high_sums s = side_sums s s.high
+
+-- the three sums that values move, of six
+abbrev pub value_sums : PowerSums → ValueSums
+value_sums s = record { s01 = s.s01; s11 = s.s11; s21 = s.s21 }
 
 -- both together, where the sums without values are the same
 abbrev pub beside : PowerSums → PowerSums → BothSums
-beside l u = record {
-  s00 = l.s00;
-  s10 = l.s10;
-  s20 = l.s20;
-  low = record { s01 = l.s01; s11 = l.s11; s21 = l.s21 };
-  high = record { s01 = u.s01; s11 = u.s11; s21 = u.s21 };
-}
+beside l u = record { s00 = l.s00; s10 = l.s10; s20 = l.s20; low = value_sums l; high = value_sums u }
+
+-- the record of a side
+abbrev pub side_record : BothRecord → ValueSums → RunningSums
+side_record r v = record { left = r.left; right = r.right; sums = side_sums r.sums v; passes = r.passes }
 
 abbrev pub low_record : BothRecord → RunningSums
-low_record r = record { left = r.left; right = r.right; sums = low_sums r.sums; passes = r.passes }
+low_record r = side_record r r.sums.low
 
 abbrev pub high_record : BothRecord → RunningSums
-high_record r = record { left = r.left; right = r.right; sums = high_sums r.sums; passes = r.passes }
+high_record r = side_record r r.sums.high
 
 -- each sum, joined by op with the term of a reading at minute t, from l to u, makes r's
 pub record RangeJoined (op : ℕ → ℕ → ℕ) (s : BothSums) (t l u : ℕ) (r : BothSums) : Type 0 where

@@ -3,24 +3,24 @@
 #![tactic(auto)]
 
 ghost use Rattle.std.specs.Prelude.{◌≡◌};
-ghost use Rattle.range_sums.specs.Both.{low_sums, high_sums, beside, RangeJoined, RowOfBoth};
+ghost use Rattle.range_sums.specs.Both.{side_sums, side_record, beside, RangeJoined, RowOfBoth};
 
 use arithmetic::{Change, sample_changed};
-use arithmetic_products::wrapping_combined;
-use arithmetic_values::value;
-use meanings::PowerSums;
+use meanings::{Mark, PowerSums, RunningSums};
 use meanings_ranges::{Bounds, RangeEstimate};
+use row::record_row;
 
 // The three sums that values move.
-#[derive(Clone, Copy)]
+#[derive(Clone, Copy, Debug, Default, PartialEq, Eq)]
 pub struct ValueSums {
     pub s01: u64,
     pub s11: u64,
     pub s21: u64,
 }
 
-// Six sums of the lows and six of the highs.
-#[derive(Clone, Copy)]
+// Six sums of the lows and six of the highs. No one record with PowerSums: that has the six numbers of the C interface, and a form generic in what
+// values move would stand in each theorem of it.
+#[derive(Clone, Copy, Debug, Default, PartialEq, Eq)]
 pub struct BothSums {
     pub s00: u64,
     pub s10: u64,
@@ -29,8 +29,9 @@ pub struct BothSums {
     pub high: ValueSums,
 }
 
-// A running record of each, with the same edges and passes.
-#[derive(Clone, Copy)]
+// A running record of each, with the same edges and passes. Beside RunningSums, as BothSums beside PowerSums: a record generic in its sums would put
+// its parameter into each theorem of the single one.
+#[derive(Clone, Copy, Debug, Default, PartialEq, Eq)]
 pub struct BothRecord {
     pub left: usize,
     pub right: usize,
@@ -38,31 +39,47 @@ pub struct BothRecord {
     pub passes: u64,
 }
 
-// The six sums of the lows.
-pub(crate) fn low_six(s: BothSums) -> PowerSums
-    ensures { result ≡ low_sums s }
-{
-    PowerSums {
-        s00: s.s00,
-        s10: s.s10,
-        s20: s.s20,
-        s01: s.low.s01,
-        s11: s.low.s11,
-        s21: s.low.s21,
+impl From<PowerSums> for ValueSums {
+    ghost use Rattle.range_sums.specs.Both.{value_sums};
+
+    ghost from_gives = { λ s r. r ≡ value_sums s };
+
+    fn from(s: PowerSums) -> ValueSums {
+        ValueSums {
+            s01: s.s01,
+            s11: s.s11,
+            s21: s.s21,
+        }
     }
 }
 
-// The six sums of the highs.
-pub(crate) fn high_six(s: BothSums) -> PowerSums
-    ensures { result ≡ high_sums s }
-{
-    PowerSums {
-        s00: s.s00,
-        s10: s.s10,
-        s20: s.s20,
-        s01: s.high.s01,
-        s11: s.high.s11,
-        s21: s.high.s21,
+impl BothSums {
+    // The six sums of one side, of which these are the three that values move.
+    pub(crate) fn six(self, side: ValueSums) -> PowerSums
+        ensures { result ≡ side_sums self side }
+    {
+        PowerSums {
+            s00: self.s00,
+            s10: self.s10,
+            s20: self.s20,
+            s01: side.s01,
+            s11: side.s11,
+            s21: side.s21,
+        }
+    }
+}
+
+impl BothRecord {
+    // The record of one side.
+    pub(crate) fn side(self, side: ValueSums) -> RunningSums
+        ensures { result ≡ side_record self side }
+    {
+        RunningSums {
+            left: self.left,
+            right: self.right,
+            sums: self.sums.six(side),
+            passes: self.passes,
+        }
     }
 }
 
@@ -74,16 +91,8 @@ pub(crate) fn side_by_side(low: PowerSums, high: PowerSums) -> BothSums
         s00: low.s00,
         s10: low.s10,
         s20: low.s20,
-        low: ValueSums {
-            s01: low.s01,
-            s11: low.s11,
-            s21: low.s21,
-        },
-        high: ValueSums {
-            s01: high.s01,
-            s11: high.s11,
-            s21: high.s21,
-        },
+        low: ValueSums::from(low),
+        high: ValueSums::from(high),
     }
 }
 
@@ -91,27 +100,28 @@ pub(crate) fn side_by_side(low: PowerSums, high: PowerSums) -> BothSums
 pub fn range_changed<C: Change>(s: BothSums, time: u16, low: u16, high: u16) -> BothSums
     ensures { RangeJoined C.op s time low high result }
 {
-    let below = sample_changed::<C>(low_six(s), time, low);
-    let above = sample_changed::<C>(high_six(s), time, high);
+    let below = sample_changed::<C>(s.six(s.low), time, low);
+    let above = sample_changed::<C>(s.six(s.high), time, high);
     side_by_side(below, above)
 }
 
 // The row of both records at a mark with any half width.
-pub fn both_row(running: BothRecord, point: u16, bandwidth: u32) -> RangeEstimate
-    ensures { RowOfBoth running point bandwidth result }
+pub fn both_row(running: BothRecord, mark: Mark) -> RangeEstimate
+    ensures { RowOfBoth running mark.point mark.bandwidth result }
 {
-    let s = running.sums;
-    let weight = wrapping_combined(s.s00, s.s10, s.s20, point, bandwidth);
-    let low = wrapping_combined(s.low.s01, s.low.s11, s.low.s21, point, bandwidth);
-    let high = wrapping_combined(s.high.s01, s.high.s11, s.high.s21, point, bandwidth);
+    let low = record_row(running.side(running.sums.low), mark);
+    let high = record_row(running.side(running.sums.high), mark);
     RangeEstimate {
-        left: running.left as u64,
-        right: running.right as u64,
-        weight,
-        sum: Bounds { low, high },
+        left: low.left,
+        right: low.right,
+        weight: low.weight,
+        sum: Bounds {
+            low: low.sum,
+            high: high.sum,
+        },
         value: Bounds {
-            low: value(low, weight),
-            high: value(high, weight),
+            low: low.value,
+            high: high.value,
         },
     }
 }

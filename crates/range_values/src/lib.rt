@@ -9,10 +9,11 @@ ghost use Rattle.range_values.specs.ReadingValues.{reading_values};
 
 use meanings_ranges::Kind;
 use sheet_fields::numbers;
-use sheet_values::{ranged_sample, sample_line};
+use sheet_values::{SampleLine, ranged_sample, sample_line};
 
-// The values of a reading line: minute, inj, and the lowest and the highest that the value can be.
-#[derive(Clone, Copy)]
+// The values of a reading line: minute, inj, and the lowest and the highest that the value can be. SampleLine stands beside it, since the reader of
+// plain sheets keeps one value.
+#[derive(Clone, Copy, Debug, PartialEq, Eq)]
 pub struct ReadingLine {
     pub minute: u16,
     pub injection: u16,
@@ -20,17 +21,29 @@ pub struct ReadingLine {
     pub high: u16,
 }
 
-// Four numbers as a reading line's values, if each is in its range.
+impl From<SampleLine> for ReadingLine {
+    ghost from_gives = { λ plain r. r ≡ record { minute = plain.minute; injection = plain.injection; low = plain.value; high = plain.value } };
+
+    // A plain line's values: its value stands as low and high.
+    fn from(plain: SampleLine) -> ReadingLine {
+        ReadingLine {
+            minute: plain.minute,
+            injection: plain.injection,
+            low: plain.value,
+            high: plain.value,
+        }
+    }
+}
+
+// Four numbers as a reading line's values, if each is in its range; None as of a line of another form, so no TryFrom with an error of its own.
 pub fn ranged_reading(minute: u32, injection: u32, low: u32, high: u32) -> Option<ReadingLine>
     ensures { reading_values result ≡ with_high (ranged_sample (Some minute) (Some injection) (Some low)) (Some high) }
 {
-    let sample = ranged_sample(minute, injection, low)?;
+    let plain = ranged_sample(minute, injection, low)?;
     let high = u16::try_from(high).ok()?;
     Some(ReadingLine {
-        minute: sample.minute,
-        injection: sample.injection,
-        low: sample.value,
         high,
+        ..plain.into()
     })
 }
 
@@ -46,16 +59,10 @@ pub fn range_line(text: &[u8]) -> Option<ReadingLine>
 pub fn plain_line(text: &[u8]) -> Option<ReadingLine>
     ensures { reading_values result ≡ reading_line Plain text.now }
 {
-    let plain = sample_line(text)?;
-    Some(ReadingLine {
-        minute: plain.minute,
-        injection: plain.injection,
-        low: plain.value,
-        high: plain.value,
-    })
+    Some(sample_line(text)?.into())
 }
 
-// The values of a line's text in a sheet of this kind.
+// The values of a line's text in a sheet of this kind. The kind is known only once the sheet is read, so it is a value that is matched on.
 pub fn reading_line(kind: Kind, text: &[u8]) -> Option<ReadingLine>
     ensures { reading_values result ≡ reading_line kind text.now }
 {

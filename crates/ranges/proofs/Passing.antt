@@ -2,11 +2,10 @@
 use Prim.Native.Nat.{ℕ, ◌+◌, ◌-◌, ◌^◌, ◌≤◌, ◌<◌}
 use mathlib.Core.Path.{◌≡◌}
 use mathlib.Core.List.{List}
-use native.Mathlib.Omega.{arith}
 use lib.ListN.{length, get_or}
 use Rattle.meanings.specs.Lists.{distance}
 use Rattle.meanings.specs.Running.{plus, minus}
-use Rattle.estimator.proofs.Laws.{Small, Joined, run_begins, run_grows, run_ends, Searched, search_begins, search_goes_on, search_finds, search_ends}
+use Rattle.estimator.proofs.Laws.{Small, Joined, run_begins, run_grows, Searched, search_begins, search_goes_on, search_finds}
 use Rattle.estimator.proofs.Moves.{six_parts_move}
 use Rattle.estimator.proofs.Searches.{run_within, left_starts_within}
 use Rattle.range_sums.specs.declared.BothRecord.{BothRecord}
@@ -42,16 +41,7 @@ module _ {op : ℕ → ℕ → ℕ} {s : BothSums} {ts ls us : List ℕ} {a b m 
     pub passing_stops : i < b → m ≤ get_or ts i 0 → BothPassed op s ts ls us a b m (record { at = i; sums = r })
     passing_stops l t = record { stops = search_finds p.searched l t; low = p.low.joined; high = p.high.joined }
 
-    pub passing_ends : b ≤ i → BothPassed op s ts ls us a b m (record { at = b; sums = r })
-    passing_ends l = record { stops = search_ends p.searched l; low = run_ends p.low l; high = run_ends p.high l }
-
--- the right edge's way lies within the readings, and so does the left one's
-pub right_way_within : {ts ls us : List ℕ} {l₀ r₀ h : ℕ} → BothAccepted ts ls us l₀ r₀ h → RangesWithin ts ls us r₀ (length ts)
-right_way_within a = record {
-  low = run_within a.low.even a.low.inside (omega arith);
-  high = run_within a.high.even a.high.inside (omega arith);
-}
-
+-- the left edge's way lies within the readings
 pub left_way_within : {ts ls us : List ℕ} {l₀ r₀ h m : ℕ} {s : BothSums} {e : Edge BothSums} → BothAccepted ts ls us l₀ r₀ h
     → BothPassed (plus 64) s ts ls us r₀ (length ts) m e → RangesWithin ts ls us l₀ e.at
 left_way_within a p =

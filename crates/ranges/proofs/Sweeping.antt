@@ -1,33 +1,30 @@
 -- The invariant of the sweep: after k marks the rows of those stand in front of what the list held, and either record is the one after k steps over
 -- its own values.
-use Prim.Native.Nat.{ℕ, suc, ◌+◌, ◌*◌, ◌^◌, ◌≤◌, ◌<◌, zero-le}
-use Rattle.std.specs.Prelude.{Result, Ok, Err}
+use Prim.Native.Nat.{ℕ, suc, ◌+◌, ◌*◌, ◌^◌, ◌≤◌, ◌<◌}
+use Rattle.std.specs.Prelude.{Result, Ok}
 use mathlib.Core.Path.{◌≡◌, refl, sym, ap, ◌∙◌}
-use mathlib.Core.List.{List, ◌++◌, append-nil}
+use mathlib.Core.List.{List, ◌++◌}
 use native.Mathlib.Numerals.{add-one}
 use native.Mathlib.Omega.{arith}
-use mir.Val.{Fits}
-use mir.Syntax.{w16}
-use lib.ListN.{length, get_or, drop, length-append, length-drop, drop_of_length-le}
+use lib.ListN.{length, get_or, drop, length-append, length-drop}
 use lib.Seq.{sets, sets-eq, take_at, drop-append-add, drop-drop}
 use Rattle.meanings.specs.declared.Limits.{Limits}
 use Rattle.meanings.specs.declared.Refusal.{Refusal}
 use Rattle.meanings.specs.declared.RunningSums.{RunningSums}
 use Rattle.meanings.specs.Limits.{full}
-use Rattle.meanings.specs.Reports.{given, refused, fault_of, verdict_fault, first_of}
+use Rattle.meanings.specs.Reports.{verdict_fault, first_of}
 use Rattle.meanings.specs.Moves.{moves}
 use Rattle.meanings.specs.Running.{fresh, moved, next_record, after_step, record_row, passes}
 use Rattle.meanings.proofs.Checks.{same_limits, AdvanceAccepted}
 use Rattle.meanings.proofs.SmoothSteps.{running_at, running_within, step_lands, step_accepted, passes_are_edges}
 use Rattle.meanings_ranges.specs.Ranges.{range_estimate, range_fields, range_row_width, range_rows, range_checks, range_refusal}
-use Rattle.meanings_ranges.specs.Ranges.{smooth_ranges, smooth_ranges_rows}
 use Rattle.meanings_ranges.proofs.Sweeps.{range_rows_length, ranges_accept, lows_accepted, highs_accepted}
 use Rattle.meanings_ranges.specs.declared.RangeEstimate.{RangeEstimate}
 use Rattle.stepping.specs.Steps.{SteppedRow}
-use Rattle.stepping.proofs.Sweeping.{SteppedTo, steps_begin, edges_fit, steps_go_on, row_there}
+use Rattle.stepping.proofs.Sweeping.{SteppedTo, edges_fit, steps_go_on, row_there}
 use Rattle.range_sums.specs.declared.BothRecord.{BothRecord}
 use Rattle.range_sums.specs.Both.{low_record, high_record, RowOfBoth}
-use Rattle.ranges.specs.Steps.{BothAccepted, BothMoved, BothFresh}
+use Rattle.ranges.specs.Steps.{BothAccepted, BothMoved}
 use Rattle.ranges.specs.Sweep.{SweepAccepted}
 
 -- values stored behind a front of n
@@ -48,17 +45,6 @@ pub record SweptTo (ts ls us zs hs R₀ : List ℕ) (k : ℕ) (R : List ℕ) (r 
   pub rows_fit : length R₀ ≡ range_row_width * length zs
   pub upto : k ≤ length zs
   pub stored : R ≡ range_rows ts ls us zs hs k ++ drop (range_row_width * k) R₀
-
-pub sweep_begins : {ts ls us zs hs R₀ : List ℕ} {r : BothRecord} → SweepAccepted ts ls us zs hs (length R₀)
-    → ((i : ℕ) → Fits w16 (get_or ts i 0)) → ((i : ℕ) → Fits w16 (get_or ls i 0)) → ((i : ℕ) → Fits w16 (get_or us i 0))
-    → BothFresh r → SweptTo ts ls us zs hs R₀ 0 R₀ r
-sweep_begins a t v w f = record {
-  low = steps_begin a.lows t v (record { zeros = f.low });
-  high = steps_begin a.highs t w (record { zeros = f.high });
-  rows_fit = a.rows_fit;
-  upto = zero-le;
-  stored = refl;
-}
 
 -- of one record: the next step is accepted, and what it moves to is the record after a step
 module _ {ts vs zs hs : List ℕ} {k : ℕ} {r : RunningSums} (w : SteppedTo ts vs zs hs k r) (m : k < length zs) where
@@ -100,9 +86,6 @@ module _ {ts ls us zs hs R₀ : List ℕ} {k : ℕ} {R : List ℕ} {r : BothReco
   pub both_accepted : k < length zs → BothAccepted ts ls us r.left r.right (get_or hs k 0)
   both_accepted m = record { low = move_accepted w.low m; high = move_accepted w.high m }
 
-  pub row_has_room : k < length zs → range_row_width * k + range_row_width ≤ length R
-  row_has_room m = omega (arith, stored_length, w.rows_fit)
-
   pub sweep_goes_on : {r' : BothRecord} {e : RangeEstimate} {R' : List ℕ} → k < length zs → BothMoved ts ls us r (get_or zs k 0) (get_or hs k 0) r'
       → RowOfBoth r' (get_or zs k 0) (get_or hs k 0) e
       → R' ≡ sets R (range_row_width * k) (range_fields e)
@@ -139,11 +122,6 @@ module _ {ts ls us zs hs R₀ : List ℕ} {k : ℕ} {R : List ℕ} {r : BothReco
     last : k ≡ length zs
     last = omega (arith, w.upto)
 
-    pub rows_are_stored : R ≡ range_rows ts ls us zs hs (length zs)
-    rows_are_stored =
-        w.stored
-        ∙ rw (last, drop_of_length-le R₀ {i = range_row_width * length zs} (omega (arith, w.rows_fit))) (append-nil (range_rows ts ls us zs hs (length zs)))
-
     pub edges_are_passes : r.right + r.left ≡ passes ts ls fresh (moves zs hs)
     edges_are_passes =
         ap (λ (q : RunningSums). q.right + q.left) (w.low.running ∙ ap (running_at ts ls zs hs) last)
@@ -163,19 +141,3 @@ module _ (ts ls us zs hs R : List ℕ) {L : Limits} {v : Result Unit Refusal} (l
         highs = highs_accepted full (same_limits full) ts ls us zs hs R (found q);
         rows_fit = a.rows_fit;
       }
-
-  pub call_refused : {e : Refusal} → v ≡ Err e → refused (fault_of e) ≡ smooth_ranges full ts ls us zs hs R
-  unfolding smooth_ranges
-  call_refused q = rw (found q)
-
-  pub rows_kept : {e : Refusal} → v ≡ Err e → R ≡ smooth_ranges_rows full ts ls us zs hs R
-  unfolding smooth_ranges_rows
-  rows_kept q = rw (found q)
-
-  pub call_given : {n : ℕ} → {unit : Unit {0}} → v ≡ Ok unit → n ≡ passes ts ls fresh (moves zs hs) → given n ≡ smooth_ranges full ts ls us zs hs R
-  unfolding smooth_ranges
-  call_given q e = rw (found q) (ap given e)
-
-  pub rows_given : {R' : List ℕ} → {unit : Unit {0}} → v ≡ Ok unit → R' ≡ range_rows ts ls us zs hs (length zs) → R' ≡ smooth_ranges_rows full ts ls us zs hs R
-  unfolding smooth_ranges_rows
-  rows_given q e = rw (found q) e

@@ -1,6 +1,6 @@
 -- What a step of both records asks and says.
 use Rattle.std.specs.Prelude.{ℕ, ◌≡◌, List}
-use Rattle.meanings.specs.Running.{fresh, moved}
+use Rattle.meanings.specs.Running.{moved}
 use Rattle.meanings.proofs.Checks.{AdvanceAccepted}
 use Rattle.estimator.specs.Rows.{RunWithin, FoundFrom, RunJoined}
 use Rattle.range_sums.specs.declared.BothRecord.{BothRecord}
@@ -29,8 +29,3 @@ pub record BothAccepted (ts ls us : List ℕ) (left right h : ℕ) : Type 0 wher
 pub record BothMoved (ts ls us : List ℕ) (r : BothRecord) (z h : ℕ) (r' : BothRecord) : Type 0 where
   pub low : low_record r' ≡ moved ts ls (low_record r) z h
   pub high : high_record r' ≡ moved ts us (high_record r) z h
-
--- either record is one before any step
-pub record BothFresh (r : BothRecord) : Type 0 where
-  pub low : low_record r ≡ fresh
-  pub high : high_record r ≡ fresh

@@ -3,21 +3,28 @@ ghost use Rattle.ranges.specs.Steps.{RangesWithin, BothPassed, BothAccepted, Bot
 
 use arithmetic::{Change, Edge, Minus, Plus, plus_travel};
 use arithmetic_values::lowest_minute;
+use meanings::Mark;
+use meanings_ranges::Ranges;
 use range_sums::{BothRecord, BothSums, range_changed};
 
-// Takes in or lets go the readings from `from` on, up to the first minute of at least `bound` or to `to`.
+// Takes in or lets go the readings from `from` on, up to the first minute of at least `bound` or to `to`; both are edges of the record, places in the
+// whole lists. One function for this and for plain readings would be public, and a public function asks nothing of its callers, so it would test each
+// position.
 pub(crate) fn passed_until<C: Change>(
     s: BothSums,
-    minutes: &[u16],
-    lows: &[u16],
-    highs: &[u16],
+    ranges: Ranges,
     from: usize,
     to: usize,
     bound: u64,
 ) -> Edge<BothSums>
-    requires { RangesWithin minutes.now lows.now highs.now from to }
-    ensures { BothPassed C.op s minutes.now lows.now highs.now from to bound result }
+    requires { RangesWithin ranges.minutes.now ranges.lows.now ranges.highs.now from to }
+    ensures { BothPassed C.op s ranges.entry.minutes.now ranges.entry.lows.now ranges.entry.highs.now from to bound result }
 {
+    let Ranges {
+        minutes,
+        lows,
+        highs,
+    } = ranges;
     let mut sums = s;
     for i in from..to {
         if bound <= minutes[i] as u64 {
@@ -28,38 +35,17 @@ pub(crate) fn passed_until<C: Change>(
     Edge { at: to, sums }
 }
 
-// The records after an accepted step: the right edge moves on, then the left one, up to the new right.
-pub(crate) fn both_move(
-    running: BothRecord,
-    minutes: &[u16],
-    lows: &[u16],
-    highs: &[u16],
-    point: u16,
-    bandwidth: u32,
-) -> BothRecord
-    requires { BothAccepted minutes.now lows.now highs.now running.left running.right bandwidth }
-    ensures { BothMoved minutes.now lows.now highs.now running point bandwidth result }
+// The records after an accepted step: the right edge moves on, then the left one, up to the new right. Beside fused_move of `stepping_fused`: one
+// function for both would be public and generic in records, sums and readings, three traits for eleven lines.
+pub(crate) fn both_move(running: BothRecord, ranges: Ranges, mark: Mark) -> BothRecord
+    requires { BothAccepted ranges.minutes.now ranges.lows.now ranges.highs.now running.left running.right mark.bandwidth }
+    ensures { BothMoved ranges.entry.minutes.now ranges.entry.lows.now ranges.entry.highs.now running mark.point mark.bandwidth result }
 {
-    let over = point as u64 + bandwidth as u64 + 1;
-    let low = lowest_minute(point, bandwidth);
-    let right = passed_until::<Plus>(
-        running.sums,
-        minutes,
-        lows,
-        highs,
-        running.right,
-        minutes.len(),
-        over,
-    );
-    let left = passed_until::<Minus>(
-        right.sums,
-        minutes,
-        lows,
-        highs,
-        running.left,
-        right.at,
-        low,
-    );
+    let over = mark.point as u64 + mark.bandwidth as u64 + 1;
+    let low = lowest_minute(mark);
+    let end = ranges.minutes.len();
+    let right = passed_until::<Plus>(running.sums, ranges, running.right, end, over);
+    let left = passed_until::<Minus>(right.sums, ranges, running.left, right.at, low);
     let passes = plus_travel(running.passes, running.left, left.at);
     let passes = plus_travel(passes, running.right, right.at);
     BothRecord {

@@ -6,15 +6,17 @@ ghost use Rattle.meanings.specs.Running.{record_row};
 
 use arithmetic_products::wrapping_combined;
 use arithmetic_values::value;
-use meanings::{Estimate, RunningSums};
+use meanings::{Estimate, Mark, RunningSums};
 
 // The row of a record of any origin at a mark with any half width: its edges, and the formulas over its six sums modulo 2^64.
-pub fn record_row(running: RunningSums, point: u16, bandwidth: u32) -> Estimate
-    ensures { result ≡ record_row running point bandwidth }
+// Beside the row of ranges, which has two sums and values by one weight: one function for both would hand over how many, and be no plainer.
+#[tactic(auto, unfolding(meanings::specs::Running::record_row))]
+pub fn record_row(running: RunningSums, mark: Mark) -> Estimate
+    ensures { result ≡ record_row running mark.point mark.bandwidth }
 {
     let s = running.sums;
-    let weight = wrapping_combined(s.s00, s.s10, s.s20, point, bandwidth);
-    let sum = wrapping_combined(s.s01, s.s11, s.s21, point, bandwidth);
+    let weight = wrapping_combined(s.s00, s.s10, s.s20, mark);
+    let sum = wrapping_combined(s.s01, s.s11, s.s21, mark);
     Estimate {
         left: running.left as u64,
         right: running.right as u64,

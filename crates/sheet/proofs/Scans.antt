@@ -1,23 +1,18 @@
 -- The whole sheet's meaning, stage by stage, and the reader's from it.
-use Prim.Native.Nat.{ℕ, ◌≤◌}
+use Prim.Native.Nat.{ℕ}
 use mathlib.Core.Path.{◌≡◌, sym, ap, ◌∙◌}
-use mathlib.Core.Bool.{Bool, true, false}
-use mathlib.Core.List.{List}
+use mathlib.Core.List.{List, ◌++◌}
 use native.Mathlib.Omega.{arith}
-use lib.ListN.{length}
+use lib.ListN.{length, take, drop}
 use lib.Seq.{length-take-le}
 use Rattle.meanings.specs.declared.Refusal.{Refusal}
-use Rattle.meanings.specs.declared.Report.TheVariants.{LengthMismatch}
 use Rattle.std.specs.Prelude.{Result, Ok, Err}
 use Rattle.meanings.specs.declared.Counts.{Counts}
 use Rattle.meanings.specs.Limits.{full}
-use Rattle.meanings.specs.Reports.{Answer}
+use Rattle.meanings.specs.Reports.{Answer, refused}
 use Rattle.meanings.specs.Sheet.{read_sheet}
-use Rattle.meanings.specs.Calls.{answer_of, counts, read, read_minutes, read_values, read_evaluation_points, read_bandwidths}
-use Rattle.meanings.proofs.Checks.{or_false, differ_false}
-use Rattle.checks.specs.ReaderLists.{uneven_lists}
-use Rattle.list_fronts.specs.Copied.{copied}
-use Rattle.list_fronts.proofs.Copies.{copied_front}
+use Rattle.meanings.specs.Calls.{read}
+use Rattle.meanings.proofs.Checks.{differ_same, differ_true}
 use Rattle.meanings_ranges.specs.RangeSheet.{Front}
 use Rattle.meanings_ranges.specs.EitherKind.{and_then}
 use Rattle.meanings_ranges.proofs.Fronts.{front_then, plain_from, plain_is_front}
@@ -26,7 +21,7 @@ use Rattle.sheet_front.specs.Stages.{front_read, FrontOutcome}
 use Rattle.sheet_front.proofs.Fronts.{front_of_call}
 use Rattle.sheet_samples.specs.Stages.{SamplesOutcome}
 use Rattle.sheet_samples.proofs.SampleLoop.{samples_of_call}
-use Rattle.sheet.specs.Stages.{Scanned, ReadInto}
+use Rattle.sheet.specs.Stages.{FullLists, Scanned, ReadInto}
 
 -- the front of the sheet, read into lists of full length
 module _ {s zs hs : List ℕ} {m n : ℕ} (points : m ≡ 512) (bandwidths : n ≡ 512) where
@@ -53,57 +48,47 @@ module _ {s ts vs zs hs : List ℕ} where
       let o = scanned.outcome in record { answer = rw o; minutes = rw o; values = rw o; points = rw o; bandwidths = rw o }
 
   module _ {c : Counts} (scanned : Scanned s (Ok c) ts vs zs hs) where
-    samples_fit : (xs : List ℕ) → length xs ≡ 1024 → c.samples ≤ length xs
-    samples_fit xs l = let u = scanned.within in omega (arith, u.0)
-
-    points_fit : (xs : List ℕ) → length xs ≡ 512 → c.points ≤ length xs
-    points_fit xs l = let u = scanned.within in omega (arith, u.1)
-
-    pub reading_used : {ts₀ vs₀ zs₀ hs₀ ts₁ vs₁ zs₁ hs₁ : List ℕ}
-        → (length ts₀ ≡ 1024) × (length vs₀ ≡ 1024) × (length zs₀ ≡ 512) × (length hs₀ ≡ 512)
-        → length ts ≡ 1024 → length vs ≡ 1024 → length zs ≡ 512 → length hs ≡ 512
-        → ts₁ ≡ copied ts c.samples ts₀ → vs₁ ≡ copied vs c.samples vs₀
-        → zs₁ ≡ copied zs c.points zs₀ → hs₁ ≡ copied hs c.points hs₀ → ReadInto s ts₀ vs₀ zs₀ hs₀ (Ok c) ts₁ vs₁ zs₁ hs₁
-    reading_used {ts₀} {vs₀} {zs₀} {hs₀} lent lt lv lz lh ea eb ec ed =
-        let fa = ea ∙ copied_front ts c.samples ts₀ (samples_fit ts lt) (samples_fit ts₀ lent.0) in
-        let fb = eb ∙ copied_front vs c.samples vs₀ (samples_fit vs lv) (samples_fit vs₀ lent.1) in
-        let fc = ec ∙ copied_front zs c.points zs₀ (points_fit zs lz) (points_fit zs₀ lent.2) in
-        let fd = ed ∙ copied_front hs c.points hs₀ (points_fit hs lh) (points_fit hs₀ lent.3) in
+    pub reading_used : {ts₀ vs₀ zs₀ hs₀ ts₁ vs₁ zs₁ hs₁ : List ℕ} → FullLists ts vs zs hs
+        → ts₁ ≡ take c.samples ts ++ drop c.samples ts₀ → vs₁ ≡ take c.samples vs ++ drop c.samples vs₀
+        → zs₁ ≡ take c.points zs ++ drop c.points zs₀ → hs₁ ≡ take c.points hs ++ drop c.points hs₀ → ReadInto s ts₀ vs₀ zs₀ hs₀ (Ok c) ts₁ vs₁ zs₁ hs₁
+    reading_used l et ev ez eh =
         let o = scanned.outcome in
-        let kt = length-take-le c.samples ts (samples_fit ts lt) in
-        let kv = length-take-le c.samples vs (samples_fit vs lv) in
-        let kz = length-take-le c.points zs (points_fit zs lz) in
-        let kh = length-take-le c.points hs (points_fit hs lh) in
-        record { answer = rw (o, kt, kz); minutes = rw (o, kt) fa; values = rw (o, kv) fb; points = rw (o, kz) fc; bandwidths = rw (o, kh) fd }
+        let u = scanned.within in
+        let kt = length-take-le c.samples ts (omega (arith, u.0, l.0)) in
+        let kv = length-take-le c.samples vs (omega (arith, u.0, l.1)) in
+        let kz = length-take-le c.points zs (omega (arith, u.1, l.2)) in
+        let kh = length-take-le c.points hs (omega (arith, u.1, l.3)) in
+        record { answer = rw (o, kt, kz); minutes = rw (o, kt) et; values = rw (o, kv) ev; points = rw (o, kz) ez; bandwidths = rw (o, kh) eh }
 
--- the lengths of the lent lists, tested
-pub even_lengths : {x : Bool} {a b c d : ℕ} → x ≡ uneven_lists full a b c d → x ≡ false → (a ≡ 1024) × (b ≡ 1024) × (c ≡ 512) × (d ≡ 512)
-even_lengths {a = a} {b} {c} {d} t e =
-    let o = or_false _ _ (sym t ∙ e) in
-    let p = or_false _ _ o.0 in
-    let q = or_false _ _ p.0 in
-    (differ_false a 1024 q.0, differ_false b 1024 q.1, differ_false c 512 p.1, differ_false d 512 o.1)
+-- the lengths of the lent lists, one after another; with all of them the meaning is that of the sheet alone
+module _ (s ts vs zs hs : List ℕ) where
+  abbrev pub Uneven : Type 0
+  Uneven = read full s ts vs zs hs ≡ refused (record { number = 8; place = 0 })
 
--- what the reader's contract says of its answer and of the lists at exit
-abbrev pub Answered : List ℕ → List ℕ → List ℕ → List ℕ → List ℕ → Answer Counts → List ℕ → List ℕ → List ℕ → List ℕ → Type 0
-Answered s ts vs zs hs a ts' vs' zs' hs' =
-    (a ≡ counts (read full s ts vs zs hs))
-    × ((ts' ≡ read_minutes (read full s ts vs zs hs) ts)
-    × ((vs' ≡ read_values (read full s ts vs zs hs) vs)
-    × ((zs' ≡ read_evaluation_points (read full s ts vs zs hs) zs) × (hs' ≡ read_bandwidths (read full s ts vs zs hs) hs))))
-
-module _ (s ts vs zs hs : List ℕ) {x : Bool} (tested : x ≡ uneven_lists full (length ts) (length vs) (length zs) (length hs)) where
-  pub uneven_refused : {r : Refusal} → x ≡ true → r ≡ (record { report = LengthMismatch; place = 0 })
-      → Answered s ts vs zs hs (answer_of (Err r)) ts vs zs hs
+  pub minutes_uneven : ¬ (length ts ≡ 1024) → Uneven
   unfolding read
-  uneven_refused e d = let u = sym tested ∙ e in (rw (u, d), (rw u, (rw u, (rw u, rw u))))
+  minutes_uneven d = rw (differ_true (length ts) 1024 d)
 
-  even_read : x ≡ false → read full s ts vs zs hs ≡ read_sheet full s
-  unfolding read
-  even_read e = rw (sym tested ∙ e)
+  module _ (a : length ts ≡ 1024) where
+    pub values_uneven : ¬ (length vs ≡ 1024) → Uneven
+    unfolding read
+    values_uneven d = rw (differ_same (length ts) 1024 a, differ_true (length vs) 1024 d)
 
-  pub even_answered : {r : Result Counts Refusal} {ts' vs' zs' hs' : List ℕ} → x ≡ false → ReadInto s ts vs zs hs r ts' vs' zs' hs'
-      → Answered s ts vs zs hs (answer_of r) ts' vs' zs' hs'
-  even_answered t i =
-      let e = even_read t in
-      (rw e i.answer, (rw e i.minutes, (rw e i.values, (rw e i.points, rw e i.bandwidths))))
+    module _ (b : length vs ≡ 1024) where
+      pub points_uneven : ¬ (length zs ≡ 512) → Uneven
+      unfolding read
+      points_uneven d = rw (differ_same (length ts) 1024 a, differ_same (length vs) 1024 b, differ_true (length zs) 512 d)
+
+      module _ (e : length zs ≡ 512) where
+        pub bandwidths_uneven : ¬ (length hs ≡ 512) → Uneven
+        unfolding read
+        bandwidths_uneven d =
+            rw (differ_same (length ts) 1024 a, differ_same (length vs) 1024 b, differ_same (length zs) 512 e, differ_true (length hs) 512 d)
+
+        pub even_read : length hs ≡ 512 → read full s ts vs zs hs ≡ read_sheet full s
+        unfolding read
+        even_read f =
+            rw (differ_same (length ts) 1024 a, differ_same (length vs) 1024 b, differ_same (length zs) 512 e, differ_same (length hs) 512 f)
+
+-- what the call goes by
+pub ruleset reading_call = (minutes_uneven, values_uneven, points_uneven, bandwidths_uneven, even_read)

@@ -1,7 +1,7 @@
 -- What the stages of the reader have found out, as what is left of the sheet's meaning: a stage's contract says that the meaning before it is
 -- the meaning of what it gives. Each contract is one record. The stages up to the second header line are those of crates/sheet_front, those from
 -- there on of crates/sheet_samples.
-use Rattle.std.specs.Prelude.{ℕ, ◌≤◌, ◌≡◌, List, take, Result, Ok, Err}
+use Rattle.std.specs.Prelude.{ℕ, ◌≤◌, ◌≡◌, List, length, take, Result, Ok, Err}
 use Rattle.meanings.specs.declared.Refusal.{Refusal}
 use Rattle.meanings.specs.declared.Counts.{Counts}
 use Rattle.meanings.specs.Limits.{full}
@@ -22,6 +22,10 @@ used_within (Err r) = Unit {0}
 pub record Scanned (s : List ℕ) (r : Result Counts Refusal) (ts vs zs hs : List ℕ) : Type 0 where
   pub outcome : read_sheet full s ≡ sheet_read r ts vs zs hs
   pub within : used_within r
+
+-- the reader's own lists have their lengths
+abbrev pub FullLists : List ℕ → List ℕ → List ℕ → List ℕ → Type 0
+FullLists ts vs zs hs = (length ts ≡ 1024) × (length vs ≡ 1024) × (length zs ≡ 512) × (length hs ≡ 512)
 
 -- the sheet read into lists of the right lengths, which hold what the meaning says afterwards
 pub record ReadInto (s ts vs zs hs : List ℕ) (r : Result Counts Refusal) (ts' vs' zs' hs' : List ℕ) : Type 0 where

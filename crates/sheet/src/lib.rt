@@ -1,60 +1,66 @@
 // The reader of the tank sheet: from any bytes to the kept readings and the marks, or the report.
 #![tactic(auto)]
 
-ghost use Rattle.std.specs.Prelude.{◌≡◌, length};
+ghost use Rattle.std.specs.Prelude.{◌≡◌};
 ghost use Rattle.meanings.specs.Limits.{full};
 ghost use Rattle.meanings.specs.Calls.{answer_of, counts, read, read_minutes, read_values, read_evaluation_points, read_bandwidths};
-ghost use Rattle.sheet.specs.Stages.{Scanned, ReadInto};
+ghost use Rattle.sheet.specs.Stages.{FullLists, Scanned, ReadInto};
 
-use checks::uneven_lists;
-use list_fronts::copy_front;
 use meanings::{Counts, Refusal, Report};
 use sheet_front::read_front;
 use sheet_samples::read_samples;
 
-// Reads the sheet into lists of full length. What they hold after a refusal is left open: they are the reader's own.
-pub(crate) fn scan(
-    sheet: &[u8],
-    minutes: &mut [u16],
-    values: &mut [u16],
-    points: &mut [u16],
-    bandwidths: &mut [u32],
-) -> Result<Counts, Refusal>
-    requires { (length minutes.old ≡ 1024) × (length values.old ≡ 1024) × (length points.old ≡ 512) × (length bandwidths.old ≡ 512) }
-    ensures { Scanned sheet.now result minutes.new values.new points.new bandwidths.new }
-{
-    let front = read_front(sheet, points, bandwidths)?;
-    let samples = read_samples(sheet, front.next, minutes, values)?;
-    Ok(Counts {
-        samples,
-        points: front.count,
-    })
+// The reader's own lists, which a sheet is read into before the lent ones are written.
+#[derive(Drop)]
+pub(crate) struct SheetLists {
+    pub minutes: [u16; 1024],
+    pub values: [u16; 1024],
+    pub points: [u16; 512],
+    pub bandwidths: [u32; 512],
+}
+
+impl SheetLists {
+    // Reads the sheet into these lists. What they hold after a refusal is left open.
+    pub(crate) fn scan(&mut self, sheet: &[u8]) -> Result<Counts, Refusal>
+        ensures scanned { Scanned sheet.now result self.new.minutes self.new.values self.new.points self.new.bandwidths }
+        ensures lengths { FullLists self.new.minutes self.new.values self.new.points self.new.bandwidths }
+    {
+        let front = read_front(sheet, &mut self.points, &mut self.bandwidths)?;
+        let samples = read_samples(sheet, front.next, &mut self.minutes, &mut self.values)?;
+        Ok(Counts {
+            samples,
+            points: front.count,
+        })
+    }
 }
 
 // Reads the sheet into lists of its own, so that a refusal leaves the lent ones as they were.
 pub(crate) fn read_into(
     sheet: &[u8],
-    minutes: &mut [u16],
-    values: &mut [u16],
-    points: &mut [u16],
-    bandwidths: &mut [u32],
+    minutes: &mut [u16; 1024],
+    values: &mut [u16; 1024],
+    points: &mut [u16; 512],
+    bandwidths: &mut [u32; 512],
 ) -> Result<Counts, Refusal>
-    requires { (length minutes.old ≡ 1024) × (length values.old ≡ 1024) × (length points.old ≡ 512) × (length bandwidths.old ≡ 512) }
     ensures { ReadInto sheet.now minutes.old values.old points.old bandwidths.old result minutes.new values.new points.new bandwidths.new }
 {
-    let mut ts = [0u16; 1024];
-    let mut vs = [0u16; 1024];
-    let mut zs = [0u16; 512];
-    let mut hs = [0u32; 512];
-    let used = scan(sheet, &mut ts, &mut vs, &mut zs, &mut hs)?;
-    copy_front(&ts, used.samples, minutes);
-    copy_front(&vs, used.samples, values);
-    copy_front(&zs, used.points, points);
-    copy_front(&hs, used.points, bandwidths);
+    let mut lists = SheetLists {
+        minutes: [0; 1024],
+        values: [0; 1024],
+        points: [0; 512],
+        bandwidths: [0; 512],
+    };
+    let used = lists.scan(sheet)?;
+    minutes[..used.samples].copy_from_slice(&lists.minutes[..used.samples]);
+    values[..used.samples].copy_from_slice(&lists.values[..used.samples]);
+    points[..used.points].copy_from_slice(&lists.points[..used.points]);
+    bandwidths[..used.points].copy_from_slice(&lists.bandwidths[..used.points]);
     Ok(used)
 }
 
-// The reader, for lent lists of any lengths.
+// The reader, for lent lists of any lengths. Each stays a parameter of its own, as C lends it; one of another length than the sheet asks is refused as
+// it is taken for an array.
+#[tactic(auto, using(crate::proofs::Scans::reading_call))]
 pub fn read_sheet(
     sheet: &[u8],
     minutes: &mut [u16],
@@ -68,8 +74,10 @@ pub fn read_sheet(
     ensures points_after { points.new ≡ read_evaluation_points (read full sheet.now minutes.old values.old points.old bandwidths.old) points.old }
     ensures bandwidths_after { bandwidths.new ≡ read_bandwidths (read full sheet.now minutes.old values.old points.old bandwidths.old) bandwidths.old }
 {
-    if uneven_lists(minutes.len(), values.len(), points.len(), bandwidths.len()) {
-        return Err(Report::LengthMismatch.at(0));
-    }
+    let uneven = Report::LengthMismatch.at(0);
+    let minutes = minutes.as_mut_array().ok_or(uneven)?;
+    let values = values.as_mut_array().ok_or(uneven)?;
+    let points = points.as_mut_array().ok_or(uneven)?;
+    let bandwidths = bandwidths.as_mut_array().ok_or(uneven)?;
     read_into(sheet, minutes, values, points, bandwidths)
 }

@@ -5,8 +5,10 @@ ghost use Rattle.std.specs.Prelude.{◌≡◌};
 ghost use Rattle.meanings.specs.Sheet.{parts};
 ghost use Rattle.sheet_fields.specs.Fields.{field_at, numbers_of};
 
+use meanings::COMMA;
+
 // A number that stands before a comma or the text's end, and where it ends.
-#[derive(Clone, Copy)]
+#[derive(Clone, Copy, Debug, PartialEq, Eq)]
 pub struct Field {
     pub value: u32,
     pub end: usize,
@@ -16,7 +18,8 @@ pub struct Field {
 const ZERO: u8 = b'0';
 
 // The number that begins at byte `from` of a text and goes up to the next comma or the text's end: 1 to 5 digits, no leading zero except
-// 0 itself.
+// 0 itself. `parse` takes a plus sign and leading zeros too, so that the tests of this form would stand beside it.
+#[tactic(auto, using(crate::proofs::Fields::passed_goes_on))]
 pub fn number_at(text: &[u8], from: usize) -> Option<Field>
     ensures { result ≡ field_at text.now from }
 {
@@ -24,7 +27,7 @@ pub fn number_at(text: &[u8], from: usize) -> Option<Field>
     let mut value = 0u32;
     for at in from..text.len() {
         let b = text[at];
-        if b == b',' {
+        if b == COMMA {
             end = at;
             break;
         }
@@ -47,6 +50,7 @@ pub fn number_at(text: &[u8], from: usize) -> Option<Field>
 }
 
 // The numbers of a text of N numbers with commas between.
+#[tactic(auto, using(crate::proofs::Parts::none_read, crate::proofs::Parts::part_is_no_number, crate::proofs::Parts::number_holds, crate::proofs::Parts::part_read, crate::proofs::Parts::parts_left_over, crate::proofs::Parts::all_read))]
 pub fn numbers<const N: usize>(text: &[u8]) -> Option<[u32; N]>
     ensures { result ≡ numbers_of N (parts text.now) }
 {

@@ -14,7 +14,7 @@ use Rattle.meanings.specs.Sheet.{Lines, end, unended, line, lines, next_place, s
 use Rattle.meanings_ranges.specs.RangeSheet.{Front, front_points}
 use Rattle.sheet_lines.specs.declared.Line.{Line}
 use Rattle.sheet_lines.specs.Lines.{first_end, line_at}
-use Rattle.sheet_lines.proofs.LineEnds.{LineFound, ended_line}
+use Rattle.sheet_lines.proofs.LineEnds.{LineFound, ended_line, text_begins, text_within}
 use Rattle.sheet_front.specs.Stages.{Passed, passed_to, HeaderTried}
 
 -- a header line, and then what follows
@@ -100,3 +100,6 @@ points_at_line L s zs hs p e n f l = rw f.first_of_lines (by (take (e - p) (drop
         ≡ with_point L p zs hs (point_line t) (λ zs' hs'. front_points L n zs' hs' (lines (drop n s)) given)
     by [] l m = absurd (omega arith)
     by (b ∷ t) l m = rw m
+
+-- what reading a header line goes by
+pub ruleset reading_header = (header_missing, header_passed, header_differs, text_begins, text_within)

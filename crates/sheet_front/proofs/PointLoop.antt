@@ -15,24 +15,20 @@ use Rattle.meanings.specs.Sheet.{lines}
 use Rattle.meanings_ranges.specs.RangeSheet.{front_points}
 use Rattle.sheet_lines.specs.declared.Line.{Line}
 use Rattle.sheet_lines.specs.Lines.{line_at}
-use Rattle.sheet_lines.proofs.LineEnds.{ended_line}
+use Rattle.sheet_lines.proofs.LineEnds.{ended_line, text_begins, text_within, line_shortens}
 use Rattle.sheet_front.specs.Stages.{PointTried, PointsFound}
 use Rattle.sheet_front.proofs.LineSteps.{points_without_line, points_at_empty_line, points_at_line}
 
--- the mark lines from byte `from` up to byte p are in zs and hs, count of them; the lists have their lengths, those of the lent ones
-pub record PointsSoFar (s : List ℕ) (from : ℕ) (zs₀ hs₀ zs hs : List ℕ) (p count : ℕ) : Type 0 where
+-- the mark lines from byte `from` up to byte p are in zs and hs, count of them
+pub record PointsSoFar (s : List ℕ) (from : ℕ) (zs hs : List ℕ) (p count : ℕ) : Type 0 where
   pub point_list : length zs ≡ 512
-  pub bandwidth_list : length hs ≡ 512
-  pub points_lent : length zs ≡ length zs₀
-  pub bandwidths_lent : length hs ≡ length hs₀
   pub few : count ≤ 512
   pub left : front_points full from [] [] (lines (drop from s)) given ≡ front_points full p (take count zs) (take count hs) (lines (drop p s)) given
 
-pub points_begin : {s : List ℕ} {from : ℕ} {zs hs : List ℕ} → length zs ≡ 512 → length hs ≡ 512 → PointsSoFar s from zs hs zs hs from 0
-points_begin l m =
-    record { point_list = l; bandwidth_list = m; points_lent = refl; bandwidths_lent = refl; few = omega arith; left = refl }
+pub points_begin : {s : List ℕ} {from : ℕ} {zs hs : List ℕ} → length zs ≡ 512 → PointsSoFar s from zs hs from 0
+points_begin l = record { point_list = l; few = omega arith; left = refl }
 
-module _ {s : List ℕ} {from : ℕ} {zs₀ hs₀ zs hs : List ℕ} {p count : ℕ} (w : PointsSoFar s from zs₀ hs₀ zs hs p count) where
+module _ {s : List ℕ} {from : ℕ} {zs hs : List ℕ} {p count : ℕ} (w : PointsSoFar s from zs hs p count) where
   pub points_unended : {r : Refusal} → None ≡ line_at s p → r ≡ (record { report = MalformedLine; place = p }) → PointsFound s from (Err r) zs hs
   points_unended t e = record { outcome = w.left ∙ points_without_line full s _ _ p (sym t) ∙ rw e; within = tt }
 
@@ -43,7 +39,7 @@ module _ {s : List ℕ} {from : ℕ} {zs₀ hs₀ zs hs : List ℕ} {p count : �
     pub points_end : l.end ≡ p → ¬ (count ≡ 0) → PointsFound s from (Ok (record { count = count; next = l.next })) zs hs
     points_end h z =
         let o = ended_line t in
-        let k = length-take-le count zs (omega arith) in
+        let k = length-take-le count zs (omega (arith, w.few, w.point_list)) in
         record {
           outcome = w.left ∙ points_at_empty_line full s _ _ p _ _ o h ∙ rw (k, ne_eqb count 0 z);
           within = (w.few, o.within);
@@ -55,14 +51,14 @@ module _ {s : List ℕ} {from : ℕ} {zs₀ hs₀ zs hs : List ℕ} {p count : �
       point_line_refused tried =
           record { outcome = w.left ∙ points_at_line full s _ _ p _ _ (ended_line t) h ∙ tried.goes_on _; within = tt }
 
-      pub points_go_on : {u : Unit {0}} → PointTried (take (l.end - p) (drop p s)) p zs hs count (Ok u) zs' hs' → length zs' ≡ length zs
-          → length hs' ≡ length hs → PointsSoFar s from zs₀ hs₀ zs' hs' l.next (count + 1)
-      points_go_on tried a b =
+      pub points_go_on : {u : Unit {0}} → PointTried (take (l.end - p) (drop p s)) p zs hs count (Ok u) zs' hs' → length zs' ≡ 512
+          → PointsSoFar s from zs' hs' l.next (count + 1)
+      points_go_on tried a =
           record {
-            point_list = a ∙ w.point_list;
-            bandwidth_list = b ∙ w.bandwidth_list;
-            points_lent = a ∙ w.points_lent;
-            bandwidths_lent = b ∙ w.bandwidths_lent;
+            point_list = a;
             few = tried.room;
             left = w.left ∙ points_at_line full s _ _ p _ _ (ended_line t) h ∙ tried.goes_on _;
           }
+
+-- what reading the mark lines goes by
+pub ruleset reading_points = (points_begin, points_unended, no_points, text_begins, text_within, line_shortens)

@@ -7,6 +7,7 @@ use Rattle.meanings.specs.Limits.{full}
 use Rattle.meanings.specs.Reports.{Answer, given, refused, fault_of, verdict_fault, check, at, first_of, differ, decreases, edge_decreases}
 use Rattle.meanings.specs.Sheet.{Lines, lines, refused_at, or_next, header, point_line, point_checks, with_point}
 use Rattle.meanings_ranges.specs.RangeSheet.{Front, front_points, sheet_front}
+use Rattle.meanings.specs.declared.Mark.{Mark}
 use Rattle.sheet_front.specs.declared.points.Front.{Front as PointsEnd}
 
 -- what is handed on behind a header line: where the next line begins, and the lines from there on
@@ -25,16 +26,16 @@ after_header None s p = refused_at p 2
 pub record HeaderTried (names s : List ℕ) (p : ℕ) (r : Option ℕ) : Type 0 where
   pub outcome : header names p (lines (drop p s)) passed_to ≡ after_header r s p
 
--- a mark against the last of the first n: the mark, and an edge of it
-unfoldable pub below_last : List ℕ → ℕ → ℕ → Bool
-below_last zs n z = decreases (take n zs ++ z ∷ []) (length (take n zs))
+-- a mark against the last of these: the mark, and an edge of it
+unfoldable pub below_last : List ℕ → ℕ → Bool
+below_last zs z = decreases (zs ++ z ∷ []) (length zs)
 
-unfoldable pub edge_below_last : List ℕ → List ℕ → ℕ → ℕ → ℕ → Bool
-edge_below_last zs hs n z h = edge_decreases (take n zs ++ z ∷ []) (take n hs ++ h ∷ []) (length (take n zs))
+unfoldable pub edge_below_last : List ℕ → List ℕ → Mark → Bool
+edge_below_last zs hs m = edge_decreases (zs ++ m.point ∷ []) (hs ++ m.bandwidth ∷ []) (length zs)
 
--- what a mark line at byte p earns after the first n marks
-pub record PointChecked (p : ℕ) (zs hs : List ℕ) (n z h : ℕ) (v : Result Unit Refusal) : Type 0 where
-  pub found : verdict_fault v ≡ first_of (point_checks full p (take n zs) (take n hs) (record { point = z; bandwidth = h }))
+-- what the line of a mark at byte p earns after these marks
+pub record PointChecked (p : ℕ) (zs hs : List ℕ) (m : Mark) (v : Result Unit Refusal) : Type 0 where
+  pub found : verdict_fault v ≡ first_of (point_checks full p zs hs (record { point = m.point; bandwidth = m.bandwidth }))
 
 -- a mark line that is stored leaves the count within its limit
 abbrev pub room_after : Result Unit Refusal → ℕ → Type 0

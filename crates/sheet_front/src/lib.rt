@@ -4,13 +4,14 @@
 
 pub mod points;
 
-ghost use Rattle.std.specs.Prelude.{◌≡◌, length};
+ghost use Rattle.std.specs.Prelude.{length};
 ghost use Rattle.sheet_front.specs.Stages.{HeaderTried, FrontFound, FrontOutcome};
 
 use crate::points::Front;
 use meanings::{Refusal, Report};
 
 // Passes the header line at byte `from`, if it is that.
+#[tactic(auto, using(crate::proofs::LineSteps::reading_header))]
 pub fn skip_header(sheet: &[u8], from: usize, names: &[u8]) -> Option<usize>
     ensures { HeaderTried names.now sheet.now from result }
 {
@@ -25,10 +26,9 @@ pub fn skip_header(sheet: &[u8], from: usize, names: &[u8]) -> Option<usize>
 #[tactic(auto, using(crate::proofs::Fronts::too_long, crate::proofs::Fronts::no_point_header, crate::proofs::Fronts::points_follow))]
 pub(crate) fn scan_front(
     sheet: &[u8],
-    points: &mut [u16],
-    bandwidths: &mut [u32],
+    points: &mut [u16; 512],
+    bandwidths: &mut [u32; 512],
 ) -> Result<Front, Refusal>
-    requires { (length points.old ≡ 512) × (length bandwidths.old ≡ 512) }
     ensures { FrontFound sheet.now result points.new bandwidths.new }
 {
     if 32768 < sheet.len() {
@@ -41,6 +41,7 @@ pub(crate) fn scan_front(
 }
 
 // The same for lists of any lengths. What the lists hold after a refusal is left open: they are a reader's own.
+#[tactic(auto, using(crate::proofs::Fronts::points_uneven, crate::proofs::Fronts::bandwidths_uneven, crate::proofs::Fronts::even_outcome))]
 pub fn read_front(
     sheet: &[u8],
     points: &mut [u16],
@@ -48,11 +49,11 @@ pub fn read_front(
 ) -> Result<Front, Refusal>
     ensures { FrontOutcome sheet.now (length points.old) (length bandwidths.old) result points.new bandwidths.new }
 {
-    if points.len() != 512 {
+    let Some(points) = points.as_mut_array() else {
         return Err(Report::LengthMismatch.at(0));
-    }
-    if bandwidths.len() != 512 {
+    };
+    let Some(bandwidths) = bandwidths.as_mut_array() else {
         return Err(Report::LengthMismatch.at(0));
-    }
+    };
     scan_front(sheet, points, bandwidths)
 }

@@ -3,99 +3,101 @@ ghost use Rattle.std.specs.Prelude.{◌≡◌, ◌≤◌, length};
 ghost use Rattle.sheet_front.specs.Stages.{below_last, edge_below_last, PointChecked, PointTried, PointsFound};
 
 use checks::{edge_below, out_of_range};
-use meanings::{Refusal, Report};
+use meanings::{Mark, Marks, Refusal, Report};
 
 // What the mark lines give: how many there are and where the line after the empty line begins.
-#[derive(Clone, Copy)]
+#[derive(Clone, Copy, Debug, PartialEq, Eq)]
 pub struct Front {
     pub count: usize,
     pub next: usize,
 }
 
-// Whether a mark is below the last of the first `count`.
-pub(crate) fn below_last(points: &[u16], count: usize, point: u16) -> bool
-    requires { count ≤ length points.now }
-    ensures { result ≡ below_last points.now count point }
+// Whether a mark is below the last of these.
+#[tactic(auto, using(crate::proofs::Lasts::no_last_below, crate::proofs::Lasts::last_below))]
+pub(crate) fn below_last(points: &[u16], point: u16) -> bool
+    ensures { result ≡ below_last points.now point }
 {
-    if count == 0 {
+    let Some(last) = points.last() else {
         return false;
-    }
-    point < points[count - 1]
+    };
+    point < *last
 }
 
-// Whether an edge of a mark is below that of the last of the first `count`.
-pub(crate) fn edge_below_last(
-    points: &[u16],
-    bandwidths: &[u32],
-    count: usize,
-    point: u16,
-    bandwidth: u32,
-) -> bool
-    requires { (count ≤ length points.now) × (count ≤ length bandwidths.now) }
-    ensures { result ≡ edge_below_last points.now bandwidths.now count point bandwidth }
+// Whether an edge of a mark is below that of the last of these.
+#[tactic(auto, using(crate::proofs::Lasts::no_last_edge_below, crate::proofs::Lasts::no_last_width_below, crate::proofs::Lasts::last_edge_below))]
+pub(crate) fn edge_below_last(marks: Marks, mark: Mark) -> bool
+    requires { length marks.points.now ≡ length marks.bandwidths.now }
+    ensures { result ≡ edge_below_last marks.entry.points.now marks.entry.bandwidths.now mark }
 {
-    if count == 0 {
+    let Some(point) = marks.points.last() else {
         return false;
-    }
-    edge_below(point, bandwidth, points[count - 1], bandwidths[count - 1])
+    };
+    let Some(bandwidth) = marks.bandwidths.last() else {
+        return false;
+    };
+    let before = Mark {
+        point: *point,
+        bandwidth: *bandwidth,
+    };
+    edge_below(mark, before)
 }
 
-// What a mark line at byte `place` earns after the first `count` of these marks and half widths: 5, 9, 10, 6.
-pub(crate) fn point_fault(
-    points: &[u16],
-    bandwidths: &[u32],
-    count: usize,
-    point: u16,
-    bandwidth: u32,
-    place: usize,
-) -> Result<(), Refusal>
-    requires { (count ≤ length points.now) × (count ≤ length bandwidths.now) }
-    ensures { PointChecked place points.now bandwidths.now count point bandwidth result }
+// What the line of a mark at byte `place` earns after these marks: 5, 9, 10, 6.
+#[tactic(auto, using(crate::proofs::Lasts::point_falls, crate::proofs::Lasts::bandwidth_off, crate::proofs::Lasts::edge_falls, crate::proofs::Lasts::points_full, crate::proofs::Lasts::point_fits))]
+pub(crate) fn point_fault(marks: Marks, mark: Mark, place: usize) -> Result<(), Refusal>
+    requires { length marks.points.now ≡ length marks.bandwidths.now }
+    ensures { PointChecked place marks.entry.points.now marks.entry.bandwidths.now mark result }
 {
-    if below_last(points, count, point) {
+    if below_last(marks.points, mark.point) {
         return Err(Report::PointOutOfOrder.at(place));
     }
-    if out_of_range(bandwidth) {
+    if out_of_range(mark.bandwidth) {
         return Err(Report::BandwidthOutOfRange.at(place));
     }
-    if edge_below_last(points, bandwidths, count, point, bandwidth) {
+    if edge_below_last(marks, mark) {
         return Err(Report::EdgeDecreases.at(place));
     }
-    if 512 <= count {
+    if 512 <= marks.points.len() {
         return Err(Report::TooMany.at(place));
     }
     Ok(())
 }
 
-// Stores the mark of a line's text behind the first `count`, or says what the line earns.
+// Stores the mark of a line's text, which begins at byte `place`, behind the first `count`, or says what the line earns. Text and place stay two, since
+// one is looked at and the other only told. The two lists stay parameters of their own: in a struct
+// of lent lists each contract would name the loan of each list once more, and its length.
+#[tactic(auto, using(crate::proofs::Lasts::point_room))]
 pub(crate) fn store_point(
     text: &[u8],
     place: usize,
-    points: &mut [u16],
-    bandwidths: &mut [u32],
+    points: &mut [u16; 512],
+    bandwidths: &mut [u32; 512],
     count: usize,
 ) -> Result<(), Refusal>
-    requires { (length points.old ≡ 512) × (length bandwidths.old ≡ 512) × (count ≤ 512) }
+    requires { count ≤ 512 }
     ensures { PointTried text.now place points.old bandwidths.old count result points.new bandwidths.new }
 {
-    let Some(line) = sheet_values::point_line(text) else {
+    let Some(mark) = sheet_values::point_line(text) else {
         return Err(Report::MalformedLine.at(place));
     };
-    point_fault(points, bandwidths, count, line.point, line.bandwidth, place)?;
-    points[count] = line.point;
-    bandwidths[count] = line.bandwidth;
+    let marks = Marks {
+        points: &points[..count],
+        bandwidths: &bandwidths[..count],
+    };
+    point_fault(marks, mark, place)?;
+    points[count] = mark.point;
+    bandwidths[count] = mark.bandwidth;
     Ok(())
 }
 
 // The mark lines from byte `from` on, to the empty line.
-#[tactic(auto, using(crate::proofs::PointLoop::no_points))]
+#[tactic(auto, using(crate::proofs::PointLoop::reading_points))]
 pub(crate) fn read_points(
     sheet: &[u8],
     from: usize,
-    points: &mut [u16],
-    bandwidths: &mut [u32],
+    points: &mut [u16; 512],
+    bandwidths: &mut [u32; 512],
 ) -> Result<Front, Refusal>
-    requires { (length points.old ≡ 512) × (length bandwidths.old ≡ 512) }
     ensures { PointsFound sheet.now from result points.new bandwidths.new }
 {
     let mut at = from;

@@ -6,16 +6,15 @@ ghost use Rattle.meanings.specs.Bytes.{line_feed};
 ghost use Rattle.meanings.specs.Sheet.{same};
 ghost use Rattle.sheet_lines.specs.Lines.{line_at, feed_from, text_before};
 
+use meanings::LINE_FEED;
 use sheet_words::{feed_bits, word_at};
 
-// A line with a line feed: where its text ends, and where the next line begins.
-#[derive(Clone, Copy)]
+// A line with a line feed: the end of its text, and the start of the line behind it.
+#[derive(Clone, Copy, Debug, PartialEq, Eq)]
 pub struct Line {
     pub end: usize,
     pub next: usize,
 }
-
-const LINE_FEED: u8 = b'\n';
 
 const CARRIAGE_RETURN: u8 = b'\r';
 
@@ -27,6 +26,7 @@ fn first_feed(bytes: &[u8]) -> Option<usize>
 }
 
 // The first line feed from byte `from` on. It looks at eight bytes as one word; the last ones, fewer than eight, are looked at byte by byte.
+#[tactic(auto, using(crate::proofs::WordSearch::step_shortens, crate::proofs::WordSearch::word_within, crate::proofs::WordSearch::hit_within, crate::proofs::WordSearch::feed_in_word, crate::proofs::WordSearch::no_feed_in_word, crate::proofs::WordSearch::no_feed_behind_end, crate::proofs::WordSearch::no_feed_in_rest, crate::proofs::WordSearch::feed_in_rest))]
 pub(crate) fn find_feed(sheet: &[u8], from: usize) -> Option<usize>
     ensures { result ≡ feed_from sheet.now from }
 {
@@ -43,6 +43,7 @@ pub(crate) fn find_feed(sheet: &[u8], from: usize) -> Option<usize>
 }
 
 // Where the text ends of the line that begins at byte `from` and has its line feed at byte `feed`.
+#[tactic(auto, using(crate::proofs::LineEnds::text_to_feed, crate::proofs::LineEnds::text_to_return, crate::proofs::LineEnds::text_without_return))]
 pub(crate) fn text_end(sheet: &[u8], from: usize, feed: usize) -> usize
     requires { feed < length sheet.now }
     ensures { result ≡ text_before sheet.now from feed }

@@ -10,14 +10,14 @@ use sheet_front::skip_header;
 use sheet_readings::read_readings;
 
 // What the second header line tells: the kind, and where the next line begins.
-#[derive(Clone, Copy)]
+#[derive(Clone, Copy, Debug, PartialEq, Eq)]
 pub(crate) struct Names {
     pub kind: Kind,
     pub next: usize,
 }
 
 // What stands from the second header line on: the kind and how many readings are kept.
-#[derive(Clone, Copy)]
+#[derive(Clone, Copy, Debug, PartialEq, Eq)]
 pub struct Named {
     pub kind: Kind,
     pub count: usize,
@@ -40,7 +40,8 @@ pub(crate) fn second_header(sheet: &[u8], from: usize) -> Option<Names>
     })
 }
 
-// From the second header line at byte `from` on, into lists of any lengths. What they hold after a refusal is left open: they are a reader's own.
+// From the second header line at byte `from` on, into lists of any lengths, which stay apart as C lends them.
+// What they hold after a refusal is left open: they are a reader's own.
 pub fn read_named(
     sheet: &[u8],
     from: usize,

@@ -1,43 +1,86 @@
 // The reader of sheets of both kinds: from any bytes to the kept readings as ranges, the marks and the kind, or the report.
 #![tactic(auto)]
 
-ghost use Rattle.std.specs.Prelude.{◌≡◌, length};
+ghost use Rattle.std.specs.Prelude.{◌≡◌};
 ghost use Rattle.meanings.specs.Limits.{full};
 ghost use Rattle.meanings.specs.Calls.{answer_of};
 ghost use Rattle.meanings_ranges.specs.RangeCalls.{range_counts, range_front, read_ranges, minutes_of, lows_of};
 ghost use Rattle.meanings_ranges.specs.RangeCalls.{highs_of, points_of, bandwidths_of};
-ghost use Rattle.sheet_ranges.specs.Stages.{ReadInto};
+ghost use Rattle.sheet_scan.specs.Stages.{EitherScanned};
+ghost use Rattle.sheet_ranges.specs.Stages.{FullLists, ReadInto};
 
-use checks_reader::uneven_reader;
-use meanings::{Refusal, Report};
+use meanings::{Marks, Refusal, Report};
 use meanings_ranges::RangeCounts;
 use range_fronts::{put_points, put_samples};
 use sheet_scan::scan_sheet;
 
+// The reader's own lists, which a sheet is read into before the lent ones are written. Beside those of `sheet`: one reader for both kinds would take a
+// third list of 1,024 numbers from the stack of the plain one.
+#[derive(Drop)]
+pub(crate) struct SheetLists {
+    pub minutes: [u16; 1024],
+    pub lows: [u16; 1024],
+    pub highs: [u16; 1024],
+    pub points: [u16; 512],
+    pub bandwidths: [u32; 512],
+}
+
+impl SheetLists {
+    // Reads the sheet into these lists. What they hold after a refusal is left open.
+    pub(crate) fn scan(&mut self, sheet: &[u8]) -> Result<RangeCounts, Refusal>
+        ensures scanned { EitherScanned sheet.now result self.new.minutes self.new.lows self.new.highs self.new.points self.new.bandwidths }
+        ensures lengths { FullLists self.new.minutes self.new.lows self.new.highs self.new.points self.new.bandwidths }
+    {
+        scan_sheet(
+            sheet,
+            &mut self.minutes,
+            &mut self.lows,
+            &mut self.highs,
+            &mut self.points,
+            &mut self.bandwidths,
+        )
+    }
+}
+
 // Reads the sheet into lists of its own, so that a refusal leaves the lent ones as they were.
 pub(crate) fn read_into(
     sheet: &[u8],
-    minutes: &mut [u16],
-    lows: &mut [u16],
-    highs: &mut [u16],
-    points: &mut [u16],
-    bandwidths: &mut [u32],
+    minutes: &mut [u16; 1024],
+    lows: &mut [u16; 1024],
+    highs: &mut [u16; 1024],
+    points: &mut [u16; 512],
+    bandwidths: &mut [u32; 512],
 ) -> Result<RangeCounts, Refusal>
-    requires { (length minutes.old ≡ 1024) × (length lows.old ≡ 1024) × (length highs.old ≡ 1024) × (length points.old ≡ 512) × (length bandwidths.old ≡ 512) }
     ensures { ReadInto sheet.now minutes.old lows.old highs.old points.old bandwidths.old result minutes.new lows.new highs.new points.new bandwidths.new }
 {
-    let mut ts = [0u16; 1024];
-    let mut ls = [0u16; 1024];
-    let mut us = [0u16; 1024];
-    let mut zs = [0u16; 512];
-    let mut hs = [0u32; 512];
-    let used = scan_sheet(sheet, &mut ts, &mut ls, &mut us, &mut zs, &mut hs)?;
-    put_samples(&ts, &ls, &us, used.samples, minutes, lows, highs);
-    put_points(&zs, &hs, used.points, points, bandwidths);
+    let mut lists = SheetLists {
+        minutes: [0; 1024],
+        lows: [0; 1024],
+        highs: [0; 1024],
+        points: [0; 512],
+        bandwidths: [0; 512],
+    };
+    let used = lists.scan(sheet)?;
+    let n = used.samples;
+    put_samples(
+        &lists.minutes[..n],
+        &lists.lows[..n],
+        &lists.highs[..n],
+        minutes,
+        lows,
+        highs,
+    );
+    let marks = Marks {
+        points: &lists.points[..used.points],
+        bandwidths: &lists.bandwidths[..used.points],
+    };
+    put_points(marks, points, bandwidths);
     Ok(used)
 }
 
-// The reader, for lent lists of any lengths.
+// The reader, for lent lists of any lengths. Each stays a parameter of its own, as C lends it; one of another length than the sheet asks is refused as
+// it is taken for an array.
+#[tactic(auto, using(crate::proofs::Scans::reading_call))]
 pub fn read_ranges(
     sheet: &[u8],
     minutes: &mut [u16],
@@ -53,14 +96,11 @@ pub fn read_ranges(
     ensures points_after { points.new ≡ range_front (read_ranges full sheet.now minutes.old lows.old highs.old points.old bandwidths.old) points_of points.old }
     ensures bandwidths_after { bandwidths.new ≡ range_front (read_ranges full sheet.now minutes.old lows.old highs.old points.old bandwidths.old) bandwidths_of bandwidths.old }
 {
-    if uneven_reader(
-        minutes.len(),
-        lows.len(),
-        highs.len(),
-        points.len(),
-        bandwidths.len(),
-    ) {
-        return Err(Report::LengthMismatch.at(0));
-    }
+    let uneven = Report::LengthMismatch.at(0);
+    let minutes = minutes.as_mut_array().ok_or(uneven)?;
+    let lows = lows.as_mut_array().ok_or(uneven)?;
+    let highs = highs.as_mut_array().ok_or(uneven)?;
+    let points = points.as_mut_array().ok_or(uneven)?;
+    let bandwidths = bandwidths.as_mut_array().ok_or(uneven)?;
     read_into(sheet, minutes, lows, highs, points, bandwidths)
 }

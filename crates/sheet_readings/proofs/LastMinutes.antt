@@ -1,10 +1,10 @@
--- Of the lines before, only the last one's minute decides what the reading lines keep; before the first line it may stand as 0.
+-- Of the lines before, only the last one's minute decides what the reading lines keep.
 use Prim.Native.Nat.{ℕ}
 use mathlib.Core.Path.{◌≡◌, refl, sym, ◌∙◌}
 use mathlib.Core.List.{List, [], ◌∷◌, ◌++◌}
-use Rattle.std.specs.Prelude.{Option, None, Some}
+use Rattle.std.specs.Prelude.{Option, None, Some, IsSome}
+use Rattle.sheet_values.specs.LineValues.{minute_before}
 use native.Mathlib.Omega.{arith}
-use borrow.Author.Tests.{le-ltb}
 use lib.Dec.{ltb}
 use lib.ListN.{length}
 use Rattle.meanings.specs.declared.Limits.{Limits}
@@ -51,10 +51,7 @@ alike_lines L k p a b ts ls us (line t d r) e =
           h j.minute (add_kept (kept_range j) j.minute ts) (add_kept (kept_range j) j.low ls) (add_kept (kept_range j) j.high us),
         )
 
-pub first_minute : (L : Limits) (k : Kind) (p : ℕ) (ts ls us : List ℕ) (r : Lines)
-    → read_readings L k p (after [] ts ls us) r kept_readings ≡ read_readings L k p (after (0 ∷ []) ts ls us) r kept_readings
-first_minute L k p ts ls us r = alike_lines L k p [] (0 ∷ []) ts ls us r (λ y. sym (le-ltb y 0 (omega arith)))
-
-pub last_minute : (L : Limits) (k : Kind) (p a m : ℕ) (ts ls us : List ℕ) (r : Lines)
-    → read_readings L k p (after (a ∷ m ∷ []) ts ls us) r kept_readings ≡ read_readings L k p (after (m ∷ []) ts ls us) r kept_readings
-last_minute L k p a m ts ls us r = alike_lines L k p (a ∷ m ∷ []) (m ∷ []) ts ls us r (λ y. refl)
+pub last_minute : (L : Limits) (k : Kind) (p : ℕ) (before : List ℕ) (o : Option ℕ) (ts ls us : List ℕ) (r : Lines) → IsSome o
+    → read_readings L k p (after (before ++ minute_before o) ts ls us) r kept_readings ≡ read_readings L k p (after (minute_before o) ts ls us) r kept_readings
+last_minute L k p before None ts ls us r e = let z : ◌≡◌ {A = ℕ} 0 1 = cc in absurd (omega arith)
+last_minute L k p before (Some m) ts ls us r e = alike_lines L k p (before ++ m ∷ []) (m ∷ []) ts ls us r (λ y. last_decides before m y)

@@ -1,7 +1,7 @@
 -- The reading lines, line by line: what is left of their meaning after those read so far; and the call from it.
 use Prim.Native.Nat.{ℕ, ◌-◌, ◌≤◌, ◌<◌}
 use mathlib.Core.Path.{◌≡◌, refl, sym, ap, ◌∙◌}
-use mathlib.Core.List.{List, [], ◌∷◌}
+use mathlib.Core.List.{List}
 use Rattle.std.specs.Prelude.{Result, Some, None, Ok, Err}
 use native.Mathlib.Omega.{arith}
 use lib.ListN.{length, take, drop, drop_of_length-le, length-drop}
@@ -15,10 +15,11 @@ use Rattle.meanings_ranges.specs.declared.Kind.{Kind}
 use Rattle.meanings_ranges.specs.RangeSheet.{Readings, no_readings, reading_line, with_reading, read_readings}
 use Rattle.sheet_lines.specs.declared.Line.{Line}
 use Rattle.sheet_lines.specs.Lines.{first_end, line_at}
-use Rattle.sheet_lines.proofs.LineEnds.{LineFound, ended_line}
+use Rattle.sheet_lines.proofs.LineEnds.{LineFound, ended_line, text_begins, text_within, line_shortens}
+use Rattle.sheet_values.specs.LineValues.{minute_before}
 use Rattle.sheet_readings.specs.declared.Progress.{Progress}
 use Rattle.sheet_readings.specs.Stages.{read_so_far, kept_readings, ReadingTried, ReadingsFound, readings_call, ReadingsOutcome}
-use Rattle.sheet_readings.proofs.LastMinutes.{first_minute, last_minute}
+use Rattle.sheet_readings.proofs.LastMinutes.{last_minute}
 
 readings_without_line : (s : List ℕ) (k : Kind) (p : ℕ) (w : Readings) → p < length s → line_at s p ≡ None
     → read_readings full k p w (lines (drop p s)) kept_readings ≡ refused_at p 3
@@ -35,35 +36,17 @@ readings_at_line : (s : List ℕ) (k : Kind) (p e n : ℕ) (w : Readings) → Li
     ≡ with_reading full p w (reading_line k (take (e - p) (drop p s))) (λ w'. read_readings full k n w' (lines (drop n s)) kept_readings)
 readings_at_line s k p e n w f = rw (f.first_of_lines, f.passes)
 
--- the lines from byte `from` up to byte p are read, as far as f tells; those that are kept stand in three lists; the lists have their lengths,
--- those of the lent ones
-pub record ReadingsSoFar (s : List ℕ) (from : ℕ) (k : Kind) (ts₀ ls₀ us₀ ts ls us : List ℕ) (p : ℕ) (f : Progress) : Type 0 where
-  pub minute_list : length ts ≡ 1024
-  pub low_list : length ls ≡ 1024
-  pub high_list : length us ≡ 1024
-  pub minutes_lent : length ts ≡ length ts₀
-  pub lows_lent : length ls ≡ length ls₀
-  pub highs_lent : length us ≡ length us₀
+-- the lines from byte `from` up to byte p are read, as far as f tells; those that are kept stand in three lists
+pub record ReadingsSoFar (s : List ℕ) (from : ℕ) (k : Kind) (ts ls us : List ℕ) (p : ℕ) (f : Progress) : Type 0 where
   pub few : f.count ≤ 1024
   pub left : read_readings full k from no_readings (lines (drop from s)) kept_readings
-      ≡ read_readings full k p (read_so_far (f.last ∷ []) f.count ts ls us) (lines (drop p s)) kept_readings
+      ≡ read_readings full k p (read_so_far (minute_before f.last) f.count ts ls us) (lines (drop p s)) kept_readings
 
-pub readings_begin : {s : List ℕ} {from : ℕ} {k : Kind} {ts ls us : List ℕ} → length ts ≡ 1024 → length ls ≡ 1024 → length us ≡ 1024
-    → ReadingsSoFar s from k ts ls us ts ls us from (record { count = 0; last = 0 })
-readings_begin {s} {from} {k} a b c =
-    record {
-      minute_list = a;
-      low_list = b;
-      high_list = c;
-      minutes_lent = refl;
-      lows_lent = refl;
-      highs_lent = refl;
-      few = omega arith;
-      left = first_minute full k from [] [] [] (lines (drop from s));
-    }
+pub readings_begin : {s : List ℕ} {from : ℕ} {k : Kind} {ts ls us : List ℕ}
+    → ReadingsSoFar s from k ts ls us from (record { count = 0; last = None })
+readings_begin = record { few = omega arith; left = refl }
 
-module _ {s : List ℕ} {from : ℕ} {k : Kind} {ts₀ ls₀ us₀ ts ls us : List ℕ} {p : ℕ} {f : Progress}
-    (w : ReadingsSoFar s from k ts₀ ls₀ us₀ ts ls us p f) where
+module _ {s : List ℕ} {from : ℕ} {k : Kind} {ts ls us : List ℕ} {p : ℕ} {f : Progress} (w : ReadingsSoFar s from k ts ls us p f) where
   pub readings_end : length s ≤ p → ReadingsFound s from k (Ok f.count) ts ls us
   readings_end l = record { outcome = w.left ∙ rw (drop_of_length-le s l); within = w.few }
 
@@ -77,20 +60,15 @@ module _ {s : List ℕ} {from : ℕ} {k : Kind} {ts₀ ls₀ us₀ ts ls us : Li
         → ReadingsFound s from k (Err r) ts' ls' us'
     reading_line_refused tried = record { outcome = w.left ∙ readings_at_line s k p _ _ _ (ended_line t) ∙ tried.goes_on _; within = tt }
 
-    pub readings_go_on : {g : Progress} → ReadingTried k (take (l.end - p) (drop p s)) p ts ls us f (Ok g) ts' ls' us' → length ts' ≡ length ts
-        → length ls' ≡ length ls → length us' ≡ length us → ReadingsSoFar s from k ts₀ ls₀ us₀ ts' ls' us' l.next g
-    readings_go_on {g} tried a b c =
+    pub readings_go_on : {g : Progress} → ReadingTried k (take (l.end - p) (drop p s)) p ts ls us f (Ok g) ts' ls' us'
+        → ReadingsSoFar s from k ts' ls' us' l.next g
+    readings_go_on {g} tried =
         record {
-          minute_list = a ∙ w.minute_list;
-          low_list = b ∙ w.low_list;
-          high_list = c ∙ w.high_list;
-          minutes_lent = a ∙ w.minutes_lent;
-          lows_lent = b ∙ w.lows_lent;
-          highs_lent = c ∙ w.highs_lent;
-          few = tried.within;
+          few = tried.within.0;
           left =
               w.left ∙ readings_at_line s k p _ _ _ (ended_line t) ∙ tried.goes_on _
-              ∙ last_minute full k l.next f.last g.last (take g.count ts') (take g.count ls') (take g.count us') (lines (drop l.next s));
+              ∙ last_minute full k l.next (minute_before f.last) g.last (take g.count ts') (take g.count ls') (take g.count us')
+              (lines (drop l.next s)) tried.within.1;
         }
 
 -- the lengths of the lists, tested
@@ -113,3 +91,6 @@ module _ {s : List ℕ} {from : ℕ} {k : Kind} {ts ls us : List ℕ} {a b c : �
       unfolding readings_call
       even_outcome z f =
           record { outcome = rw (differ_same a 1024 x, differ_same b 1024 y, differ_same c 1024 z) f.outcome; within = f.within }
+
+-- what reading the lines goes by
+pub ruleset reading_lines = (readings_begin, readings_end, text_begins, text_within, line_shortens)

@@ -1,6 +1,6 @@
 -- What the reading lines have given, as what is left of their meaning: a contract says that the meaning before a stage is the meaning of what the
 -- stage gives. Each contract is one record.
-use Rattle.std.specs.Prelude.{ℕ, ◌≤◌, ◌≡◌, ◌||◌, List, [], ◌∷◌, take, drop}
+use Rattle.std.specs.Prelude.{ℕ, ◌≤◌, ◌≡◌, ◌||◌, List, [], ◌∷◌, ◌++◌, take, drop, IsSome}
 use Rattle.std.specs.Prelude.{Option, Result, Ok, Err}
 use Rattle.meanings.specs.declared.Limits.{Limits}
 use Rattle.meanings.specs.declared.Refusal.{Refusal}
@@ -10,6 +10,7 @@ use Rattle.meanings.specs.Sheet.{lines, or_next}
 use Rattle.meanings_ranges.specs.declared.Kind.{Kind}
 use Rattle.meanings_ranges.specs.RangeSheet.{Readings, no_readings, reading_line, with_reading}
 use Rattle.meanings_ranges.specs.RangeSheet.{read_readings as read_readings_meaning}
+use Rattle.sheet_values.specs.LineValues.{minute_before}
 use Rattle.sheet_readings.specs.declared.Progress.{Progress}
 
 -- of all lines their minutes ms, and the first n of three lists
@@ -25,19 +26,21 @@ pub record KeptReadings : Type 0 where
 abbrev pub kept_readings : Readings → Answer KeptReadings
 kept_readings r = given (record { minutes = r.minutes; lows = r.lows; highs = r.highs })
 
--- after a reading line; last is the minute of the line before it
-abbrev pub reading_stored : Result Progress Refusal → ℕ → List ℕ → List ℕ → List ℕ → (Readings → Answer KeptReadings) → Answer KeptReadings
-reading_stored (Ok w) last ts ls us next = next (read_so_far (last ∷ w.last ∷ []) w.count ts ls us)
-reading_stored (Err r) last ts ls us next = refused (fault_of r)
+-- after a reading line behind lines with these minutes
+abbrev pub reading_stored : Result Progress Refusal → List ℕ → List ℕ → List ℕ → List ℕ → (Readings → Answer KeptReadings) → Answer KeptReadings
+reading_stored (Ok w) before ts ls us next = next (read_so_far (before ++ minute_before w.last) w.count ts ls us)
+reading_stored (Err r) before ts ls us next = refused (fault_of r)
 
+-- then there is a line before, and no more readings than there may be
 abbrev pub stored_within : Result Progress Refusal → Type 0
-stored_within (Ok w) = w.count ≤ 1024
+stored_within (Ok w) = (w.count ≤ 1024) × IsSome w.last
 stored_within (Err r) = Unit {0}
 
 -- a reading line with text t at byte p, after the first readings of three lists, as many as w says, which are ts', ls' and us' afterwards
 pub record ReadingTried (k : Kind) (t : List ℕ) (p : ℕ) (ts ls us : List ℕ) (w : Progress) (r : Result Progress Refusal) (ts' ls' us' : List ℕ) : Type 0 where
-  pub goes_on : (next : Readings → Answer KeptReadings) → with_reading full p (read_so_far (w.last ∷ []) w.count ts ls us) (reading_line k t) next
-      ≡ reading_stored r w.last ts' ls' us' next
+  pub goes_on : (next : Readings → Answer KeptReadings)
+      → with_reading full p (read_so_far (minute_before w.last) w.count ts ls us) (reading_line k t) next
+      ≡ reading_stored r (minute_before w.last) ts' ls' us' next
   pub within : stored_within r
 
 -- after the reading lines

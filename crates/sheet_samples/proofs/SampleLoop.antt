@@ -1,7 +1,7 @@
 -- The reading lines, line by line: what is left of the sheet's meaning after those read so far; and the call from it.
 use Prim.Native.Nat.{ℕ, ◌-◌, ◌≤◌, ◌<◌}
 use mathlib.Core.Path.{◌≡◌, refl, sym, ◌∙◌}
-use mathlib.Core.List.{List, [], ◌∷◌}
+use mathlib.Core.List.{List, []}
 use native.Mathlib.Omega.{arith}
 use lib.ListN.{length, take, drop, drop_of_length-le}
 use Rattle.meanings.specs.declared.Report.TheVariants.{BadHeader, MalformedLine, LengthMismatch}
@@ -13,38 +13,25 @@ use Rattle.meanings.specs.Sheet.{lines, header, read_samples}
 use Rattle.meanings.proofs.Checks.{differ_same, differ_true}
 use Rattle.sheet_lines.specs.declared.Line.{Line}
 use Rattle.sheet_lines.specs.Lines.{line_at}
-use Rattle.sheet_lines.proofs.LineEnds.{ended_line}
+use Rattle.sheet_lines.proofs.LineEnds.{ended_line, text_begins, text_within, line_shortens}
+use Rattle.sheet_values.specs.LineValues.{minute_before}
 use Rattle.sheet_samples.specs.declared.Progress.{Progress}
 use Rattle.sheet_front.specs.Stages.{HeaderTried}
 use Rattle.sheet_front.proofs.LineSteps.{header_goes_on, header_stops}
 use Rattle.sheet_samples.specs.Stages.{SampleTried, samples_read, SamplesFound, samples_call, SamplesOutcome}
 use Rattle.sheet_samples.proofs.LineSteps.{samples_without_line, samples_at_line}
-use Rattle.sheet_samples.proofs.LastMinutes.{first_minute, last_minute}
+use Rattle.sheet_samples.proofs.LastMinutes.{last_minute}
 
--- the reading lines from byte `from` up to byte p are read, as far as f tells; those that are kept stand in ts and vs; the lists have their
--- lengths, those of the lent ones
-pub record SamplesSoFar (s : List ℕ) (from : ℕ) (ts₀ vs₀ ts vs : List ℕ) (p : ℕ) (f : Progress) : Type 0 where
-  pub minute_list : length ts ≡ 1024
-  pub value_list : length vs ≡ 1024
-  pub minutes_lent : length ts ≡ length ts₀
-  pub values_lent : length vs ≡ length vs₀
+-- the reading lines from byte `from` up to byte p are read, as far as f tells; those that are kept stand in ts and vs
+pub record SamplesSoFar (s : List ℕ) (from : ℕ) (ts vs : List ℕ) (p : ℕ) (f : Progress) : Type 0 where
   pub few : f.count ≤ 1024
   pub left : (zs hs : List ℕ) → read_samples full zs hs from [] [] [] (lines (drop from s))
-      ≡ read_samples full zs hs p (f.last ∷ []) (take f.count ts) (take f.count vs) (lines (drop p s))
+      ≡ read_samples full zs hs p (minute_before f.last) (take f.count ts) (take f.count vs) (lines (drop p s))
 
-pub samples_begin : {s : List ℕ} {from : ℕ} {ts vs : List ℕ} → length ts ≡ 1024 → length vs ≡ 1024
-    → SamplesSoFar s from ts vs ts vs from (record { count = 0; last = 0 })
-samples_begin {s} {from} l m =
-    record {
-      minute_list = l;
-      value_list = m;
-      minutes_lent = refl;
-      values_lent = refl;
-      few = omega arith;
-      left = λ zs hs. first_minute full zs hs from [] [] (lines (drop from s));
-    }
+pub samples_begin : {s : List ℕ} {from : ℕ} {ts vs : List ℕ} → SamplesSoFar s from ts vs from (record { count = 0; last = None })
+samples_begin = record { few = omega arith; left = λ zs hs. refl }
 
-module _ {s : List ℕ} {from : ℕ} {ts₀ vs₀ ts vs : List ℕ} {p : ℕ} {f : Progress} (w : SamplesSoFar s from ts₀ vs₀ ts vs p f) where
+module _ {s : List ℕ} {from : ℕ} {ts vs : List ℕ} {p : ℕ} {f : Progress} (w : SamplesSoFar s from ts vs p f) where
   pub samples_end : length s ≤ p → SamplesFound s from (Ok f.count) ts vs
   samples_end l = record { outcome = λ zs hs. w.left zs hs ∙ rw (drop_of_length-le s l); within = w.few }
 
@@ -62,18 +49,15 @@ module _ {s : List ℕ} {from : ℕ} {ts₀ vs₀ ts vs : List ℕ} {p : ℕ} {f
           within = tt;
         }
 
-    pub samples_go_on : {g : Progress} → SampleTried (take (l.end - p) (drop p s)) p ts vs f (Ok g) ts' vs' → length ts' ≡ length ts
-        → length vs' ≡ length vs → SamplesSoFar s from ts₀ vs₀ ts' vs' l.next g
-    samples_go_on {g} tried a b =
+    pub samples_go_on : {g : Progress} → SampleTried (take (l.end - p) (drop p s)) p ts vs f (Ok g) ts' vs'
+        → SamplesSoFar s from ts' vs' l.next g
+    samples_go_on {g} tried =
         record {
-          minute_list = a ∙ w.minute_list;
-          value_list = b ∙ w.value_list;
-          minutes_lent = a ∙ w.minutes_lent;
-          values_lent = b ∙ w.values_lent;
-          few = tried.within;
+          few = tried.within.0;
           left = λ zs hs.
               w.left zs hs ∙ samples_at_line full s zs hs p _ _ _ _ _ (ended_line t) ∙ tried.goes_on _
-              ∙ last_minute full zs hs l.next f.last g.last (take g.count ts') (take g.count vs') (lines (drop l.next s));
+              ∙ last_minute full zs hs l.next (minute_before f.last) g.last (take g.count ts') (take g.count vs') (lines (drop l.next s))
+              tried.within.1;
         }
 
 -- the call: the lengths of the lists, tested, and then the header line before the reading lines
@@ -109,3 +93,6 @@ module _ {s : List ℕ} {from : ℕ} {ts vs : List ℕ} {a b : ℕ} {r : Result 
       → header sample_header from (lines (drop from s)) (λ p rest. read_samples full zs hs p [] [] [] rest) ≡ samples_read r zs hs ts vs
   unfolding samples_call
   samples_of_call x y zs hs = rw (differ_same a 1024 x, differ_same b 1024 y) at (call.outcome zs hs)
+
+-- what reading the lines goes by
+pub ruleset reading_samples = (samples_begin, samples_end, text_begins, text_within, line_shortens)

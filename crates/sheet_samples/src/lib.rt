@@ -1,43 +1,43 @@
 // The second header line of the tank sheet and the reading lines behind it. Every public function takes every input.
 #![tactic(auto)]
 
-ghost use Rattle.std.specs.Prelude.{◌≡◌, ◌≤◌, length};
+ghost use Rattle.std.specs.Prelude.{◌≤◌, length};
 ghost use Rattle.sheet_samples.specs.Stages.{SampleTried, SamplesFound, SamplesOutcome};
 
 use meanings::{Refusal, Report};
 use sheet_front::skip_header;
+use sheet_values::early;
 
-// How far the reading lines are read: how many readings are kept, and the minute of the line before, 0 at the first. What reads them stands beside
+// How far the reading lines are read: how many readings are kept, and the minute of the line before, if there is one. What reads them stands beside
 // that of crates/sheet_readings: one for both kinds would take a third list of 1,024 numbers from the stack of the plain reader.
-#[derive(Clone, Copy)]
+#[derive(Clone, Copy, Debug, PartialEq, Eq)]
 pub(crate) struct Progress {
     pub count: usize,
-    pub last: u16,
+    pub last: Option<u16>,
 }
 
-// Stores the reading of a line's text behind those that are kept, if it is kept too, or says what the line earns: 3, 4, 6.
+// Stores the reading of a line's text behind those that are kept, if it is kept too, or says what the line earns: 3, 4, 6. The two lists stay
+// parameters of their own: in a struct of lent lists each contract would name the loan of each list once more, and its length.
 pub(crate) fn store_sample(
     text: &[u8],
     place: usize,
-    minutes: &mut [u16],
-    values: &mut [u16],
+    minutes: &mut [u16; 1024],
+    values: &mut [u16; 1024],
     so_far: Progress,
 ) -> Result<Progress, Refusal>
-    requires { (length minutes.old ≡ 1024) × (length values.old ≡ 1024) × (so_far.count ≤ 1024) }
+    requires { so_far.count ≤ 1024 }
     ensures { SampleTried text.now place minutes.old values.old so_far result minutes.new values.new }
 {
     let Some(line) = sheet_values::sample_line(text) else {
         return Err(Report::MalformedLine.at(place));
     };
-    let Progress { count, last } = so_far;
-    if line.minute < last {
+    if early(line.minute, so_far.last) {
         return Err(Report::SampleOutOfOrder.at(place));
     }
+    let count = so_far.count;
+    let last = Some(line.minute);
     if line.injection <= 2 {
-        return Ok(Progress {
-            count,
-            last: line.minute,
-        });
+        return Ok(Progress { count, last });
     }
     if 1024 <= count {
         return Err(Report::TooMany.at(place));
@@ -46,28 +46,31 @@ pub(crate) fn store_sample(
     values[count] = line.value;
     Ok(Progress {
         count: count + 1,
-        last: line.minute,
+        last,
     })
 }
 
 // The reading lines from byte `from` on, to the sheet's end, into lists of full length: how many readings are kept.
+#[tactic(auto, using(crate::proofs::SampleLoop::reading_samples))]
 pub(crate) fn scan_samples(
     sheet: &[u8],
     from: usize,
-    minutes: &mut [u16],
-    values: &mut [u16],
+    minutes: &mut [u16; 1024],
+    values: &mut [u16; 1024],
 ) -> Result<usize, Refusal>
-    requires { (length minutes.old ≡ 1024) × (length values.old ≡ 1024) }
     ensures { SamplesFound sheet.now from result minutes.new values.new }
 {
     let mut at = from;
-    let mut so_far = Progress { count: 0, last: 0 };
-    while at < sheet.len() {
-        let Some(line) = sheet_lines::find_line(sheet, at) else {
-            return Err(Report::MalformedLine.at(at));
-        };
+    let mut so_far = Progress {
+        count: 0,
+        last: None,
+    };
+    while let Some(line) = sheet_lines::find_line(sheet, at) {
         so_far = store_sample(&sheet[at..line.end], at, minutes, values, so_far)?;
         at = line.next;
+    }
+    if at < sheet.len() {
+        return Err(Report::MalformedLine.at(at));
     }
     Ok(so_far.count)
 }
@@ -82,12 +85,12 @@ pub fn read_samples(
 ) -> Result<usize, Refusal>
     ensures { SamplesOutcome sheet.now from (length minutes.old) (length values.old) result minutes.new values.new }
 {
-    if minutes.len() != 1024 {
+    let Some(minutes) = minutes.as_mut_array() else {
         return Err(Report::LengthMismatch.at(0));
-    }
-    if values.len() != 1024 {
+    };
+    let Some(values) = values.as_mut_array() else {
         return Err(Report::LengthMismatch.at(0));
-    }
+    };
     let Some(first) = skip_header(sheet, from, b"minute,inj,vdk") else {
         return Err(Report::BadHeader.at(from));
     };

@@ -14,14 +14,14 @@ use Rattle.meanings_ranges.specs.RangeSheet.{Front, read_either_from, read_eithe
 use Rattle.meanings_ranges.specs.RangeCalls.{read_ranges}
 use Rattle.meanings_ranges.specs.EitherKind.{and_then}
 use Rattle.meanings_ranges.proofs.Fronts.{front_then}
-use Rattle.checks_reader.specs.Lengths.{uneven_reader}
+use Rattle.meanings.proofs.Checks.{differ_same, differ_true}
 use Rattle.sheet_front.specs.declared.points.Front.{Front as PointsEnd}
 use Rattle.sheet_front.specs.Stages.{front_read, FrontOutcome}
 use Rattle.sheet_front.proofs.Fronts.{front_of_call}
 use Rattle.sheet_names.specs.declared.Named.{Named}
 use Rattle.sheet_names.specs.Stages.{NamedOutcome}
 use Rattle.sheet_names.proofs.KindNames.{named_of_call}
-use Rattle.sheet_scan.specs.Stages.{EitherScanned, ScanOutcome}
+use Rattle.sheet_scan.specs.Stages.{uneven_reader, EitherScanned, ScanOutcome}
 
 -- the front of the sheet, and what follows it
 module _ {s zs hs : List ℕ} {m n : ℕ} (points : m ≡ 512) (bandwidths : n ≡ 512) where
@@ -50,16 +50,69 @@ pub same_read : (s ts ls us zs hs : List ℕ) → uneven_reader full (length ts)
 unfolding read_ranges
 same_read s ts ls us zs hs e = rw e
 
+-- the lengths of the lists, one after another
+module _ (a b c d e : ℕ) where
+  pub minutes_off : ¬ (a ≡ 1024) → uneven_reader full a b c d e ≡ true
+  minutes_off n = rw (differ_true a 1024 n)
+
+  module _ (x : a ≡ 1024) where
+    pub lows_off : ¬ (b ≡ 1024) → uneven_reader full a b c d e ≡ true
+    lows_off n = rw (differ_same a 1024 x, differ_true b 1024 n)
+
+    module _ (y : b ≡ 1024) where
+      pub highs_off : ¬ (c ≡ 1024) → uneven_reader full a b c d e ≡ true
+      highs_off n = rw (differ_same a 1024 x, differ_same b 1024 y, differ_true c 1024 n)
+
+      module _ (z : c ≡ 1024) where
+        pub points_off : ¬ (d ≡ 512) → uneven_reader full a b c d e ≡ true
+        points_off n = rw (differ_same a 1024 x, differ_same b 1024 y, differ_same c 1024 z, differ_true d 512 n)
+
+        module _ (w : d ≡ 512) where
+          pub bandwidths_off : ¬ (e ≡ 512) → uneven_reader full a b c d e ≡ true
+          bandwidths_off n = rw (differ_same a 1024 x, differ_same b 1024 y, differ_same c 1024 z, differ_same d 512 w, differ_true e 512 n)
+
+          pub all_even : e ≡ 512 → uneven_reader full a b c d e ≡ false
+          all_even v = rw (differ_same a 1024 x, differ_same b 1024 y, differ_same c 1024 z, differ_same d 512 w, differ_same e 512 v)
+
 module _ {s ts₀ ls₀ us₀ zs₀ hs₀ : List ℕ} where
-  pub uneven_outcome : {ts ls us zs hs : List ℕ} {r : Refusal} → uneven_reader full (length ts₀) (length ls₀) (length us₀) (length zs₀) (length hs₀) ≡ true
+  uneven_outcome : uneven_reader full (length ts₀) (length ls₀) (length us₀) (length zs₀) (length hs₀) ≡ true → {r : Refusal} {ts ls us zs hs : List ℕ}
       → r ≡ (record { report = LengthMismatch; place = 0 }) → ScanOutcome s ts₀ ls₀ us₀ zs₀ hs₀ (Err r) ts ls us zs hs
   unfolding read_ranges
   uneven_outcome e d = record { outcome = rw (e, d); within = tt }
 
-  pub even_outcome : {r : Result RangeCounts Refusal} {ts ls us zs hs : List ℕ}
+  even_outcome : {r : Result RangeCounts Refusal} {ts ls us zs hs : List ℕ}
       → uneven_reader full (length ts₀) (length ls₀) (length us₀) (length zs₀) (length hs₀) ≡ false → EitherScanned s r ts ls us zs hs
       → ScanOutcome s ts₀ ls₀ us₀ zs₀ hs₀ r ts ls us zs hs
   even_outcome e x = record { outcome = same_read s ts₀ ls₀ us₀ zs₀ hs₀ e ∙ x.outcome; within = x.within }
+
+  pub minutes_uneven : ¬ (length ts₀ ≡ 1024)
+      → {r : Refusal} {ts ls us zs hs : List ℕ} → r ≡ (record { report = LengthMismatch; place = 0 }) → ScanOutcome s ts₀ ls₀ us₀ zs₀ hs₀ (Err r) ts ls us zs hs
+  minutes_uneven n d =
+      uneven_outcome (minutes_off (length ts₀) (length ls₀) (length us₀) (length zs₀) (length hs₀) n) d
+
+  pub lows_uneven : length ts₀ ≡ 1024 → ¬ (length ls₀ ≡ 1024)
+      → {r : Refusal} {ts ls us zs hs : List ℕ} → r ≡ (record { report = LengthMismatch; place = 0 }) → ScanOutcome s ts₀ ls₀ us₀ zs₀ hs₀ (Err r) ts ls us zs hs
+  lows_uneven x n d =
+      uneven_outcome (lows_off (length ts₀) (length ls₀) (length us₀) (length zs₀) (length hs₀) x n) d
+
+  pub highs_uneven : length ts₀ ≡ 1024 → length ls₀ ≡ 1024 → ¬ (length us₀ ≡ 1024)
+      → {r : Refusal} {ts ls us zs hs : List ℕ} → r ≡ (record { report = LengthMismatch; place = 0 }) → ScanOutcome s ts₀ ls₀ us₀ zs₀ hs₀ (Err r) ts ls us zs hs
+  highs_uneven x y n d =
+      uneven_outcome (highs_off (length ts₀) (length ls₀) (length us₀) (length zs₀) (length hs₀) x y n) d
+
+  pub points_uneven : length ts₀ ≡ 1024 → length ls₀ ≡ 1024 → length us₀ ≡ 1024 → ¬ (length zs₀ ≡ 512)
+      → {r : Refusal} {ts ls us zs hs : List ℕ} → r ≡ (record { report = LengthMismatch; place = 0 }) → ScanOutcome s ts₀ ls₀ us₀ zs₀ hs₀ (Err r) ts ls us zs hs
+  points_uneven x y z n d =
+      uneven_outcome (points_off (length ts₀) (length ls₀) (length us₀) (length zs₀) (length hs₀) x y z n) d
+
+  pub bandwidths_uneven : length ts₀ ≡ 1024 → length ls₀ ≡ 1024 → length us₀ ≡ 1024 → length zs₀ ≡ 512 → ¬ (length hs₀ ≡ 512)
+      → {r : Refusal} {ts ls us zs hs : List ℕ} → r ≡ (record { report = LengthMismatch; place = 0 }) → ScanOutcome s ts₀ ls₀ us₀ zs₀ hs₀ (Err r) ts ls us zs hs
+  bandwidths_uneven x y z w n d =
+      uneven_outcome (bandwidths_off (length ts₀) (length ls₀) (length us₀) (length zs₀) (length hs₀) x y z w n) d
+
+  pub scan_outcome : length ts₀ ≡ 1024 → length ls₀ ≡ 1024 → length us₀ ≡ 1024 → length zs₀ ≡ 512 → length hs₀ ≡ 512
+      → {r : Result RangeCounts Refusal} {ts ls us zs hs : List ℕ} → EitherScanned s r ts ls us zs hs → ScanOutcome s ts₀ ls₀ us₀ zs₀ hs₀ r ts ls us zs hs
+  scan_outcome x y z w v o = even_outcome (all_even (length ts₀) (length ls₀) (length us₀) (length zs₀) (length hs₀) x y z w v) o
 
   pub scanned_of_call : {r : Result RangeCounts Refusal} {ts ls us zs hs : List ℕ}
       → uneven_reader full (length ts₀) (length ls₀) (length us₀) (length zs₀) (length hs₀) ≡ false

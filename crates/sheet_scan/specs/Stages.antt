@@ -1,7 +1,8 @@
 -- What is left of the meaning of a sheet of either kind once it is read. Each contract is one record.
-use Rattle.std.specs.Prelude.{ℕ, ◌≤◌, ◌≡◌, List, take, Result, Ok, Err}
+use Rattle.std.specs.Prelude.{ℕ, ◌≤◌, ◌≡◌, Bool, ◌||◌, List, take, Result, Ok, Err}
+use Rattle.meanings.specs.declared.Limits.{Limits}
 use Rattle.meanings.specs.Limits.{full}
-use Rattle.meanings.specs.Reports.{Answer, given, refused, fault_of}
+use Rattle.meanings.specs.Reports.{Answer, given, refused, fault_of, differ}
 use Rattle.meanings.specs.declared.Refusal.{Refusal}
 use Rattle.meanings_ranges.specs.declared.RangeCounts.{RangeCounts}
 use Rattle.meanings_ranges.specs.RangeSheet.{RangeContents, read_either}
@@ -28,6 +29,11 @@ used_within (Err r) = Unit {0}
 pub record EitherScanned (s : List ℕ) (r : Result RangeCounts Refusal) (ts ls us zs hs : List ℕ) : Type 0 where
   pub outcome : read_either full s ≡ either_read r ts ls us zs hs
   pub within : used_within r
+
+-- report 8: a list of another length
+abbrev pub uneven_reader : Limits → ℕ → ℕ → ℕ → ℕ → ℕ → Bool
+uneven_reader L a b c d e =
+    differ a L.samples || differ b L.samples || differ c L.samples || differ d L.points || differ e L.points
 
 -- the whole call, with the lists as they were: the answer is what the reader makes of the sheet with these lists, whose used parts are then in
 -- front; what they hold after a refusal is left open

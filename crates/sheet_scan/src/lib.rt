@@ -1,10 +1,8 @@
 // A sheet of either kind read into lists whose holder counts on them only once it is accepted. Every public function takes every input.
 #![tactic(auto)]
 
-ghost use Rattle.std.specs.Prelude.{◌≡◌, length};
 ghost use Rattle.sheet_scan.specs.Stages.{EitherScanned, ScanOutcome};
 
-use checks_reader::uneven_reader;
 use meanings::{Refusal, Report};
 use meanings_ranges::RangeCounts;
 use sheet_front::read_front;
@@ -13,13 +11,12 @@ use sheet_names::read_named;
 // The whole sheet, into lists of full length.
 pub(crate) fn scan(
     sheet: &[u8],
-    minutes: &mut [u16],
-    lows: &mut [u16],
-    highs: &mut [u16],
-    points: &mut [u16],
-    bandwidths: &mut [u32],
+    minutes: &mut [u16; 1024],
+    lows: &mut [u16; 1024],
+    highs: &mut [u16; 1024],
+    points: &mut [u16; 512],
+    bandwidths: &mut [u32; 512],
 ) -> Result<RangeCounts, Refusal>
-    requires { (length minutes.old ≡ 1024) × (length lows.old ≡ 1024) × (length highs.old ≡ 1024) × (length points.old ≡ 512) × (length bandwidths.old ≡ 512) }
     ensures { EitherScanned sheet.now result minutes.new lows.new highs.new points.new bandwidths.new }
 {
     let front = read_front(sheet, points, bandwidths)?;
@@ -31,7 +28,8 @@ pub(crate) fn scan(
     })
 }
 
-// The same for lists of any lengths. What the lists hold after a refusal is left open: they are a reader's own.
+// The same for lists of any lengths. What the lists hold after a refusal is left open: they are a reader's own. Each stays a parameter of its own: of
+// lists in a struct a contract would name what is left by the field's place.
 pub fn scan_sheet(
     sheet: &[u8],
     minutes: &mut [u16],
@@ -42,14 +40,21 @@ pub fn scan_sheet(
 ) -> Result<RangeCounts, Refusal>
     ensures { ScanOutcome sheet.now minutes.old lows.old highs.old points.old bandwidths.old result minutes.new lows.new highs.new points.new bandwidths.new }
 {
-    if uneven_reader(
-        minutes.len(),
-        lows.len(),
-        highs.len(),
-        points.len(),
-        bandwidths.len(),
-    ) {
-        return Err(Report::LengthMismatch.at(0));
-    }
+    let uneven = Report::LengthMismatch.at(0);
+    let Some(minutes) = minutes.as_mut_array() else {
+        return Err(uneven);
+    };
+    let Some(lows) = lows.as_mut_array() else {
+        return Err(uneven);
+    };
+    let Some(highs) = highs.as_mut_array() else {
+        return Err(uneven);
+    };
+    let Some(points) = points.as_mut_array() else {
+        return Err(uneven);
+    };
+    let Some(bandwidths) = bandwidths.as_mut_array() else {
+        return Err(uneven);
+    };
     scan(sheet, minutes, lows, highs, points, bandwidths)
 }

@@ -3,32 +3,26 @@
 
 ghost use Rattle.std.specs.Prelude.{◌≡◌, Some};
 ghost use Rattle.meanings.specs.Sheet.{point_line, sample_line, ranged_sample};
-ghost use Rattle.sheet_values.specs.LineValues.{point_values, sample_values};
+ghost use Rattle.sheet_values.specs.LineValues.{point_values, sample_values, early};
 
+use meanings::Mark;
 use sheet_fields::numbers;
 
-// The values of a mark line; its half width has no range here.
-#[derive(Clone, Copy)]
-pub struct PointLine {
-    pub point: u16,
-    pub bandwidth: u32,
-}
-
 // The values of a reading line: minute, inj, vdk.
-#[derive(Clone, Copy)]
+#[derive(Clone, Copy, Debug, PartialEq, Eq)]
 pub struct SampleLine {
     pub minute: u16,
     pub injection: u16,
     pub value: u16,
 }
 
-// The values of a mark line's text.
-pub fn point_line(text: &[u8]) -> Option<PointLine>
+// The mark of a line's text; its half width has no range here.
+pub fn point_line(text: &[u8]) -> Option<Mark>
     ensures { point_values result ≡ point_line text.now }
 {
     let [z, bandwidth] = numbers::<2>(text)?;
     let point = u16::try_from(z).ok()?;
-    Some(PointLine { point, bandwidth })
+    Some(Mark { point, bandwidth })
 }
 
 // The values of a reading line's text.
@@ -39,7 +33,7 @@ pub fn sample_line(text: &[u8]) -> Option<SampleLine>
     ranged_sample(t, j, v)
 }
 
-// A reading line's values, if each is in its range.
+// A reading line's values, if each is in its range; None as of a line of another form, so no TryFrom with an error of its own.
 pub fn ranged_sample(minute: u32, injection: u32, value: u32) -> Option<SampleLine>
     ensures { sample_values result ≡ ranged_sample (Some minute) (Some injection) (Some value) }
 {
@@ -54,4 +48,11 @@ pub fn ranged_sample(minute: u32, injection: u32, value: u32) -> Option<SampleLi
         injection,
         value,
     })
+}
+
+// Whether a line's minute is below that of the line before, if there is one.
+pub fn early(minute: u16, before: Option<u16>) -> bool
+    ensures { result ≡ early minute before }
+{
+    before.is_some_and(|before| minute < before)
 }

@@ -142,14 +142,20 @@ eight_high_bits : word (λ k. 128) 8 ≡ 9259542123273814144
 unfolding word
 eight_high_bits = refl
 
--- eight bytes and the line feed: x less a one in each byte, modulo 2 ^ 64
-pub marks_feeds : (w : ℕ) → w < 18446744073709551616
-    → Marks line_feed (byte w) 8 (bit_and (bit_and ((bit_xor w 723401728380766730 + 18374403900871474943) % 18446744073709551616)
-    (18446744073709551615 - bit_xor w 723401728380766730)) 9259542123273814144)
-marks_feeds w l =
+-- eight bytes and the line feed: p is x less a one in each byte, modulo 2 ^ 64
+pub marks_feeds : (w p : ℕ) → w < 18446744073709551616 → (p + 72340172838076673) % 18446744073709551616 ≡ bit_xor w 723401728380766730
+    → Marks line_feed (byte w) 8 (bit_and (bit_and p (18446744073709551615 - bit_xor w 723401728380766730)) 9259542123273814144)
+marks_feeds w p l e =
     let x : bit_xor (word (byte w) 8) (word (λ k. line_feed) 8) ≡ bit_xor w 723401728380766730 = rw (word_of_bytes 8 w l, eight_feeds) in
     let within = xor_lt 64 w 723401728380766730 l (omega arith) in
-    let p = (bit_xor w 723401728380766730 + 18374403900871474943) % 18446744073709551616 in
     rw (← eight_high_bits)
     (marks_first line_feed (omega arith) 8 (byte w) (λ k m. byte_small w k) p (18446744073709551615 - bit_xor w 723401728380766730)
     ((p + 72340172838076673) / 18446744073709551616) (rw (x, eight_ones) (omega arith)) (rw x (omega arith)))
+
+-- the same of the difference that the code makes, which wraps
+pub marks_feed_bits : (w : ℕ) → w < 18446744073709551616
+    → Marks line_feed (byte w) 8 (bit_and (bit_and ((bit_xor w 723401728380766730 + 18374403900871474943) % 18446744073709551616)
+    (18446744073709551615 - bit_xor w 723401728380766730)) 9259542123273814144)
+marks_feed_bits w l =
+    let within = xor_lt 64 w 723401728380766730 l (omega arith) in
+    marks_feeds w ((bit_xor w 723401728380766730 + 18374403900871474943) % 18446744073709551616) l (omega arith)

@@ -7,7 +7,7 @@ use Rattle.sheet_words.proofs.Marking.{marks_feeds}
 
 -- the bytes 10, 11 and six times 0: 0 less 1 wraps, so both are marked
 both_marked : Marks line_feed (byte 2826) 8 32896
-both_marked = marks_feeds 2826 (omega arith)
+both_marked = marks_feeds 2826 651061555542687743 (omega arith) refl
 
 second_is_eleven : byte 2826 1 ≡ 11
 unfolding byte

@@ -35,6 +35,7 @@ pub fn word_at(s: &[u8], at: usize) -> Option<u64>
 
 // Bits that tell whether a byte of the word is a line feed: 0 if none is, and otherwise the lowest set bit stands in the first such byte.
 // A byte that is one is 0 in x, and only there does the subtraction, up to its first borrow, set a high bit that x has not.
+#[tactic(auto, using(crate::proofs::Marking::marks_feed_bits))]
 pub fn feed_bits(w: u64) -> u64
     ensures { Marks line_feed (byte w) 8 result }
 {

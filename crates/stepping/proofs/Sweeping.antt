@@ -1,48 +1,28 @@
 -- Over accepted lists each step lands on its mark's window, so the row that the record gives there is the mark's.
 use Prim.Native.Nat.{ℕ, suc, ◌+◌, ◌^◌, ◌≤◌, ◌<◌}
-use Rattle.std.specs.Prelude.{Result, Ok, Err}
-use Rattle.meanings.specs.Calls.{answer_of}
 use mathlib.Core.Path.{◌≡◌, refl, sym, ap, ◌∙◌}
 use mathlib.Core.List.{List}
 use native.Mathlib.Numerals.{add-one}
 use native.Mathlib.Omega.{arith}
-use mir.Val.{Fits}
-use mir.Syntax.{w16}
 use lib.ListN.{length, get_or}
-use Rattle.meanings.specs.declared.Estimate.{Estimate}
-use Rattle.meanings.specs.declared.PowerSums.{PowerSums}
-use Rattle.meanings.specs.declared.Refusal.{Refusal}
 use Rattle.meanings.specs.declared.RunningSums.{RunningSums}
 use Rattle.meanings.specs.Estimate.{estimate}
-use Rattle.meanings.specs.Running.{six, advance, next_record, after_step, record_row}
+use Rattle.meanings.specs.Running.{next_record, after_step, record_row}
 use Rattle.meanings.proofs.Steps.{Small, at_window}
 use Rattle.meanings.proofs.SmoothSteps.{CurveAccepted, running_at, running_within, step_accepted}
 use Rattle.meanings.proofs.SmoothRows.{record_of_window_gives_row}
+use Rattle.estimator.specs.Rows.{Of16Bits}
+use Rattle.arithmetic.proofs.Zeros.{IsZeros, zeros}
 use Rattle.estimator.proofs.Rows.{of_16_bits}
 use Rattle.stepping.specs.declared.Reached.{Reached}
-use Rattle.stepping.specs.Steps.{IsFresh, Stepped, SteppedRow}
+use Rattle.stepping.specs.Steps.{IsFresh, SteppedRow}
 
--- a record of zeros
-pub zeros_fresh : {q : PowerSums} → q ≡ six (λ a b. 0) → IsFresh (record { left = 0; right = 0; sums = q; passes = 0 })
-zeros_fresh e = record { zeros = ap (λ (q : PowerSums). record { left = 0; right = 0; sums = q; passes = 0 }) e }
+-- the derived default is a record before any step
+abbrev pub IsDefault : RunningSums → Type 0
+IsDefault r = (r.left ≡ 0) × ((r.right ≡ 0) × (IsZeros r.sums × (r.passes ≡ 0)))
 
--- the record after a step, by what the step answered
-module _ (ts vs : List ℕ) (r : RunningSums) (z h : ℕ) (a : Result RunningSums Refusal) (answer : answer_of a ≡ advance ts vs r z h) where
-  pub refused_stays : (e : Refusal) → a ≡ Err e → Stepped ts vs r z h r
-  refused_stays e q = record { after = ap (next_record r) (sym (ap answer_of q) ∙ answer) }
-
-  pub moved_goes : (r' : RunningSums) → a ≡ Ok r' → Stepped ts vs r z h r'
-  moved_goes r' q = record { after = ap (next_record r) (sym (ap answer_of q) ∙ answer) }
-
--- the row of the record that a step has given, also where the step is told by an equation
-pub row_of_step : (ts vs : List ℕ) (r : RunningSums) (z h : ℕ) {r' : RunningSums} {e : Estimate} → Stepped ts vs r z h r' → e ≡ record_row r' z h
-    → SteppedRow ts vs r z h (record { running = r'; row = e })
-row_of_step ts vs r z h s e = record { step = s; row_is = e }
-
-pub row_after : (ts vs : List ℕ) (r : RunningSums) (z h : ℕ) {r' : RunningSums} {e : Estimate}
-    → r' ≡ after_step ts vs r (record { point = z; bandwidth = h }) → e ≡ record_row r' z h
-    → SteppedRow ts vs r z h (record { running = r'; row = e })
-row_after ts vs r z h a e = row_of_step ts vs r z h (record { after = a }) e
+pub default_fresh : {r : RunningSums} → IsDefault r → IsFresh r
+default_fresh (l, (m, (s, p))) = record { zeros = λ i. record { left = l i; right = m i; sums = zeros s i; passes = p i } }
 
 -- r is the record after k steps, one a mark, over accepted lists
 pub record SteppedTo (ts vs zs hs : List ℕ) (k : ℕ) (r : RunningSums) : Type 0 where
@@ -50,8 +30,8 @@ pub record SteppedTo (ts vs zs hs : List ℕ) (k : ℕ) (r : RunningSums) : Type
   pub accepted : CurveAccepted ts vs zs hs
   pub running : r ≡ running_at ts vs zs hs k
 
-pub steps_begin : {ts vs zs hs : List ℕ} {r : RunningSums} → CurveAccepted ts vs zs hs → ((i : ℕ) → Fits w16 (get_or ts i 0))
-    → ((i : ℕ) → Fits w16 (get_or vs i 0)) → IsFresh r → SteppedTo ts vs zs hs 0 r
+pub steps_begin : {ts vs zs hs : List ℕ} {r : RunningSums} → CurveAccepted ts vs zs hs → Of16Bits ts → Of16Bits vs → IsFresh r
+    → SteppedTo ts vs zs hs 0 r
 steps_begin a t v f = record { small = of_16_bits a.even a.few t v; accepted = a; running = f.zeros }
 
 -- its edges, which are the passes of these steps, are as few as the readings

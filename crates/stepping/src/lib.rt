@@ -1,73 +1,42 @@
 // A running record on its way over a list of marks, for the sweep and for calls that stop at a mark. Every function takes every input.
 #![tactic(auto)]
 
-ghost use Rattle.stepping.specs.Steps.{IsFresh, Stepped, SteppedRow};
+ghost use Rattle.stepping.specs.Steps.{Stepped, SteppedRow};
 
-use arithmetic::zero_sums;
 use estimator::advance;
-use meanings::{Estimate, RunningSums};
+use meanings::{Estimate, Mark, Readings, RunningSums};
 use row::record_row;
 use stepping_fused::fused_step;
 
 // A record and the row that it gives at the mark of its last step.
-#[derive(Clone, Copy)]
+#[derive(Clone, Copy, Debug, PartialEq, Eq)]
 pub struct Reached {
     pub running: RunningSums,
     pub row: Estimate,
 }
 
-// A record before any step.
-pub fn fresh_record() -> RunningSums
-    ensures { IsFresh result }
+// The record after a step, accepted or refused: `fused_step` by the call of the step, for `step_beside`.
+pub fn stepped(running: RunningSums, readings: Readings, mark: Mark) -> RunningSums
+    ensures { Stepped readings.entry.minutes.now readings.entry.values.now running mark.point mark.bandwidth result }
 {
-    RunningSums {
-        left: 0,
-        right: 0,
-        sums: zero_sums(),
-        passes: 0,
-    }
-}
-
-// The record after a step, accepted or refused.
-pub fn stepped(
-    running: RunningSums,
-    minutes: &[u16],
-    values: &[u16],
-    point: u16,
-    bandwidth: u32,
-) -> RunningSums
-    ensures { Stepped minutes.now values.now running point bandwidth result }
-{
-    advance(running, minutes, values, point, bandwidth).unwrap_or(running)
+    advance(running, readings, mark).unwrap_or(running)
 }
 
 // The record after a step, and the row that it gives there.
-pub fn step_to(
-    running: RunningSums,
-    minutes: &[u16],
-    values: &[u16],
-    point: u16,
-    bandwidth: u32,
-) -> Reached
-    ensures { SteppedRow minutes.now values.now running point bandwidth result }
+pub fn step_to(running: RunningSums, readings: Readings, mark: Mark) -> Reached
+    ensures { SteppedRow readings.entry.minutes.now readings.entry.values.now running mark.point mark.bandwidth result }
 {
-    let next = fused_step(running, minutes, values, point, bandwidth);
-    let row = record_row(next, point, bandwidth);
+    let next = fused_step(running, readings, mark);
+    let row = record_row(next, mark);
     Reached { running: next, row }
 }
 
 // The same for a second record in the same loop: the compiler takes a step of this length into a loop only where it is called once.
-pub fn step_beside(
-    running: RunningSums,
-    minutes: &[u16],
-    values: &[u16],
-    point: u16,
-    bandwidth: u32,
-) -> Reached
-    ensures { SteppedRow minutes.now values.now running point bandwidth result }
+pub fn step_beside(running: RunningSums, readings: Readings, mark: Mark) -> Reached
+    ensures { SteppedRow readings.entry.minutes.now readings.entry.values.now running mark.point mark.bandwidth result }
 {
-    let after = stepped(running, minutes, values, point, bandwidth);
-    let row = record_row(after, point, bandwidth);
+    let after = stepped(running, readings, mark);
+    let row = record_row(after, mark);
     Reached {
         running: after,
         row,

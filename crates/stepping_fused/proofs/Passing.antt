@@ -1,23 +1,17 @@
 -- Searching and summing in one loop find what they find one after the other, so a step of two such ways is the meaning's.
-use Prim.Native.Nat.{ℕ, ◌+◌, ◌-◌, ◌^◌, ◌≤◌, ◌<◌}
-use Rattle.std.specs.Prelude.{Result, Ok, Err}
-use mathlib.Core.Path.{◌≡◌, ap}
+use Prim.Native.Nat.{ℕ, ◌+◌, ◌-◌, ◌≤◌, ◌<◌}
+use mathlib.Core.Path.{◌≡◌}
 use mathlib.Core.List.{List}
 use lib.ListN.{length, get_or}
-use Rattle.meanings.specs.declared.Limits.{Limits}
 use Rattle.meanings.specs.declared.PowerSums.{PowerSums}
-use Rattle.meanings.specs.declared.Refusal.{Refusal}
 use Rattle.meanings.specs.declared.RunningSums.{RunningSums}
-use Rattle.meanings.specs.Limits.{full}
 use Rattle.meanings.specs.Lists.{distance}
-use Rattle.meanings.specs.Reports.{verdict_fault, first_of, advance_checks}
-use Rattle.meanings.specs.Running.{six, sum_at, term, plus, minus, moved, next_record, after_step}
+use Rattle.meanings.specs.Running.{six, sum_at, term, plus, minus, moved}
 use Rattle.meanings.proofs.Checks.{AdvanceAccepted}
 use Rattle.estimator.specs.Rows.{RunWithin}
-use Rattle.estimator.proofs.Laws.{Small, Joined, run_begins, run_grows, run_ends, Searched, search_begins, search_goes_on, search_finds, search_ends}
+use Rattle.estimator.proofs.Laws.{Joined, run_grows, Searched, search_goes_on, search_finds}
 use Rattle.estimator.proofs.Moves.{six_parts_move}
 use Rattle.estimator.proofs.Searches.{run_within, left_starts_within}
-use Rattle.estimator.proofs.Verdicts.{advance_refused, advance_given}
 use Rattle.arithmetic.specs.declared.Edge.{Edge}
 use Rattle.stepping_fused.specs.Passing.{PassedUntil}
 
@@ -27,11 +21,6 @@ pub record PassedTo (op : ℕ → ℕ → ℕ) (s : PowerSums) (ts vs : List ℕ
   pub joined : Joined op s ts vs a b i r
 
 module _ {op : ℕ → ℕ → ℕ} {s : PowerSums} {ts vs : List ℕ} {a b m : ℕ} where
-  pub passing_begins : (w : ℕ) → ((x : ℕ) → x < 2 ^ w → op x 0 ≡ x) → ((x y z : ℕ) → op (op x y) z ≡ op x (y + z)) → Small w s
-      → RunWithin ts vs a b → PassedTo op s ts vs a b m a s
-  passing_begins w none chain small l =
-      record { searched = search_begins l.minutes.ordered; joined = run_begins w none chain small l }
-
   module _ {i : ℕ} {r : PowerSums} (p : PassedTo op s ts vs a b m i r) where
     pub passing_goes_on : {r' : PowerSums} → i < b → get_or ts i 0 < m → r' ≡ six (λ p q. op (sum_at r p q) (term p q ts vs i))
         → PassedTo op s ts vs a b m (i + 1) r'
@@ -39,9 +28,6 @@ module _ {op : ℕ → ℕ → ℕ} {s : PowerSums} {ts vs : List ℕ} {a b m : 
 
     pub passing_stops : i < b → m ≤ get_or ts i 0 → PassedUntil op s ts vs a b m (record { at = i; sums = r })
     passing_stops l t = record { stops = search_finds p.searched l t; joined = p.joined.joined }
-
-    pub passing_ends : b ≤ i → PassedUntil op s ts vs a b m (record { at = b; sums = r })
-    passing_ends l = record { stops = search_ends p.searched l; joined = run_ends p.joined l }
 
 -- the left edge's way lies within the readings
 pub left_way_within : {ts vs : List ℕ} {l₀ r₀ h m : ℕ} {s : PowerSums} {e : Edge PowerSums} → AdvanceAccepted ts vs l₀ r₀ h
@@ -56,12 +42,3 @@ pub both_ways_move : (ts vs : List ℕ) (r : RunningSums) (z h : ℕ) {low n pas
     → passes ≡ plus 64 n (distance r.right right.at)
     → record { left = left.at; right = right.at; sums = left.sums; passes = passes } ≡ moved ts vs r z h
 both_ways_move ts vs r z h e a b f g = six_parts_move ts vs r z h a.stops e b.stops a.joined b.joined f g
-
--- the record after a step, by what the checks found
-module _ (ts vs : List ℕ) (r : RunningSums) (z h : ℕ) {L : Limits} {v : Result Unit Refusal} (l : L ≡ full)
-    (f : verdict_fault v ≡ first_of (advance_checks L ts vs r.left r.right h)) where
-  pub faulty_stays : {e : Refusal} → v ≡ Err e → r ≡ after_step ts vs r (record { point = z; bandwidth = h })
-  faulty_stays q = ap (next_record r) (advance_refused ts vs r h l f z q)
-
-  pub fit_moves : {r' : RunningSums} → {unit : Unit {0}} → v ≡ Ok unit → r' ≡ moved ts vs r z h → r' ≡ after_step ts vs r (record { point = z; bandwidth = h })
-  fit_moves q e = ap (next_record r) (advance_given ts vs r h l f z q e)

@@ -12,52 +12,41 @@ use arithmetic::{Change, Edge, Minus, Plus, plus_travel, sample_changed};
 use arithmetic_values::lowest_minute;
 use checks::full;
 use checks_point::advance_fault;
-use meanings::{PowerSums, RunningSums};
+use meanings::{Mark, PowerSums, Readings, RunningSums};
 
-// Takes in or lets go the readings from `from` on, up to the first minute of at least `bound` or to `to`.
+// Takes in or lets go the readings from `from` on, up to the first minute of at least `bound` or to `to`: edges of the record, so a
+// part of the lists would lose the position that is the answer. Beside that of `ranges`: one function over both
+// would be public, and a public function asks nothing of its callers, so it would test each position.
 fn passed_until<C: Change>(
     s: PowerSums,
-    minutes: &[u16],
-    values: &[u16],
+    readings: Readings,
     from: usize,
     to: usize,
     bound: u64,
 ) -> Edge<PowerSums>
-    requires { RunWithin minutes.now values.now from to }
-    ensures { PassedUntil C.op s minutes.now values.now from to bound result }
+    requires { RunWithin readings.minutes.now readings.values.now from to }
+    ensures { PassedUntil C.op s readings.entry.minutes.now readings.entry.values.now from to bound result }
 {
     let mut sums = s;
     for i in from..to {
-        if bound <= minutes[i] as u64 {
+        if bound <= readings.minutes[i] as u64 {
             return Edge { at: i, sums };
         }
-        sums = sample_changed::<C>(sums, minutes[i], values[i]);
+        sums = sample_changed::<C>(sums, readings.minutes[i], readings.values[i]);
     }
     Edge { at: to, sums }
 }
 
 // The record after an accepted step: the right edge moves on, then the left one, up to the new right.
-fn fused_move(
-    running: RunningSums,
-    minutes: &[u16],
-    values: &[u16],
-    point: u16,
-    bandwidth: u32,
-) -> RunningSums
-    requires { AdvanceAccepted minutes.now values.now running.left running.right bandwidth }
-    ensures { result ≡ moved minutes.now values.now running point bandwidth }
+fn fused_move(running: RunningSums, readings: Readings, mark: Mark) -> RunningSums
+    requires { AdvanceAccepted readings.minutes.now readings.values.now running.left running.right mark.bandwidth }
+    ensures { result ≡ moved readings.entry.minutes.now readings.entry.values.now running mark.point mark.bandwidth }
 {
-    let over = point as u64 + bandwidth as u64 + 1;
-    let low = lowest_minute(point, bandwidth);
-    let right = passed_until::<Plus>(
-        running.sums,
-        minutes,
-        values,
-        running.right,
-        minutes.len(),
-        over,
-    );
-    let left = passed_until::<Minus>(right.sums, minutes, values, running.left, right.at, low);
+    let over = mark.point as u64 + mark.bandwidth as u64 + 1;
+    let low = lowest_minute(mark);
+    let end = readings.minutes.len();
+    let right = passed_until::<Plus>(running.sums, readings, running.right, end, over);
+    let left = passed_until::<Minus>(right.sums, readings, running.left, right.at, low);
     let passes = plus_travel(running.passes, running.left, left.at);
     let passes = plus_travel(passes, running.right, right.at);
     RunningSums {
@@ -69,24 +58,12 @@ fn fused_move(
 }
 
 // The record after a step, accepted or refused.
-pub fn fused_step(
-    running: RunningSums,
-    minutes: &[u16],
-    values: &[u16],
-    point: u16,
-    bandwidth: u32,
-) -> RunningSums
-    ensures { result ≡ after_step minutes.now values.now running (record { point = point; bandwidth = bandwidth }) }
+#[tactic(auto, unfolding(meanings::specs::Running::advance))]
+pub fn fused_step(running: RunningSums, readings: Readings, mark: Mark) -> RunningSums
+    ensures { result ≡ after_step readings.entry.minutes.now readings.entry.values.now running (record { point = mark.point; bandwidth = mark.bandwidth }) }
 {
-    match advance_fault(
-        minutes,
-        values,
-        running.left,
-        running.right,
-        bandwidth,
-        full(),
-    ) {
+    match advance_fault(readings, &running, mark.bandwidth, full()) {
         Err(_) => running,
-        Ok(()) => fused_move(running, minutes, values, point, bandwidth),
+        Ok(()) => fused_move(running, readings, mark),
     }
 }

@@ -1,12 +1,10 @@
 -- The invariant of a sweep: after k marks the rows of those stand in front of what the list held, and the record is that after k steps.
-use Prim.Native.Nat.{ℕ, suc, ◌+◌, ◌*◌, ◌^◌, ◌≤◌, ◌<◌, zero-le}
-use mathlib.Core.Path.{◌≡◌, refl, sym, ap, ◌∙◌}
-use mathlib.Core.List.{List, ◌++◌, append-nil}
+use Prim.Native.Nat.{ℕ, suc, ◌+◌, ◌*◌, ◌^◌, ◌≤◌, ◌<◌}
+use mathlib.Core.Path.{◌≡◌, sym, ap, ◌∙◌}
+use mathlib.Core.List.{List, ◌++◌}
 use native.Mathlib.Numerals.{add-one}
 use native.Mathlib.Omega.{arith}
-use mir.Val.{Fits}
-use mir.Syntax.{w16}
-use lib.ListN.{length, get_or, drop, length-append, length-drop, drop_of_length-le}
+use lib.ListN.{length, get_or, drop, length-append, length-drop}
 use lib.Seq.{sets, sets-eq, take_at, drop-append-add, drop-drop}
 use Rattle.meanings.specs.declared.Estimate.{Estimate}
 use Rattle.meanings.specs.declared.RunningSums.{RunningSums}
@@ -15,10 +13,10 @@ use Rattle.meanings.specs.Estimate.{estimate, fields, rows}
 use Rattle.meanings.specs.Moves.{moves}
 use Rattle.meanings.specs.Running.{fresh, passes}
 use Rattle.meanings.proofs.SmoothRows.{rows_length}
-use Rattle.meanings.proofs.SmoothSteps.{SmoothAccepted, running_at, passes_are_edges}
+use Rattle.meanings.proofs.SmoothSteps.{running_at, passes_are_edges}
 use Rattle.stepping.specs.declared.Reached.{Reached}
-use Rattle.stepping.specs.Steps.{IsFresh, SteppedRow}
-use Rattle.stepping.proofs.Sweeping.{SteppedTo, steps_begin, edges_fit, steps_go_on, row_there}
+use Rattle.stepping.specs.Steps.{SteppedRow}
+use Rattle.stepping.proofs.Sweeping.{SteppedTo, edges_fit, steps_go_on, row_there}
 
 -- values stored behind a front of n
 store_behind : (M R vs : List ℕ) (n : ℕ) → length M ≡ n → n + length vs ≤ length R
@@ -39,10 +37,6 @@ pub record SmoothedTo (ts vs zs hs R₀ : List ℕ) (k : ℕ) (R : List ℕ) (r 
   pub upto : k ≤ length zs
   pub stored : R ≡ rows ts vs zs hs k ++ drop (row_width * k) R₀
 
-pub smoothed_begins : {ts vs zs hs R₀ : List ℕ} {r : RunningSums} → SmoothAccepted ts vs zs hs (length R₀)
-    → ((i : ℕ) → Fits w16 (get_or ts i 0)) → ((i : ℕ) → Fits w16 (get_or vs i 0)) → IsFresh r → SmoothedTo ts vs zs hs R₀ 0 R₀ r
-smoothed_begins a t v f = record { steps = steps_begin a.lists t v f; rows_fit = a.rows_fit; upto = zero-le; stored = refl }
-
 module _ {ts vs zs hs R₀ : List ℕ} {k : ℕ} {R : List ℕ} {r : RunningSums} (w : SmoothedTo ts vs zs hs R₀ k R r) where
   pub stored_length : length R ≡ length R₀
   stored_length =
@@ -52,9 +46,6 @@ module _ {ts vs zs hs R₀ : List ℕ} {k : ℕ} {R : List ℕ} {r : RunningSums
 
   pub passes_fit : r.right + r.left < 2 ^ 64
   passes_fit = edges_fit w.steps
-
-  pub row_has_room : k < length zs → row_width * k + row_width ≤ length R
-  row_has_room l = omega (arith, stored_length, w.rows_fit)
 
   -- the step's row is the mark's, and stored it stands behind those before
   pub smoothed_goes_on : {x : Reached} {R' : List ℕ} → k < length zs → SteppedRow ts vs r (get_or zs k 0) (get_or hs k 0) x
@@ -87,11 +78,6 @@ module _ {ts vs zs hs R₀ : List ℕ} {k : ℕ} {R : List ℕ} {r : RunningSums
   module _ (l : length zs ≤ k) where
     last : k ≡ length zs
     last = omega (arith, w.upto)
-
-    pub rows_are_stored : R ≡ rows ts vs zs hs (length zs)
-    rows_are_stored =
-        w.stored
-        ∙ rw (last, drop_of_length-le R₀ {i = row_width * length zs} (omega (arith, w.rows_fit))) (append-nil (rows ts vs zs hs (length zs)))
 
     pub edges_are_passes : r.right + r.left ≡ passes ts vs fresh (moves zs hs)
     edges_are_passes =

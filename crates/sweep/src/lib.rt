@@ -10,13 +10,15 @@ ghost use Rattle.meanings.specs.Estimate.{fields, rows as rows_meaning};
 ghost use Rattle.meanings.specs.Moves.{moves};
 ghost use Rattle.meanings.specs.Running.{fresh, passes};
 ghost use Rattle.meanings.proofs.SmoothSteps.{SmoothAccepted};
+ghost use Rattle.estimator.specs.Rows.{Of16Bits};
 
 use checks::{full, preview_limits};
 use checks_smooth::smooth_fault;
-use meanings::{Estimate, Limits, ROW_WIDTH, Refusal};
-use stepping::{fresh_record, step_to};
+use meanings::{Estimate, Limits, Mark, Marks, ROW_WIDTH, Readings, Refusal, RunningSums};
+use stepping::step_to;
 
-// Stores the row of mark k.
+// Stores the row of mark k. Beside the row of ranges, of seven numbers: of both only the width is the same question, so one function is no plainer.
+// The rows are one flat list of the C interface, and five stores take no array through memory.
 fn put_row(rows: &mut [u64], k: usize, e: Estimate)
     requires { row_width * k + row_width ≤ length rows.old }
     ensures { rows.new ≡ sets rows.old (row_width * k) (fields e) }
@@ -29,27 +31,28 @@ fn put_row(rows: &mut [u64], k: usize, e: Estimate)
     rows[at + 4] = e.value;
 }
 
+// What a list's type says, which is not known of a list in a struct: its numbers fit 16 bits.
+fn of_16_bits(numbers: &[u16])
+    ensures { Of16Bits numbers.now }
+{}
+
 // Stores the rows of all marks and answers the passes: last right plus last left.
-fn smooth_rows(
-    minutes: &[u16],
-    values: &[u16],
-    points: &[u16],
-    bandwidths: &[u32],
-    rows: &mut [u64],
-) -> u64
-    requires { SmoothAccepted minutes.now values.now points.now bandwidths.now (length rows.old) }
-    ensures value { result ≡ passes minutes.now values.now fresh (moves points.now bandwidths.now) }
-    ensures rows_after { rows.new ≡ rows_meaning minutes.now values.now points.now bandwidths.now (length points.now) }
+fn smooth_rows(readings: Readings, marks: Marks, rows: &mut [u64]) -> u64
+    requires { SmoothAccepted readings.minutes.now readings.values.now marks.points.now marks.bandwidths.now (length rows.old) }
+    ensures value { result ≡ passes readings.entry.minutes.now readings.entry.values.now fresh (moves marks.entry.points.now marks.entry.bandwidths.now) }
+    ensures rows_after { rows.new ≡ rows_meaning readings.entry.minutes.now readings.entry.values.now marks.entry.points.now marks.entry.bandwidths.now (length marks.entry.points.now) }
 {
-    let mut running = fresh_record();
-    let mut k = 0;
-    while k < points.len() {
-        let point = points[k];
-        let bandwidth = bandwidths[k];
-        let reached = step_to(running, minutes, values, point, bandwidth);
+    of_16_bits(readings.minutes);
+    of_16_bits(readings.values);
+    let mut running = RunningSums::default();
+    for k in 0..marks.points.len() {
+        let mark = Mark {
+            point: marks.points[k],
+            bandwidth: marks.bandwidths[k],
+        };
+        let reached = step_to(running, readings, mark);
         running = reached.running;
         put_row(rows, k, reached.row);
-        k += 1;
     }
     running.right as u64 + running.left as u64
 }
@@ -57,46 +60,31 @@ fn smooth_rows(
 // The sweep under limits at most the full ones: every check is made before the first row is stored.
 #[tactic(auto, unfolding(meanings::specs::Calls::smooth, meanings::specs::Calls::smooth_rows))]
 fn smooth_under(
-    minutes: &[u16],
-    values: &[u16],
-    points: &[u16],
-    bandwidths: &[u32],
+    readings: Readings,
+    marks: Marks,
     rows: &mut [u64],
     limits: Limits,
 ) -> Result<u64, Refusal>
     requires { LimitsWithin limits full_limits }
-    ensures result_value { answer_of result ≡ smooth_meaning limits minutes.now values.now points.now bandwidths.now rows.old }
-    ensures rows_after { rows.new ≡ smooth_rows limits minutes.now values.now points.now bandwidths.now rows.old }
+    ensures result_value { answer_of result ≡ smooth_meaning limits readings.entry.minutes.now readings.entry.values.now marks.entry.points.now marks.entry.bandwidths.now rows.old }
+    ensures rows_after { rows.new ≡ smooth_rows limits readings.entry.minutes.now readings.entry.values.now marks.entry.points.now marks.entry.bandwidths.now rows.old }
 {
-    smooth_fault(minutes, values, points, bandwidths, rows.len(), limits)?;
-    Ok(smooth_rows(minutes, values, points, bandwidths, rows))
+    smooth_fault(readings, marks, rows.len(), limits)?;
+    Ok(smooth_rows(readings, marks, rows))
 }
 
 // The whole sweep: rows receives five numbers a mark, and the answer is the passes, or the report, with rows as it was.
-pub fn smooth(
-    minutes: &[u16],
-    values: &[u16],
-    points: &[u16],
-    bandwidths: &[u32],
-    rows: &mut [u64],
-) -> Result<u64, Refusal>
-    ensures result_value { answer_of result ≡ smooth_meaning full_limits minutes.now values.now points.now bandwidths.now rows.old }
-    ensures rows_after { rows.new ≡ smooth_rows full_limits minutes.now values.now points.now bandwidths.now rows.old }
+pub fn smooth(readings: Readings, marks: Marks, rows: &mut [u64]) -> Result<u64, Refusal>
+    ensures result_value { answer_of result ≡ smooth_meaning full_limits readings.entry.minutes.now readings.entry.values.now marks.entry.points.now marks.entry.bandwidths.now rows.old }
+    ensures rows_after { rows.new ≡ smooth_rows full_limits readings.entry.minutes.now readings.entry.values.now marks.entry.points.now marks.entry.bandwidths.now rows.old }
 {
-    smooth_under(minutes, values, points, bandwidths, rows, full())
+    smooth_under(readings, marks, rows, full())
 }
 
-// The preview on the panel: the same sweep under the preview's limits.
-pub fn preview(
-    minutes: &[u16],
-    values: &[u16],
-    points: &[u16],
-    bandwidths: &[u32],
-    rows: &mut [u64],
-) -> Result<u64, Refusal>
-    ensures result_value { answer_of result ≡ smooth_meaning small_limits minutes.now values.now points.now bandwidths.now rows.old }
-    ensures rows_after { rows.new ≡ smooth_rows small_limits minutes.now values.now points.now bandwidths.now rows.old }
+// The preview on the panel: the same sweep under the preview's limits. Each of the two is a call of its own, and one line.
+pub fn preview(readings: Readings, marks: Marks, rows: &mut [u64]) -> Result<u64, Refusal>
+    ensures result_value { answer_of result ≡ smooth_meaning small_limits readings.entry.minutes.now readings.entry.values.now marks.entry.points.now marks.entry.bandwidths.now rows.old }
+    ensures rows_after { rows.new ≡ smooth_rows small_limits readings.entry.minutes.now readings.entry.values.now marks.entry.points.now marks.entry.bandwidths.now rows.old }
 {
-    let limits = preview_limits();
-    smooth_under(minutes, values, points, bandwidths, rows, limits)
+    smooth_under(readings, marks, rows, preview_limits())
 }

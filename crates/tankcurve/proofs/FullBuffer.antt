@@ -1,8 +1,8 @@
 -- In a buffer of the right length: the curve of an accepted sheet is what the program writes, and so is the text of a refused sheet's report.
 use Prim.Native.Nat.{ℕ}
-use Rattle.std.specs.Prelude.{Result, Ok, Err}
+use Rattle.std.specs.Prelude.{Result, Ok, Err, IsOk}
 use Rattle.meanings.specs.Calls.{answer_of}
-use mathlib.Core.Path.{◌≡◌, sym, ap, ◌∙◌}
+use mathlib.Core.Path.{◌≡◌, refl, sym, ap, ◌∙◌}
 use mathlib.Core.List.{List, ◌++◌}
 use native.Mathlib.Omega.{arith}
 use lib.ListN.{length, take, drop}
@@ -27,8 +27,12 @@ module _ (out : List ℕ) (right : length out ≡ max_output) (r : Result ℕ Re
   unfolding write_refusal_text
   answered = answer ∙ rw (differ_same (length out) max_output right, numbered)
 
-  pub never_refused : (e : Refusal) → r ≡ Err e → ⊥
-  never_refused e q = let g = sym answered ∙ ap answer_of q in let z : ◌≡◌ {A = ℕ} 0 1 = cc in omega arith
+  pub is_given : IsOk r
+  is_given = by r answered
+    where
+      by : (a : Result ℕ Refusal) → answer_of a ≡ given (length (refusal_text (fault_of f))) → IsOk a
+      by (Ok n) g = refl
+      by (Err e) g = let z : ◌≡◌ {A = ℕ} 0 1 = cc in absurd (omega arith)
 
   module _ (n : ℕ) (q : r ≡ Ok n) where
     pub refusal_length : n ≡ length (refusal_text (fault_of f))

@@ -7,7 +7,6 @@ ghost use Rattle.meanings.specs.Reports.{fault_of};
 ghost use Rattle.meanings.specs.Output.{refusal_text};
 ghost use Rattle.meanings_ranges.specs.RangeOutput.{either_program};
 
-use checks::report_number;
 use meanings::{MAX_OUTPUT, Refusal};
 use std::io::{Error, Read, Stdin};
 
@@ -16,7 +15,7 @@ const OUT: i32 = 1;
 const ERR: i32 = 2;
 
 // Reads until the buffer is full or the input ends: one byte more than a sheet may have decides whether it is overlong. A short read is read
-// on; a failed one is told from the end.
+// on; a failed one is told from the end. No iterator gives reads of any length one by one, so the loop counts what is read.
 fn read_input(mut input: Stdin, buf: &mut [u8]) -> Result<usize, Error>
     requires { length buf.old ≡ max_sheet + 1 }
     ensures { IfOk result (λ n. n ≤ length buf.new) }
@@ -38,15 +37,12 @@ fn refuse(refusal: Refusal, out: &mut [u8]) -> usize
     ensures out_after { take result out.new ≡ refusal_text (fault_of refusal) }
     ensures value { result ≡ length (refusal_text (fault_of refusal)) }
 {
-    let report = refusal.report;
-    let place = refusal.place as u64;
-    match text_refusal::refusal_text(report_number(report), place, out) {
-        Ok(n) => n,
-        Err(_) => 0,
-    }
+    let number = u64::from(refusal.report);
+    text_refusal::refusal_text(number, refusal.place as u64, out).unwrap()
 }
 
 // Puts what the program writes for the sheet that is the buffer's first `size` bytes at the front of the buffer, over the sheet, and gives its length.
+// Buffer and size stay apart: text_over says why.
 fn answer(buf: &mut [u8], size: usize) -> usize
     requires { length buf.old ≡ max_output }
     ensures buf_after { take result buf.new ≡ either_program (take size buf.old) }

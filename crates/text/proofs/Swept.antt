@@ -5,7 +5,7 @@ use Rattle.meanings.specs.Calls.{answer_of}
 use mathlib.Core.Path.{◌≡◌, sym, ap, ◌∙◌}
 use mathlib.Core.List.{List}
 use Rattle.std.specs.Prelude.{Option, None, Some}
-use native.Mathlib.Nat.{zero-add}
+use Rattle.std.specs.Option.{ok_or}
 use native.Mathlib.Omega.{arith}
 use mir.Val.{Fits}
 use mir.Syntax.{w16}
@@ -25,7 +25,8 @@ use Rattle.meanings.proofs.SmoothRows.{rows_length}
 use Rattle.meanings.proofs.SmoothSteps.{SmoothAccepted, smooth_accepts, none_of_three}
 use Rattle.laws_output.proofs.AcceptedSheet.{AcceptedContents}
 use Rattle.laws_output.proofs.OutputFits.{curve_text_fits}
-use Rattle.text_decimal.specs.Written.{written, Stored}
+use Rattle.text_decimal.specs.Written.{written, Put}
+use Rattle.text_decimal.proofs.Room.{room_used, list_used}
 use Rattle.text.specs.Table.{table_text, contents_of, curve_of, lists_swept, lists_rows}
 use Rattle.text.proofs.Tables.{table_text_is_curve}
 
@@ -125,16 +126,17 @@ module _ (ts vs zs hs rs out : List ℕ) (right : length out ≡ max_output) whe
         text_is_curve : table_text zs hs rs' (length ts) n ≡ curve_of ts vs zs hs
         text_is_curve = rw (← accepted.1, rows_given) (table_text_is_curve ts vs zs hs)
 
-        pub text_fits : ((i : ℕ) → Fits w16 (get_or ts i 0)) → ((i : ℕ) → Fits w16 (get_or vs i 0)) → ((i : ℕ) → Fits w16 (get_or zs i 0))
-            → length (table_text zs hs rs' (length ts) n) ≤ length out
-        text_fits minutes values points =
-            let fits = curve_text_fits (contents_of ts vs zs hs) (accepted_lists ts vs zs hs rs accepted.0 minutes values points) in
-            rw (text_is_curve, right) fits
+        module _ (minutes : (i : ℕ) → Fits w16 (get_or ts i 0)) (values : (i : ℕ) → Fits w16 (get_or vs i 0)) (points : (i : ℕ) → Fits w16 (get_or zs i 0))
+          where
+            pub text_fits : length (table_text zs hs rs' (length ts) n) ≤ length out
+            text_fits =
+                let fits = curve_text_fits (contents_of ts vs zs hs) (accepted_lists ts vs zs hs rs accepted.0 minutes values points) in
+                rw (text_is_curve, right) fits
 
-        module _ (now : List ℕ) (size : ℕ) (text : Stored out 0 (table_text zs hs rs' (length ts) n) now size) where
-          pub curve_size_given : given size ≡ curve_size (lists_swept ts vs zs hs rs out)
-          curve_size_given = rw (lists_given, text.end, zero-add, text_is_curve)
+            module _ (now : List ℕ) (o : Option ℕ) (put : Put out (table_text zs hs rs' (length ts) n) now o) where
+              pub curve_answered : (e : Refusal) → answer_of (ok_or o e) ≡ curve_size (lists_swept ts vs zs hs rs out)
+              curve_answered e = rw (room_used out _ text_fits o put.size, lists_given, text_is_curve)
 
-          pub curve_in_front : now ≡ filled_front (lists_swept ts vs zs hs rs out) curve_text out
-          unfolding written
-          curve_in_front = text.text ∙ rw (lists_given, zero-add, text_is_curve)
+              pub curve_in_front : now ≡ filled_front (lists_swept ts vs zs hs rs out) curve_text out
+              unfolding written
+              curve_in_front = list_used out _ text_fits now put.list ∙ rw (lists_given, text_is_curve)

@@ -10,11 +10,12 @@ ghost use Rattle.meanings.specs.Calls.{curve_size, filled_front};
 ghost use Rattle.text.specs.Table.{lists_swept, lists_rows};
 
 use crate::curve::put_curve;
-use meanings::{MAX_OUTPUT, Refusal, Report};
+use meanings::{MAX_OUTPUT, Marks, Readings, Refusal, Report};
 use sweep::smooth;
 
 // Sweeps the lists and writes their curve into a buffer of MAX_OUTPUT bytes, which no curve exceeds. A buffer of another length is refused with 8
 // before the sweep, and what the sweep refuses with its report; the buffer and the rows then stay as they were.
+// Each list stays a parameter of its own: that the text fits stands on the range of their numbers, which is known of a list, and not of one in a struct.
 #[tactic(auto, unfolding(crate::specs::Table::lists_swept, crate::specs::Table::lists_rows))]
 pub fn swept_text(
     minutes: &[u16],
@@ -31,6 +32,7 @@ pub fn swept_text(
     if out.len() != MAX_OUTPUT {
         return Err(Report::LengthMismatch.at(0));
     }
-    let passes = smooth(minutes, values, points, bandwidths, rows)?;
-    Ok(put_curve(out, minutes.len(), points, bandwidths, rows, passes))
+    let marks = Marks { points, bandwidths };
+    let passes = smooth(Readings { minutes, values }, marks, rows)?;
+    put_curve(out, minutes.len(), marks, rows, passes).ok_or(Report::LengthMismatch.at(0))
 }

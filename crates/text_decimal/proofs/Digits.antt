@@ -1,8 +1,9 @@
 -- A number's text: its last two, four or eight digits stand behind those of the number without them.
-use Prim.Native.Nat.{ℕ, ◌+◌, ◌/◌, ◌%◌, ◌≤◌, ◌<◌}
-use mathlib.Core.Path.{◌≡◌, refl, ap, ◌∙◌}
+use Prim.Native.Nat.{ℕ, zero, suc, ◌+◌, ◌*◌, ◌/◌, ◌%◌, ◌^◌, ◌≤◌, ◌<◌}
+use mathlib.Core.Path.{◌≡◌, refl, sym, ap, ◌∙◌}
 use mathlib.Core.Bool.{Bool, true, false}
 use mathlib.Core.List.{List, [], ◌∷◌, ◌++◌, append_assoc}
+use native.Mathlib.Nat.{pow-suc}
 use native.Mathlib.Omega.{arith}
 use borrow.Author.Tests.{le-ltb, ltb-true, ltb-false}
 use lib.Dec.{ltb}
@@ -67,12 +68,25 @@ pub of_four : (n : ℕ) → 1000 ≤ n → n < 10000 → decimal n ≡ four_digi
 unfolding four_digits
 of_four n low high = two_last n (omega arith) ∙ rw (of_two (n / 100) (omega arith) (omega arith))
 
+positive : (k : ℕ) → 1 ≤ 10 ^ k
+positive zero = omega arith
+positive (suc k) = omega (arith, pow-suc 10 k, positive k)
+
+-- as many digits as the power of ten below it says, and one more
+pub digits_of_power : (k n : ℕ) → 10 ^ k ≤ n → n < 10 * 10 ^ k → k + 1 ≡ length (decimal n)
+digits_of_power zero n low high = sym (ap length (decimal_of_digit n (omega (arith, high))))
+digits_of_power (suc k) n low high =
+    let x : 10 ^ suc k ≡ 10 ^ k * 10 = pow-suc 10 k in
+    let t = length-append (decimal (n / 10)) ((zero_digit + n % 10) ∷ []) in
+    let d = digits_of_power k (n / 10) (omega (arith, low, x)) (omega (arith, high, x)) in
+    omega (arith, ap length (decimal_ends n (omega (arith, low, x, positive k))), t, d)
+
 -- a number has a digit
-pub digit_fits : (out : List ℕ) (p n : ℕ) → p + length (decimal n) ≤ length out → p + 1 ≤ length out
-digit_fits out p n fits = by (ltb n 10) refl
+pub digit_fits : (out : List ℕ) (n : ℕ) → length (decimal n) ≤ length out → 1 ≤ length out
+digit_fits out n fits = by (ltb n 10) refl
   where
-    by : (b : Bool) → ltb n 10 ≡ b → p + 1 ≤ length out
-    by true e = omega (arith, ap length (decimal_of_digit n (ltb-true n 10 e)))
+    by : (b : Bool) → ltb n 10 ≡ b → 1 ≤ length out
+    by true e = omega (arith, fits, ap length (decimal_of_digit n (ltb-true n 10 e)))
     by false e =
         let l = length-append (decimal (n / 10)) ((zero_digit + n % 10) ∷ []) in
-        omega (arith, ap length (decimal_ends n (ltb-false n 10 e)), l)
+        omega (arith, fits, ap length (decimal_ends n (ltb-false n 10 e)), l)

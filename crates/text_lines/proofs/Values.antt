@@ -1,5 +1,5 @@
 -- A value's text is a dash or a number.
-use Prim.Native.Nat.{ℕ, ◌+◌, ◌≤◌}
+use Prim.Native.Nat.{ℕ, ◌≤◌}
 use mathlib.Core.Path.{◌≡◌}
 use mathlib.Core.Bool.{Bool, true, false}
 use mathlib.Core.List.{List, [], ◌∷◌}
@@ -14,25 +14,24 @@ use Rattle.text_decimal.specs.Written.{Stored}
 use Rattle.text_decimal.proofs.Digits.{digit_fits}
 
 -- a value has a byte at least
-pub dash_fits : (out : List ℕ) (p v : ℕ) → p + length (value_text v) ≤ length out → p + 1 ≤ length out
-dash_fits out p v fits = by (eqb v missing) fits
+pub dash_fits : (out : List ℕ) (v : ℕ) → length (value_text v) ≤ length out → 1 ≤ length out
+dash_fits out v fits = by (eqb v missing) fits
   where
-    by : (b : Bool) → p + length (pick b (dash ∷ []) (decimal v)) ≤ length out → p + 1 ≤ length out
+    by : (b : Bool) → length (pick b (dash ∷ []) (decimal v)) ≤ length out → 1 ≤ length out
     by true l = l
-    by false l = digit_fits out p v l
+    by false l = digit_fits out v l
 
 -- a missing value
-pub dash_stored : (out : List ℕ) (p v : ℕ) → v ≡ missing → (now : List ℕ) (r : ℕ) → Stored out p (dash ∷ []) now r
-    → Stored out p (value_text v) now r
-dash_stored out p v none now r s = rw (eq-eqb v missing none) s
+pub dash_stored : (out : List ℕ) (v : ℕ) → v ≡ missing → (now : List ℕ) (r : ℕ) → Stored out (dash ∷ []) now r → Stored out (value_text v) now r
+dash_stored out v none now r s = rw (eq-eqb v missing none) s
 
 -- any other
-module _ (out : List ℕ) (p v : ℕ) (some : ¬ (v ≡ missing)) where
+module _ (out : List ℕ) (v : ℕ) (some : ¬ (v ≡ missing)) where
   a_value : value_text v ≡ decimal v
   a_value = rw (ne_eqb v missing some)
 
-  pub value_fits : p + length (value_text v) ≤ length out → p + length (decimal v) ≤ length out
+  pub value_fits : length (value_text v) ≤ length out → length (decimal v) ≤ length out
   value_fits fits = rw a_value at fits
 
-  pub value_stored : (now : List ℕ) (r : ℕ) → Stored out p (decimal v) now r → Stored out p (value_text v) now r
+  pub value_stored : (now : List ℕ) (r : ℕ) → Stored out (decimal v) now r → Stored out (value_text v) now r
   value_stored now r s = rw a_value s

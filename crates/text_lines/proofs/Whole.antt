@@ -1,16 +1,17 @@
 -- The lines of a curve's text are put one behind the other. The text fits, so each of them is stored.
 use Prim.Native.Nat.{ℕ, zero, suc, ◌+◌, ◌-◌, ◌≤◌, ◌<◌}
-use mathlib.Core.Path.{◌≡◌, sym, ap, ◌∙◌}
+use mathlib.Core.Path.{◌≡◌}
 use mathlib.Core.List.{List, [], ◌∷◌, ◌++◌, append_assoc, append-nil}
+use Rattle.std.specs.Prelude.{Option, None, Some}
 use native.Mathlib.Numerals.{add-one}
 use native.Mathlib.Omega.{arith}
 use lib.ListN.{length, length-append}
 use Rattle.meanings.specs.Bytes.{line_feed, totals_header}
 use Rattle.meanings.specs.Output.{decimal, text_line}
-use Rattle.text_decimal.specs.Written.{joined, Stored, put_end, put_list}
-use Rattle.text_decimal.proofs.Room.{put_is_stored}
-use Rattle.text_decimal.proofs.Writing.{written_empty, written_length, room_behind, stored_behind}
-use Rattle.text_decimal.proofs.Writing.{Left, left_at_first, part_fits, left_behind, all_stored}
+use Rattle.text_decimal.specs.Written.{joined, Stored, put_size, put_list, Put}
+use Rattle.text_decimal.proofs.Room.{stored_put, put_is_stored, never_none}
+use Rattle.text_decimal.proofs.Writing.{rest_of, given_back, inside, nothing_stored, room_behind, stored_behind, first_fits}
+use Rattle.text_decimal.proofs.Writing.{Left, left_first, part_fits, left_behind, all_stored}
 use Rattle.text_lines.specs.Whole.{lines_of, whole_text}
 
 -- the first lines are no longer than all of them
@@ -23,45 +24,42 @@ lines_grow line k (suc d) =
     rw e (omega arith)
 
 -- the lines of the first k of n marks are stored, and all fit
-pub record LinesTo (line : ℕ → List ℕ) (n : ℕ) (out : List ℕ) (p : ℕ) (now : List ℕ) (q k : ℕ) : Type 0 where
-  pub fits : p + length (lines_of line n) ≤ length out
+pub record LinesTo (line : ℕ → List ℕ) (n : ℕ) (out now : List ℕ) (q k : ℕ) : Type 0 where
+  pub inside : q ≤ length now
+  pub same : length now ≡ length out
+  pub fits : length (lines_of line n) ≤ length out
   pub far : k ≤ n
-  pub so_far : Stored out p (lines_of line k) now q
+  pub so_far : Stored out (lines_of line k) now q
 
-pub lines_begin : {line : ℕ → List ℕ} {n : ℕ} {out : List ℕ} {p : ℕ} → p + length (lines_of line n) ≤ length out → LinesTo line n out p out p 0
-lines_begin {out = out} {p = p} fits =
-    record { fits = fits; far = omega arith; so_far = record { text = sym (written_empty out p); end = omega arith } }
+lines_to : {line : ℕ → List ℕ} {n : ℕ} {out now : List ℕ} {q k : ℕ} → length (lines_of line n) ≤ length out → k ≤ n
+    → Stored out (lines_of line k) now q → LinesTo line n out now q k
+lines_to fits far s = record { inside = inside s; same = s.same; fits = fits; far = far; so_far = s }
 
-module _ {line : ℕ → List ℕ} {n : ℕ} {out : List ℕ} {p : ℕ} {now : List ℕ} {q k : ℕ} (w : LinesTo line n out p now q k) where
-  -- one more
-  pub lines_go_on : k < n → {next : List ℕ} {r : ℕ} → r ≡ put_end now q (line k) → next ≡ put_list now q (line k)
-      → LinesTo line n out p next r (k + 1)
-  lines_go_on more {next} {r} e f =
-      let all : suc k + (n - suc k) ≡ n = omega arith in
-      let l = rw all at (lines_grow line (suc k) (n - suc k)) in
-      let fits : p + length (lines_of line k ++ line k) ≤ length out = omega (arith, l, w.fits) in
-      let s = put_is_stored now q (line k) (room_behind out p now q (lines_of line k) (line k) fits w.so_far) next r e f in
-      record {
-        fits = w.fits;
-        far = omega arith;
-        so_far = rw (add-one k) (stored_behind out p now q next r (lines_of line k) (line k) fits w.so_far s);
-      }
+pub lines_begin : {line : ℕ → List ℕ} {n : ℕ} {out : List ℕ} → length (lines_of line n) ≤ length out → LinesTo line n out out 0 0
+lines_begin {out = out} fits = lines_to fits (omega arith) (nothing_stored out)
+
+module _ {line : ℕ → List ℕ} {n : ℕ} {out now : List ℕ} {q k : ℕ} (w : LinesTo line n out now q k) where
+  module _ (more : k < n) where
+    both : length (lines_of line k ++ line k) ≤ length out
+    both =
+        let all : suc k + (n - suc k) ≡ n = omega arith in
+        let l = rw all at (lines_grow line (suc k) (n - suc k)) in
+        omega (arith, l, w.fits)
+
+    -- the next line fits
+    pub next_fits : length (line k) ≤ length (rest_of q now)
+    next_fits = room_behind w.so_far (line k) both
+
+    -- one more
+    pub lines_go_on : {next : List ℕ} {r : ℕ} → Stored (rest_of q now) (line k) next r → LinesTo line n out (given_back q now next) (q + r) (k + 1)
+    lines_go_on s = lines_to w.fits (omega arith) (rw (add-one k) (stored_behind w.so_far s))
 
   -- no more
-  module _ (none : n ≤ k) where
-    pub lines_stored : Stored out p (lines_of line n) now q
-    lines_stored = let e : k ≡ n = omega (arith, w.far) in rw (← e) w.so_far
-
-    pub lines_keep_length : length now ≡ length out
-    lines_keep_length = ap length lines_stored.text ∙ written_length out p (lines_of line n) w.fits
-
--- a part of a text that is put where it begins is stored
-put_behind : {out : List ℕ} {p : ℕ} {t now : List ℕ} {q : ℕ} {a : List ℕ} {rest : List (List ℕ)} → Left out p t now q (a ∷ rest) → {next : List ℕ} {r : ℕ}
-    → r ≡ put_end now q a → next ≡ put_list now q a → Left out p t next r rest
-put_behind {now = now} {q = q} {a = a} l {next} {r} e f = left_behind l (put_is_stored now q a (part_fits l) next r e f)
+  pub lines_stored : n ≤ k → Stored out (lines_of line n) now q
+  lines_stored none = let e : k ≡ n = omega (arith, w.far) in rw (← e) w.so_far
 
 -- the whole text in four parts
-regroup : (a b c d : List ℕ) (x : ℕ) → a ++ b ++ x ∷ c ++ d ≡ joined (a ∷ b ∷ (x ∷ c) ∷ d ∷ [])
+regroup : (a b c d : List ℕ) (x : ℕ) → a ++ b ++ x ∷ c ++ d ≡ a ++ joined (b ∷ (x ∷ c) ∷ d ∷ [])
 regroup a b c d x = simp (append_assoc, append-nil)
 
 abbrev totals : ℕ → ℕ → List ℕ
@@ -71,16 +69,75 @@ abbrev totals_names : List ℕ
 totals_names = line_feed ∷ text_line totals_header []
 
 module _ (names lines : List ℕ) (kept passes : ℕ) (out : List ℕ) (fits : length (whole_text names lines kept passes) ≤ length out) where
-  begun : Left out 0 (whole_text names lines kept passes) out 0 (text_line names [] ∷ lines ∷ totals_names ∷ totals kept passes ∷ [])
+  whole_parts : whole_text names lines kept passes ≡ text_line names [] ++ joined (lines ∷ totals_names ∷ totals kept passes ∷ [])
   unfolding whole_text
-  begun = left_at_first (regroup (text_line names []) lines (text_line totals_header []) (totals kept passes) line_feed) (omega arith)
+  whole_parts = regroup (text_line names []) lines (text_line totals_header []) (totals kept passes) line_feed
 
-  module _ (out₁ : List ℕ) (q₁ : ℕ) (end₁ : q₁ ≡ put_end out 0 (text_line names [])) (now₁ : out₁ ≡ put_list out 0 (text_line names [])) where
-    pub lines_fit : q₁ + length lines ≤ length out₁
-    lines_fit = part_fits (put_behind begun end₁ now₁)
+  names_fit : length (text_line names []) ≤ length out
+  names_fit = first_fits out _ _ (joined (lines ∷ totals_names ∷ totals kept passes ∷ [])) fits whole_parts
 
-    module _ (out₂ : List ℕ) (q₂ : ℕ) (stored : Stored out₁ q₁ lines out₂ q₂) (out₃ : List ℕ) (q₃ : ℕ) (end₃ : q₃ ≡ put_end out₂ q₂ totals_names)
-        (now₃ : out₃ ≡ put_list out₂ q₂ totals_names) where
-      pub whole_stored : (out₄ : List ℕ) (r : ℕ) → r ≡ put_end out₃ q₃ (totals kept passes) → out₄ ≡ put_list out₃ q₃ (totals kept passes)
-          → Stored out 0 (whole_text names lines kept passes) out₄ r
-      whole_stored out₄ r end₄ now₄ = all_stored (put_behind (put_behind (left_behind (put_behind begun end₁ now₁) stored) end₃ now₃) end₄ now₄)
+  module _ (o₁ : Option ℕ) (size₁ : o₁ ≡ put_size out (text_line names [])) where
+    pub names_are_put : o₁ ≡ None → (end : List ℕ) (a : Option ℕ) → Put out (whole_text names lines kept passes) end a
+    names_are_put none end a = never_none out (text_line names []) names_fit o₁ size₁ none
+
+    module _ (q₁ : ℕ) (some₁ : o₁ ≡ Some q₁) (out₁ : List ℕ) (list₁ : out₁ ≡ put_list out (text_line names [])) where
+      names_put : Left out (whole_text names lines kept passes) out₁ q₁ (lines ∷ totals_names ∷ totals kept passes ∷ [])
+      names_put = left_first whole_parts fits (put_is_stored out _ names_fit o₁ size₁ q₁ some₁ out₁ list₁)
+
+      pub lines_begin_inside : q₁ ≤ length out₁
+      lines_begin_inside = inside names_put.stored
+
+      pub lines_fit : length lines ≤ length (rest_of q₁ out₁)
+      lines_fit = part_fits names_put
+
+      module _ (o₂ : Option ℕ) (out₂ : List ℕ) (put₂ : Put (rest_of q₁ out₁) lines out₂ o₂) where
+        pub lines_are_put : o₂ ≡ None → (end : List ℕ) (a : Option ℕ) → Put out (whole_text names lines kept passes) end a
+        lines_are_put none end a = never_none (rest_of q₁ out₁) lines lines_fit o₂ put₂.size none
+
+        module _ (q₂ : ℕ) (some₂ : o₂ ≡ Some q₂) where
+          lines_put : Left out (whole_text names lines kept passes) (given_back q₁ out₁ out₂) (q₁ + q₂) (totals_names ∷ totals kept passes ∷ [])
+          lines_put = left_behind names_put (put_is_stored _ _ lines_fit o₂ put₂.size q₂ some₂ out₂ put₂.list)
+
+          pub lines_end_inside : q₁ + q₂ ≤ length (given_back q₁ out₁ out₂)
+          lines_end_inside = inside lines_put.stored
+
+          pub lines_end : q₁ + q₂ ≤ length out
+          lines_end = lines_put.stored.within
+
+          totals_names_fit : length totals_names ≤ length (rest_of (q₁ + q₂) (given_back q₁ out₁ out₂))
+          totals_names_fit = part_fits lines_put
+
+          module _ (o₃ : Option ℕ) (size₃ : o₃ ≡ put_size (rest_of (q₁ + q₂) (given_back q₁ out₁ out₂)) totals_names) where
+            pub totals_names_are_put : o₃ ≡ None → (end : List ℕ) (a : Option ℕ) → Put out (whole_text names lines kept passes) end a
+            totals_names_are_put none end a = never_none _ totals_names totals_names_fit o₃ size₃ none
+
+            module _ (q₃ : ℕ) (some₃ : o₃ ≡ Some q₃) (out₃ : List ℕ)
+                (list₃ : out₃ ≡ put_list (rest_of (q₁ + q₂) (given_back q₁ out₁ out₂)) totals_names) where
+              abbrev last : List ℕ
+              last = given_back (q₁ + q₂) (given_back q₁ out₁ out₂) out₃
+
+              totals_left : Left out (whole_text names lines kept passes) last (q₁ + q₂ + q₃) (totals kept passes ∷ [])
+              totals_left = left_behind lines_put (put_is_stored _ _ totals_names_fit o₃ size₃ q₃ some₃ out₃ list₃)
+
+              pub totals_begin_inside : q₁ + q₂ + q₃ ≤ length last
+              totals_begin_inside = inside totals_left.stored
+
+              pub totals_begin : q₁ + q₂ + q₃ ≤ length out
+              totals_begin = totals_left.stored.within
+
+              totals_fit : length (totals kept passes) ≤ length (rest_of (q₁ + q₂ + q₃) last)
+              totals_fit = part_fits totals_left
+
+              module _ (o₄ : Option ℕ) (size₄ : o₄ ≡ put_size (rest_of (q₁ + q₂ + q₃) last) (totals kept passes)) where
+                pub totals_are_put : o₄ ≡ None → (end : List ℕ) (a : Option ℕ) → Put out (whole_text names lines kept passes) end a
+                totals_are_put none end a = never_none _ (totals kept passes) totals_fit o₄ size₄ none
+
+                module _ (q₄ : ℕ) (some₄ : o₄ ≡ Some q₄) (out₄ : List ℕ) (list₄ : out₄ ≡ put_list (rest_of (q₁ + q₂ + q₃) last) (totals kept passes)) where
+                  whole_stored : Stored out (whole_text names lines kept passes) (given_back (q₁ + q₂ + q₃) last out₄) (q₁ + q₂ + q₃ + q₄)
+                  whole_stored = all_stored (left_behind totals_left (put_is_stored _ _ totals_fit o₄ size₄ q₄ some₄ out₄ list₄))
+
+                  pub whole_end : q₁ + q₂ + q₃ + q₄ ≤ length out
+                  whole_end = whole_stored.within
+
+                  pub whole_put : Put out (whole_text names lines kept passes) (given_back (q₁ + q₂ + q₃) last out₄) (Some (q₁ + q₂ + q₃ + q₄))
+                  whole_put = stored_put whole_stored

@@ -6,50 +6,46 @@ mod parts;
 ghost use Rattle.std.specs.Prelude.{◌≡◌, [], ◌∷◌};
 ghost use Rattle.meanings.specs.Output.{decimal, text_line, curve_line};
 ghost use Rattle.meanings_ranges.specs.RangeOutput.{range_curve_line};
-ghost use Rattle.text_decimal.specs.Written.{put_end, put_list};
+ghost use Rattle.text_decimal.specs.Written.{put_size, put_list};
 ghost use Rattle.text_room.specs.Line.{line_text};
 
 use crate::parts::put_whole_line;
-use meanings::Estimate;
+use meanings::{Estimate, Mark};
 use meanings_ranges::RangeEstimate;
 use text_room::line_fits;
 
-// Stores a line of numbers and, behind them, values from byte `at` on and answers where it ends. Where there is no room for it the list stays as
-// it was, and the answer is `at`. Taken into its callers, since the loops over their few numbers are then none: 9 % fewer instructions a line.
+// Stores a line of numbers and, behind them, values at the front of the list and answers how many bytes it has. Where there is no room for it the list
+// stays as it was. Taken into its callers, since the loops over their few numbers are then none: 9 % fewer instructions a line.
 #[inline(always)]
-fn put_line(out: &mut [u8], at: usize, first: u64, numbers: &[u64], values: &[u64]) -> usize
-    ensures value { result ≡ put_end out.old at (line_text first numbers.now values.now) }
-    ensures out_after { out.new ≡ put_list out.old at (line_text first numbers.now values.now) }
+#[tactic(auto, using(text_decimal::proofs::Room::size_put, text_decimal::proofs::Room::list_put))]
+fn put_line(out: &mut [u8], first: u64, numbers: &[u64], values: &[u64]) -> Option<usize>
+    ensures value { result ≡ put_size out.old (line_text first numbers.now values.now) }
+    ensures out_after { out.new ≡ put_list out.old (line_text first numbers.now values.now) }
 {
-    if line_fits(out.len(), at, first, numbers, values) {
-        return put_whole_line(out, at, first, numbers, values);
+    if line_fits(out.len(), first, numbers, values) {
+        return Some(put_whole_line(out, first, numbers, values));
     }
-    at
+    None
 }
 
 // The line of a mark: mark, half width and the row.
-pub fn put_curve_line(out: &mut [u8], at: usize, point: u16, bandwidth: u32, row: Estimate) -> usize
-    ensures value { result ≡ put_end out.old at (curve_line point bandwidth row) }
-    ensures out_after { out.new ≡ put_list out.old at (curve_line point bandwidth row) }
+pub fn put_curve_line(out: &mut [u8], mark: Mark, row: Estimate) -> Option<usize>
+    ensures value { result ≡ put_size out.old (curve_line mark.point mark.bandwidth row) }
+    ensures out_after { out.new ≡ put_list out.old (curve_line mark.point mark.bandwidth row) }
 {
-    let numbers = [bandwidth as u64, row.left, row.right, row.weight, row.sum];
-    put_line(out, at, point as u64, &numbers, &[row.value])
+    let half = u64::from(mark.bandwidth);
+    let numbers = [half, row.left, row.right, row.weight, row.sum];
+    put_line(out, u64::from(mark.point), &numbers, &[row.value])
 }
 
 // The same of a mark over ranges, with both sums and both values.
-pub fn put_range_line(
-    out: &mut [u8],
-    at: usize,
-    point: u16,
-    bandwidth: u32,
-    row: RangeEstimate,
-) -> usize
-    ensures value { result ≡ put_end out.old at (range_curve_line point bandwidth row) }
-    ensures out_after { out.new ≡ put_list out.old at (range_curve_line point bandwidth row) }
+pub fn put_range_line(out: &mut [u8], mark: Mark, row: RangeEstimate) -> Option<usize>
+    ensures value { result ≡ put_size out.old (range_curve_line mark.point mark.bandwidth row) }
+    ensures out_after { out.new ≡ put_list out.old (range_curve_line mark.point mark.bandwidth row) }
 {
     let sum = row.sum;
     let numbers = [
-        bandwidth as u64,
+        u64::from(mark.bandwidth),
         row.left,
         row.right,
         row.weight,
@@ -58,17 +54,16 @@ pub fn put_range_line(
     ];
     put_line(
         out,
-        at,
-        point as u64,
+        u64::from(mark.point),
         &numbers,
         &[row.value.low, row.value.high],
     )
 }
 
 // The same of two numbers.
-pub fn put_pair_line(out: &mut [u8], at: usize, a: u64, b: u64) -> usize
-    ensures value { result ≡ put_end out.old at (text_line (decimal a) (decimal b ∷ [])) }
-    ensures out_after { out.new ≡ put_list out.old at (text_line (decimal a) (decimal b ∷ [])) }
+pub fn put_pair_line(out: &mut [u8], a: u64, b: u64) -> Option<usize>
+    ensures value { result ≡ put_size out.old (text_line (decimal a) (decimal b ∷ [])) }
+    ensures out_after { out.new ≡ put_list out.old (text_line (decimal a) (decimal b ∷ [])) }
 {
-    put_line(out, at, a, &[b], &[])
+    put_line(out, a, &[b], &[])
 }

@@ -11,6 +11,8 @@ use meanings::{MAX_OUTPUT, Refusal, Report};
 use sheet_scan::scan_sheet;
 use text_kind::kind_text;
 
+// Buffer and size go together here and in the program: memory is fixed, and the sheet lies in the buffer that its text is written over. Beside sheet_text,
+// which reads another list than it writes, so that no loan serves both; in a struct the lists of its own would be lent one by one all the same.
 // The text of the sheet that is the first `size` bytes of the buffer, over them: once it is read into the lists, its bytes are not looked at again.
 pub(crate) fn sheet_text_over(buf: &mut [u8], size: usize) -> Result<usize, Refusal>
     requires { (length buf.old ≡ max_output) × (size ≤ length buf.old) }

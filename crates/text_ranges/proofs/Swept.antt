@@ -5,7 +5,6 @@ use Rattle.meanings.specs.Calls.{answer_of}
 use mathlib.Core.Path.{◌≡◌, sym, ap, ◌∙◌}
 use mathlib.Core.List.{List}
 use Rattle.std.specs.Prelude.{Option, None, Some}
-use native.Mathlib.Nat.{zero-add}
 use native.Mathlib.Omega.{arith}
 use borrow.Author.Tests.{le-ltb}
 use mir.Val.{Fits}
@@ -26,7 +25,9 @@ use Rattle.meanings_ranges.specs.RangeOutput.{range_curve_text, text_size, text_
 use Rattle.meanings_ranges.proofs.Sweeps.{RangesAccepted, ranges_accept, range_rows_length}
 use Rattle.laws_ranges.proofs.RangesSwept.{AcceptedRanges}
 use Rattle.laws_ranges.proofs.RangeText.{range_text_fits}
-use Rattle.text_decimal.specs.Written.{written, Stored}
+use Rattle.text_decimal.specs.Written.{written, Put}
+use Rattle.text_decimal.proofs.Room.{room_used, list_used}
+use Rattle.std.specs.Option.{ok_or}
 use Rattle.text_ranges.specs.RangeTable.{range_table_text, ranges_of, ranges_swept, ranges_rows}
 use Rattle.text_ranges.proofs.Tables.{table_text_is_curve}
 
@@ -129,16 +130,17 @@ module _ (ts ls us zs hs rs out : List ℕ) (right : length out ≡ max_output) 
         text_is_curve : range_table_text zs hs rs' (length ts) n ≡ range_curve_text (ranges_of ts ls us zs hs)
         text_is_curve = rw (← accepted.1, rows_given) (table_text_is_curve ts ls us zs hs)
 
-        pub text_fits : ((i : ℕ) → Fits w16 (get_or ts i 0)) → ((i : ℕ) → Fits w16 (get_or ls i 0)) → ((i : ℕ) → Fits w16 (get_or us i 0))
-            → ((i : ℕ) → Fits w16 (get_or zs i 0)) → length (range_table_text zs hs rs' (length ts) n) ≤ length out
-        text_fits minutes lows highs points =
-            let fits = range_text_fits (ranges_of ts ls us zs hs) (accepted_lists ts ls us zs hs rs accepted.0 minutes lows highs points) in
-            rw (text_is_curve, right) fits
+        module _ (minutes : (i : ℕ) → Fits w16 (get_or ts i 0)) (lows : (i : ℕ) → Fits w16 (get_or ls i 0)) (highs : (i : ℕ) → Fits w16 (get_or us i 0))
+            (points : (i : ℕ) → Fits w16 (get_or zs i 0)) where
+          pub text_fits : length (range_table_text zs hs rs' (length ts) n) ≤ length out
+          text_fits =
+              let fits = range_text_fits (ranges_of ts ls us zs hs) (accepted_lists ts ls us zs hs rs accepted.0 minutes lows highs points) in
+              rw (text_is_curve, right) fits
 
-        module _ (now : List ℕ) (size : ℕ) (text : Stored out 0 (range_table_text zs hs rs' (length ts) n) now size) where
-          pub curve_size_given : given size ≡ text_size (ranges_swept ts ls us zs hs rs out)
-          curve_size_given = rw (lists_given, text.end, zero-add, text_is_curve)
+          module _ (now : List ℕ) (o : Option ℕ) (put : Put out (range_table_text zs hs rs' (length ts) n) now o) where
+            pub curve_answered : (e : Refusal) → answer_of (ok_or o e) ≡ text_size (ranges_swept ts ls us zs hs rs out)
+            curve_answered e = rw (room_used out _ text_fits o put.size, lists_given, text_is_curve)
 
-          pub curve_in_front : now ≡ text_front (ranges_swept ts ls us zs hs rs out) out
-          unfolding written
-          curve_in_front = text.text ∙ rw (lists_given, zero-add, text_is_curve)
+            pub curve_in_front : now ≡ text_front (ranges_swept ts ls us zs hs rs out) out
+            unfolding written
+            curve_in_front = list_used out _ text_fits now put.list ∙ rw (lists_given, text_is_curve)

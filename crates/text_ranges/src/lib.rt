@@ -9,11 +9,13 @@ ghost use Rattle.meanings_ranges.specs.RangeOutput.{text_size, text_front};
 ghost use Rattle.text_ranges.specs.RangeTable.{ranges_swept, ranges_rows};
 
 use crate::curve::put_range_curve;
-use meanings::{MAX_OUTPUT, Refusal, Report};
+use meanings::{MAX_OUTPUT, Marks, Refusal, Report};
+use meanings_ranges::Ranges;
 use ranges::smooth_ranges;
 
 // Sweeps the lists and writes their curve into a buffer of MAX_OUTPUT bytes, which no curve exceeds. A buffer of another length is refused with 8
 // before the sweep, and what the sweep refuses with its report; the buffer and the rows then stay as they were.
+// Each list stays a parameter of its own: that the text fits stands on the range of their numbers, which is known of a list, and not of one in a struct.
 #[tactic(auto, unfolding(crate::specs::RangeTable::ranges_swept, crate::specs::RangeTable::ranges_rows))]
 pub fn swept_ranges_text(
     minutes: &[u16],
@@ -31,6 +33,12 @@ pub fn swept_ranges_text(
     if out.len() != MAX_OUTPUT {
         return Err(Report::LengthMismatch.at(0));
     }
-    let passes = smooth_ranges(minutes, lows, highs, points, bandwidths, rows)?;
-    Ok(put_range_curve(out, minutes.len(), points, bandwidths, rows, passes))
+    let ranges = Ranges {
+        minutes,
+        lows,
+        highs,
+    };
+    let marks = Marks { points, bandwidths };
+    let passes = smooth_ranges(ranges, marks, rows)?;
+    put_range_curve(out, minutes.len(), marks, rows, passes).ok_or(Report::LengthMismatch.at(0))
 }

@@ -1,27 +1,14 @@
 -- How long a line is, and whether it fits. A number of 64 bits has at most 20 digits.
 use Rattle.std.proofs.Common.{◌≡◌, ℕ, ◌+◌, ◌-◌, ◌*◌, ◌/◌, ◌^◌, ◌≤◌, ◌<◌, Bool, true, false, List, [], ◌∷◌}
 use Rattle.std.proofs.Common.{Fits, w64, eqb, leb, ltb, length, get_or, drop, map, sym, ap, ◌∙◌, arith, length-append, suc}
-use Rattle.std.proofs.lemmas.Bool.{le-leb, lt-leb, leb-true, leb-false, ltb-true, ltb-false, eq-eqb, ne_eqb}
+use Rattle.std.proofs.lemmas.Bool.{le-leb, lt-leb, ltb-true, ltb-false, eq-eqb, ne_eqb}
 use Rattle.meanings.specs.Bytes.{dash}
 use Rattle.meanings.specs.Lists.{pick}
 use Rattle.meanings.specs.Estimate.{missing}
 use Rattle.meanings.specs.Output.{decimal, comma_before, text_line, value_text}
-use Rattle.text_decimal.specs.Written.{fits, put_end}
 use Rattle.text_decimal.proofs.Room.{twenty_at_most}
 use Rattle.text_room.specs.Line.{fields, line_text, most_bytes}
 use Rattle.text_room.proofs.Lines.{number_next, no_number_left, value_next, no_value_left}
-
--- a number has as many digits as it takes of a list of 20 bytes
-module _ (n : ℕ) (small : n < 2 ^ 64) (own : List ℕ) (twenty : length own ≡ 20) (r : ℕ) (end : r ≡ put_end own 0 (decimal n)) where
-  pub digits_counted : r ≡ length (decimal n)
-  unfolding put_end fits
-  digits_counted =
-      let l = twenty_at_most n small in
-      let f = le-leb (0 + length (decimal n)) (length own) (omega arith) in
-      end ∙ rw f (omega arith)
-
-  pub few_digits : r ≤ 20
-  few_digits = omega (arith, digits_counted, twenty_at_most n small)
 
 -- a value has one byte, or is a number
 pub missing_size : (v : ℕ) → v ≡ missing → 1 ≡ length (value_text v)
@@ -129,21 +116,7 @@ line_short f ns vs small numbers values =
 
 -- a line fits where the longest of as many numbers does
 pub fits_with_room : (f : ℕ) (ns vs : List ℕ) → f < 2 ^ 64 → ((i : ℕ) → Fits w64 (get_or ns i 0)) → ((i : ℕ) → Fits w64 (get_or vs i 0))
-    → (size p : ℕ) → p ≤ size → 1 + length ns + length vs ≤ (size - p) / 21
-    → leb (1 + length ns + length vs) ((size - p) / 21) ≡ leb (p + length (line_text f ns vs)) size
-fits_with_room f ns vs small numbers values size p inside room =
-    le-leb (1 + length ns + length vs) ((size - p) / 21) room
-    ∙ sym (le-leb (p + length (line_text f ns vs)) size (omega (arith, inside, room, line_short f ns vs small numbers values)))
-
--- where the longest doesn't, its bytes are counted
-pub fits_behind : (t size p : ℕ) → p ≤ size → (b : Bool) → b ≡ leb t (size - p) → b ≡ leb (p + t) size
-fits_behind t size p inside true e =
-    let l = leb-true t (size - p) (sym e) in
-    sym (le-leb (p + t) size (omega (arith, inside)))
-fits_behind t size p inside false e =
-    let l = leb-false t (size - p) (sym e) in
-    sym (lt-leb (p + t) size (omega (arith, inside)))
-
--- nothing fits behind the end
-pub none_behind : (t size p : ℕ) → size < p → false ≡ leb (p + t) size
-none_behind t size p over = sym (lt-leb (p + t) size (omega arith))
+    → (room : ℕ) → 1 + length ns + length vs ≤ room / 21 → leb (1 + length ns + length vs) (room / 21) ≡ leb (length (line_text f ns vs)) room
+fits_with_room f ns vs small numbers values room enough =
+    le-leb (1 + length ns + length vs) (room / 21) enough
+    ∙ sym (le-leb (length (line_text f ns vs)) room (omega (arith, enough, line_short f ns vs small numbers values)))

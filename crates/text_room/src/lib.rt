@@ -1,27 +1,16 @@
 // Whether a line of a text fits. Where 21 bytes are left for each of its numbers it does; nearer to the end its digits are counted.
 #![tactic(auto)]
 
-ghost use Rattle.std.specs.Prelude.{◌≡◌, ◌+◌, ◌≤◌, leb, length};
-ghost use Rattle.meanings.specs.Output.{decimal, value_text};
+ghost use Rattle.std.specs.Prelude.{◌≡◌, ◌≤◌, leb, length};
+ghost use Rattle.meanings.specs.Output.{value_text};
 ghost use Rattle.text_room.specs.Line.{line_text};
 
-use text_decimal::put_number;
-
-// No number of 64 bits has more digits.
-const MOST_DIGITS: usize = 20;
+use text_decimal::decimal_size;
 
 // A number's digits and the byte behind it.
 const MOST_FIELD: usize = 21;
 
-// How many digits a number has.
-fn decimal_size(n: u64) -> usize
-    ensures { (result ≡ length (decimal n)) × (result ≤ 20) }
-{
-    let mut digits = [0u8; MOST_DIGITS];
-    put_number(&mut digits, 0, n)
-}
-
-// How many bytes a value has.
+// How many bytes a value has. 65536, a row's number for a missing value at the C interface, has one.
 fn value_size(v: u64) -> usize
     ensures { (result ≡ length (value_text v)) × (result ≤ 20) }
 {
@@ -60,14 +49,10 @@ fn has_room(room: usize, first: u64, numbers: &[u64], values: &[u64]) -> bool
     0 < left
 }
 
-// Whether a list of `size` bytes has room from byte `at` on for a line of numbers and, behind them, values.
+// Whether `room` bytes are enough for a line of numbers and, behind them, values.
 #[tactic(auto, using(crate::proofs::Sizes::fits_with_room))]
-pub fn line_fits(size: usize, at: usize, first: u64, numbers: &[u64], values: &[u64]) -> bool
-    ensures { result ≡ leb (at + length (line_text first numbers.now values.now)) size }
+pub fn line_fits(room: usize, first: u64, numbers: &[u64], values: &[u64]) -> bool
+    ensures { result ≡ leb (length (line_text first numbers.now values.now)) room }
 {
-    if size < at {
-        return false;
-    }
-    let room = size - at;
     1 + numbers.len() + values.len() <= room / MOST_FIELD || has_room(room, first, numbers, values)
 }

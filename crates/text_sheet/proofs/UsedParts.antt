@@ -17,8 +17,7 @@ use Rattle.meanings.proofs.Checks.{differ_true, differ_same}
 use Rattle.meanings_ranges.specs.declared.Kind.{Kind}
 use Rattle.meanings_ranges.specs.RangeSheet.{read_either}
 use Rattle.meanings_ranges.specs.RangeOutput.{write_either, write_either_buffer}
-use Rattle.checks_reader.specs.Lengths.{uneven_reader}
-use Rattle.sheet_scan.specs.Stages.{EitherScanned, ScanOutcome}
+use Rattle.sheet_scan.specs.Stages.{uneven_reader, EitherScanned, ScanOutcome}
 use Rattle.sheet_scan.proofs.Scans.{scanned_of_call}
 use Rattle.text_kind.specs.KindText.{KindWritten}
 use Rattle.text_sheet.specs.SheetText.{SheetAccepted, lists_of, SheetWritten}

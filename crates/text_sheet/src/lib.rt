@@ -11,7 +11,8 @@ use meanings::{MAX_OUTPUT, Refusal, Report};
 use sheet_scan::scan_sheet;
 use text_kind::kind_text;
 
-// The text of a sheet, whose lists are the function's own, or its report.
+// The text of a sheet, whose lists are the function's own, or its report. They are lent one by one to the reader and to the writer, so a struct of them
+// would be opened at both. That the buffer has its length is a fact of two functions here and the program's four: each public call tests a slice.
 pub(crate) fn sheet_text(sheet: &[u8], out: &mut [u8]) -> Result<usize, Refusal>
     requires { length out.old ≡ max_output }
     ensures { SheetWritten sheet.now out.old result out.new }

@@ -8,8 +8,5 @@ ghost use Rattle.meanings_limit.specs.Threshold.{at_or_below as at_or_below_mean
 pub fn at_or_below(limit: u16, weight: u64, value: u64) -> bool
     ensures { result ≡ at_or_below_meaning limit weight value }
 {
-    if weight == 0 {
-        return false;
-    }
-    value <= limit as u64
+    weight != 0 && value <= limit as u64
 }

@@ -1,6 +1,6 @@
 -- An edge on its way: each reading passed upward is taken in, each passed downward is let go, so that the sums always have what lies before the
 -- edge more, and what lay before it at first less.
-use Prim.Native.Nat.{ℕ, zero, suc, ◌+◌, ◌-◌, ◌^◌, ◌≤◌, ◌<◌}
+use Prim.Native.Nat.{ℕ, ◌+◌, ◌-◌, ◌≤◌, ◌<◌}
 use mathlib.Core.Path.{◌≡◌, ap, ◌∙◌}
 use mathlib.Core.List.{List}
 use native.Mathlib.Nat.{zero-add}
@@ -11,20 +11,11 @@ use Rattle.meanings.specs.declared.PowerSums.{PowerSums}
 use Rattle.meanings.specs.Running.{six, sum_at, plus, minus, power_sum, term}
 use Rattle.meanings.proofs.Steps.{six_at}
 use Rattle.arithmetic.specs.declared.Edge.{Edge}
-use Rattle.turn.specs.Travels.{Among, Settles, Carried, Reaches, Raised, Lowered}
-use Rattle.turn.proofs.Settles.{settles_at_first, settles_gains, settles_loses, settles_on, settles_alike}
+use Rattle.turn.specs.Travels.{Among, Carried, Reaches}
+use Rattle.turn.proofs.Settles.{settles_gains, settles_loses}
 
 abbrev pub edge : ℕ → PowerSums → Edge PowerSums
 edge i s = record { at = i; sums = s }
-
--- every sum is below 2^w
-pub record Small (w : ℕ) (s : PowerSums) : Type 0 where
-  pub s00 : s.s00 < 2 ^ w
-  pub s10 : s.s10 < 2 ^ w
-  pub s20 : s.s20 < 2 ^ w
-  pub s01 : s.s01 < 2 ^ w
-  pub s11 : s.s11 < 2 ^ w
-  pub s21 : s.s21 < 2 ^ w
 
 -- what lies before the next position
 one_more_before : (ts vs : List ℕ) (i p q : ℕ) → power_sum ts vs 0 (i + 1) p q ≡ power_sum ts vs 0 i p q + term p q ts vs i
@@ -39,27 +30,6 @@ pub record Rising (ts vs : List ℕ) (i₀ : ℕ) (s₀ : PowerSums) (i : ℕ) (
 pub record Falling (ts vs : List ℕ) (m i₀ : ℕ) (s₀ : PowerSums) (i : ℕ) (s : PowerSums) : Type 0 where
   pub reaches : Reaches ts vs m i
   pub carried : Carried ts vs (edge i₀ s₀) (edge i s)
-
-carried_at_first : (ts vs : List ℕ) (i : ℕ) (s : PowerSums) → Small 64 s → Carried ts vs (edge i s) (edge i s)
-carried_at_first ts vs i s l = record { each = each }
-  where
-    each : (p q : ℕ) → p ≤ 2 → q ≤ 1 → Settles 64 (sum_at s p q) (power_sum ts vs 0 i p q) (power_sum ts vs 0 i p q) (sum_at s p q)
-    each p q a b = settles_at_first (fits p q)
-      where
-        fits : (p q : ℕ) → sum_at s p q < 2 ^ 64
-        fits zero zero = l.s00
-        fits (suc zero) zero = l.s10
-        fits (suc (suc p)) zero = l.s20
-        fits zero (suc q) = l.s01
-        fits (suc zero) (suc q) = l.s11
-        fits (suc (suc p)) (suc q) = l.s21
-
-module _ {ts vs : List ℕ} {i : ℕ} {s : PowerSums} where
-  pub rising_begins : Among ts vs i → Small 64 s → Rising ts vs i s i s
-  rising_begins a l = record { among = a; carried = carried_at_first ts vs i s l }
-
-  pub falling_begins : {m : ℕ} → Reaches ts vs m i → Small 64 s → Falling ts vs m i s i s
-  falling_begins a l = record { reaches = a; carried = carried_at_first ts vs i s l }
 
 module _ {ts vs : List ℕ} {i₀ : ℕ} {s₀ : PowerSums} {i : ℕ} {s : PowerSums} (w : Rising ts vs i₀ s₀ i s) where
   pub rises : {s' : PowerSums} → i < length ts → s' ≡ six (λ p q. plus 64 (sum_at s p q) (term p q ts vs i)) → Rising ts vs i₀ s₀ (i + 1) s'
@@ -86,34 +56,3 @@ module _ {ts vs : List ℕ} {m i₀ : ℕ} {s₀ : PowerSums} {i : ℕ} {s : Pow
     where
       before : (p q : ℕ) → power_sum ts vs 0 i p q ≡ power_sum ts vs 0 (i - 1) p q + term p q ts vs (i - 1)
       before p q = let n : i ≡ i - 1 + 1 = omega arith in ap (λ (k : ℕ). power_sum ts vs 0 k p q) n ∙ one_more_before ts vs (i - 1) p q
-
-module _ {ts vs : List ℕ} (m : ℕ) (e : Edge PowerSums) {i : ℕ} {s : PowerSums} where
-  pub rising_stops : Rising ts vs e.at e.sums i s → m ≤ get_or ts i 0 → Raised ts vs m e (edge i s)
-  rising_stops w l = record { reaches = record { among = w.among; reached = λ b. l }; carried = w.carried }
-
-  pub rising_ends : Rising ts vs e.at e.sums i s → length ts ≤ i → Raised ts vs m e (edge (length ts) s)
-  rising_ends w l =
-      let q : length ts ≡ i = omega (arith, w.among.inside) in
-      rw q (record { reaches = record { among = w.among; reached = λ b. absurd (omega arith) }; carried = w.carried })
-
-  pub falling_stops : Falling ts vs m e.at e.sums i s → 0 < i → get_or ts (i - 1) 0 < m → Lowered ts vs m e (edge (i - 1 + 1) s)
-  falling_stops w b l =
-      let q : i - 1 + 1 ≡ i = omega arith in
-      rw q (record { raised = record { reaches = w.reaches; carried = w.carried }; before = λ b. l })
-
-  pub falling_ends : Falling ts vs m e.at e.sums i s → i ≤ 0 → Lowered ts vs m e (edge 0 s)
-  falling_ends w l =
-      let q : 0 ≡ i = omega arith in
-      rw q (record { raised = record { reaches = w.reaches; carried = w.carried }; before = λ b. absurd (omega arith) })
-
--- up and then down: what lies before the highest place was gained and lost
-pub both_ways : {ts vs : List ℕ} {m : ℕ} {e f g : Edge PowerSums} → Raised ts vs m e f → Lowered ts vs m f g → Lowered ts vs m e g
-both_ways {ts} {vs} a b = record {
-  raised = record {
-    reaches = b.raised.reaches;
-    carried = record {
-      each = λ p q x y. settles_alike (settles_on (a.carried.each p q x y) (b.raised.carried.each p q x y)) _ _ (omega arith);
-    };
-  };
-  before = b.before;
-}

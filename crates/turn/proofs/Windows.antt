@@ -1,7 +1,7 @@
 -- For ordered minutes an edge that has come to a bound is the row's: the minutes before it are below the bound and those from it on are not. Both
 -- edges together have gained the new run and lost the old one.
 use Prim.Native.Nat.{ℕ, ◌+◌, ◌-◌, ◌≤◌, ◌<◌, zero-le}
-use Rattle.std.specs.Prelude.{Result, Ok, Err}
+use Rattle.std.specs.Prelude.{Result, Ok}
 use mathlib.Core.Path.{◌≡◌, refl, sym, ap, ◌∙◌}
 use mathlib.Core.Logic.{◌↔◌}
 use mathlib.Core.List.{List}
@@ -17,13 +17,14 @@ use Rattle.meanings.specs.Limits.{full}
 use Rattle.meanings.specs.Lists.{distance, Ordered}
 use Rattle.meanings.specs.Reports.{verdict_fault, first_of, turn_checks}
 use Rattle.meanings.specs.Running.{six, sum_at, plus, minus, power_sum, window_sum, term, new_passes}
-use Rattle.meanings.specs.Turn.{turned, turn_refusal, turn_record}
+use Rattle.meanings.specs.Turn.{turned, turn_refusal}
 use Rattle.meanings.proofs.Checks.{TurnAccepted, turn_accepts, same_limits}
 use Rattle.meanings.proofs.Steps.{six_agree, six_at, range_joins}
 use Rattle.meanings.proofs.Window.{left_at_most_right, right_at_most_length, before_left, before_right}
 use Rattle.arithmetic.specs.Wrapping.{plus_plus}
 use Rattle.arithmetic.specs.declared.Edge.{Edge}
-use Rattle.turn.specs.Travels.{Among, Lowered}
+use Rattle.arithmetic.proofs.Zeros.{IsZeros, zeros}
+use Rattle.turn.specs.Travels.{Lowered}
 use Rattle.turn.proofs.Settles.{settles_is_minus, settles_alike, settles_apart}
 use Rattle.turn.proofs.Travels.{edge}
 
@@ -65,16 +66,10 @@ module _ {ts vs : List ℕ} {m : ℕ} {e f : Edge PowerSums} (o : Ordered ts) (w
       ))
 
 module _ (ts vs : List ℕ) (r : RunningSums) (z h : ℕ) (t : TurnAccepted ts vs r.left r.right h) where
-  pub right_among : Among ts vs r.right
-  right_among = record { even = t.even; inside = t.inside }
-
-  pub left_among : Among ts vs r.left
-  left_among = record { even = t.even; inside = omega (arith, t.edges, t.inside) }
-
   module _ {low n passes : ℕ} {zero₆ sums : PowerSums} {right left : Edge PowerSums}
       (b : Lowered ts vs (z + h + 1) (edge r.right r.sums) right)
       (q : low ≡ z - h)
-      (e : zero₆ ≡ six (λ p q. 0))
+      (e : IsZeros zero₆)
       (c : Lowered ts vs low (edge r.left zero₆) left)
       (f : n ≡ plus 64 r.passes (distance r.left left.at))
       (g : passes ≡ plus 64 n (distance r.right right.at))
@@ -93,7 +88,7 @@ module _ (ts vs : List ℕ) (r : RunningSums) (z h : ℕ) (t : TurnAccepted ts v
         → minus 64 (sum_at right.sums p q) (sum_at left.sums p q)
         ≡ minus 64 (plus 64 (sum_at r.sums p q) (window_sum ts vs z h p q)) (power_sum ts vs r.left (r.right - r.left) p q)
     new_sums_settle p q x y =
-        let gone = rw (ap (λ (s : PowerSums). sum_at s p q) e ∙ six_at (λ p q. 0) p q x y, here_left) at (c.raised.carried.each p q x y) in
+        let gone = rw (ap (λ (s : PowerSums). sum_at s p q) (zeros e) ∙ six_at (λ p q. 0) p q x y, here_left) at (c.raised.carried.each p q x y) in
         let come = rw here_right at (b.raised.carried.each p q x y) in
         let new = from_start p q (left_of ts z h) (right_of ts z h) (left_at_most_right ts z h) in
         let old = from_start p q r.left r.right t.edges in

@@ -33,6 +33,7 @@ fn doubles_case(mut case: Case) {
     show_list(&patterns[..doubles.len()]);
 }
 
+// Nothing, one double or two: no array holds each.
 fn show_cell(cell: Cell) {
     match cell {
         Cell::Empty => show_list::<u64>(&[]),
@@ -59,6 +60,7 @@ struct Program;
 
 impl Calls for Program {
     fn answer(call: u64, case: Case) {
+        // the call's number is the input's
         match call {
             1 => doubles_case(case),
             2 => row_case(case),

@@ -1,5 +1,5 @@
 // A case, its numbers and its lists of numbers.
-ghost use Rattle.std.specs.Prelude.{◌≡◌, ◌≤◌, length, pos, take};
+ghost use Rattle.std.specs.Prelude.{◌≡◌, ◌≤◌, IfSome, length, pos, take};
 ghost use Rattle.io.specs.Counts.{IsPrefixLen};
 ghost use Rattle.vectors_io.specs.Numbers.{after_number, number_onto};
 
@@ -23,7 +23,7 @@ pub struct Case<'a> {
 }
 
 impl<'a> Case<'a> {
-    // The next number, modulo 2^64; a byte below '0' ends it.
+    // The next number, modulo 2^64; a byte below '0' ends it. `parse` takes no text that is longer than its number.
     #[tactic(auto, unfolding(crate::specs::Numbers::number_onto, crate::specs::Numbers::after_number))]
     pub fn number(&mut self) -> u64
         ensures value { result ≡ number_onto 0 self.old.rest.now }
@@ -36,7 +36,7 @@ impl<'a> Case<'a> {
             if *byte < b'0' {
                 break;
             }
-            value = value.wrapping_mul(10).wrapping_add((*byte - b'0') as u64);
+            value = value.wrapping_mul(10).wrapping_add(u64::from(*byte - b'0'));
         }
         value
     }
@@ -57,11 +57,11 @@ impl<'a> Case<'a> {
         ensures front { result.now ≡ take (length result.now) list.old }
         ensures no_longer { length self.new.rest.now ≤ length self.old.rest.now }
     {
-        let n = usize::min(self.number() as usize, list.len());
+        let n = usize::min(self.narrow(), list.len());
         &mut list[..n]
     }
 
-    // A list of the case, its length and then its numbers, in the front of `list`.
+    // A list of the case, its length and then its numbers, in the front of `list`: memory of the caller, since nothing is allocated.
     pub fn list<'b, T: Integral>(&mut self, list: &'b mut [T]) -> &'b mut [T]
     where
         u64: AsPrimitive<T>,
@@ -76,21 +76,24 @@ impl<'a> Case<'a> {
     }
 }
 
-// Reads the next case into the front of the buffer and gives its size, 0 behind the last case. The size stands before the case, five digits
+// Reads the next case into the front of the buffer and gives its size, none behind the last case. The size stands before the case, five digits
 // and a line feed.
-fn next_case(buf: &mut [u8]) -> usize
-    ensures { IsPrefixLen result buf.new }
+fn next_case(buf: &mut [u8]) -> Option<usize>
+    ensures { IfSome result (λ n. IsPrefixLen n buf.new) }
 {
     let mut head = [0u8; 6];
     let read = io::read_full(IN, &mut head);
     let mut size = Case {
         rest: &head[..read],
     };
-    let n = usize::min(size.number() as usize, buf.len());
-    io::read_full(IN, &mut buf[..n])
+    let n = usize::min(size.narrow(), buf.len());
+    match io::read_full(IN, &mut buf[..n]) {
+        0 => None,
+        size => Some(size),
+    }
 }
 
-// The calls of a program of vectors.
+// The calls of a program of vectors. Which call a case is for is a number of the input, so a program matches on it.
 pub trait Calls {
     // Makes the call of this number on the rest of its case, and writes what it gives.
     fn answer(call: u64, case: Case);
@@ -102,10 +105,9 @@ pub fn each_case<C: Calls>() -> u64
 {
     for n in 0..MOST_CASES {
         let mut bytes = [0u8; MOST_BYTES];
-        let size = next_case(&mut bytes);
-        if size == 0 {
+        let Some(size) = next_case(&mut bytes) else {
             return n;
-        }
+        };
         let mut case = Case {
             rest: &bytes[..size],
         };

@@ -1,14 +1,15 @@
-// What a call gives: its answer, and a lent list as runs of equal elements.
-ghost use Rattle.std.specs.Prelude.{◌≡◌, ◌≤◌, length};
+// What a call gives: its answer, and a lent list as runs of equal elements. `print!` takes the runtime, which all functions down to here would have to
+// hand on.
+ghost use Rattle.std.specs.Prelude.{◌≡◌, ◌/◌, ◌%◌, Some, None, ◌==◌, if◌then◌else◌, length};
 
 use meanings::DETAIL_UNIT;
 use num_traits::AsPrimitive;
 
 const OUT: i32 = 1;
 
-// Writes an answer's number and detail. Gives the detail of an accepted call, which for a text is how many bytes are written, else 0.
-pub fn show_answer(answer: u64) -> u64
-    ensures { result ≤ answer }
+// Writes an answer's number and detail. Gives the detail of an accepted call, which for a text is how many bytes are written.
+pub fn show_answer(answer: u64) -> Option<u64>
+    ensures { result ≡ (if answer % 256 == 0 then Some (answer / 256) else None) }
 {
     let number = answer % DETAIL_UNIT;
     let detail = answer / DETAIL_UNIT;
@@ -16,7 +17,7 @@ pub fn show_answer(answer: u64) -> u64
     io::write_all(OUT, b" ");
     io::print_decimal(OUT, detail);
     io::write_all(OUT, b"\n");
-    if number == 0 { detail } else { 0 }
+    (number == 0).then_some(detail)
 }
 
 // Writes a run of equal elements: one of them and, where there are more, how many.
@@ -49,7 +50,7 @@ pub fn show_list<T: AsPrimitive<u64>>(list: &[T]) -> usize
 pub fn show_text(answer: u64, out: &[u8]) -> usize
     ensures { result ≡ length out.now }
 {
-    let n = usize::min(show_answer(answer) as usize, out.len());
+    let n = show_answer(answer).map_or(0, |detail| usize::min(detail as usize, out.len()));
     io::write_all(OUT, &out[..n]);
     n + show_list(&out[n..])
 }

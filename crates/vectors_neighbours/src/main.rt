@@ -14,7 +14,7 @@ fn neighbours_case(mut case: Case) {
     let minutes = case.list(&mut minutes);
     let values = case.list(&mut values);
     let points = case.list(&mut points);
-    let k = case.number() as usize;
+    let k = case.narrow();
     let bandwidths = case.lent(&mut bandwidths);
     let rows = case.lent(&mut rows);
     show_answer(tankcurve_neighbours(minutes, values, points, k, bandwidths, rows));
@@ -26,6 +26,7 @@ struct Program;
 
 impl Calls for Program {
     fn answer(call: u64, case: Case) {
+        // the call's number is the input's
         match call {
             1 => neighbours_case(case),
             _ => (),

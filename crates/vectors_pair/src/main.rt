@@ -5,6 +5,7 @@
 
 use abi_pair::tankcurve_compare;
 use estimator::window;
+use meanings::{Mark, Marks};
 use pair::compare_run;
 use vectors_io::{Calls, Case, MOST_ELEMENTS, each_case, show_answer, show_list};
 
@@ -33,7 +34,8 @@ fn compare_case(mut case: Case) {
         minutes1, values1, minutes2, values2, points, bandwidths, out,
     ));
     show_list(out);
-    show_part(compare_run(minutes1, values1, minutes2, values2, points, bandwidths));
+    let marks = Marks { points, bandwidths };
+    show_part(compare_run(minutes1, values1, minutes2, values2, marks));
 }
 
 fn window_case(mut case: Case) {
@@ -43,13 +45,14 @@ fn window_case(mut case: Case) {
     let values = case.list(&mut values);
     let point = case.narrow();
     let bandwidth = case.narrow();
-    show_part(window(minutes, values, point, bandwidth));
+    show_part(window(minutes, values, Mark { point, bandwidth }));
 }
 
 struct Program;
 
 impl Calls for Program {
     fn answer(call: u64, case: Case) {
+        // the call's number is the input's
         match call {
             1 => compare_case(case),
             2 => window_case(case),

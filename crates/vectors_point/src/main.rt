@@ -7,8 +7,12 @@ use abi_record::{tankcurve_advance, tankcurve_row};
 use abi_turn::tankcurve_turn;
 use vectors_io::{Calls, Case, MOST_ELEMENTS, each_case, show_answer, show_list};
 
-// Both calls at one mark.
-fn point_case(mut case: Case, window: bool) {
+// One of the calls at a mark, in a closure, since a function for C is none itself.
+fn point_case<F>(mut case: Case, call: F)
+where
+    F: FnOnce(&[u16], &[u16], u16, u32, &mut [u64]) -> u64,
+    requires { F.IsAlwaysCallable call }
+{
     let mut minutes = [0u16; MOST_ELEMENTS];
     let mut values = [0u16; MOST_ELEMENTS];
     let mut out = [7u64; 8];
@@ -17,16 +21,16 @@ fn point_case(mut case: Case, window: bool) {
     let point = case.narrow();
     let bandwidth = case.narrow();
     let out = case.lent(&mut out);
-    show_answer(if window {
-        tankcurve_window(minutes, values, point, bandwidth, out)
-    } else {
-        tankcurve_evaluate(minutes, values, point, bandwidth, out)
-    });
+    show_answer(call(minutes, values, point, bandwidth, out));
     show_list(out);
 }
 
 // The step, or the turn.
-fn record_case(mut case: Case, turn: bool) {
+fn record_case<F>(mut case: Case, call: F)
+where
+    F: FnOnce(&mut [u64], &[u16], &[u16], u16, u32) -> u64,
+    requires { F.IsAlwaysCallable call }
+{
     let mut running = [0u64; 16];
     let mut minutes = [0u16; MOST_ELEMENTS];
     let mut values = [0u16; MOST_ELEMENTS];
@@ -35,11 +39,7 @@ fn record_case(mut case: Case, turn: bool) {
     let values = case.list(&mut values);
     let point = case.narrow();
     let bandwidth = case.narrow();
-    show_answer(if turn {
-        tankcurve_turn(running, minutes, values, point, bandwidth)
-    } else {
-        tankcurve_advance(running, minutes, values, point, bandwidth)
-    });
+    show_answer(call(running, minutes, values, point, bandwidth));
     show_list(running);
 }
 
@@ -58,12 +58,19 @@ struct Program;
 
 impl Calls for Program {
     fn answer(call: u64, case: Case) {
+        // the call's number is the input's
         match call {
-            1 => point_case(case, false),
-            2 => point_case(case, true),
-            3 => record_case(case, false),
+            1 => point_case(
+                case,
+                |ts, vs, z, h, out| tankcurve_evaluate(ts, vs, z, h, out),
+            ),
+            2 => point_case(
+                case,
+                |ts, vs, z, h, out| tankcurve_window(ts, vs, z, h, out),
+            ),
+            3 => record_case(case, |r, ts, vs, z, h| tankcurve_advance(r, ts, vs, z, h)),
             4 => row_case(case),
-            5 => record_case(case, true),
+            5 => record_case(case, |r, ts, vs, z, h| tankcurve_turn(r, ts, vs, z, h)),
             _ => (),
         }
     }

@@ -50,6 +50,7 @@ struct Program;
 
 impl Calls for Program {
     fn answer(call: u64, case: Case) {
+        // the call's number is the input's
         match call {
             1 => smooth_case(case),
             2 => read_case(case),

@@ -5,8 +5,12 @@
 use abi_sweep::{tankcurve_fill, tankcurve_preview, tankcurve_smooth};
 use vectors_io::{Calls, Case, MOST_ELEMENTS, each_case, show_answer, show_list};
 
-// The sweep, or with `small` the preview.
-fn smooth_case(mut case: Case, small: bool) {
+// The sweep or the preview, in a closure, since a function for C is none itself.
+fn smooth_case<F>(mut case: Case, call: F)
+where
+    F: FnOnce(&[u16], &[u16], &[u16], &[u32], &mut [u64]) -> u64,
+    requires { F.IsAlwaysCallable call }
+{
     let mut minutes = [0u16; MOST_ELEMENTS];
     let mut values = [0u16; MOST_ELEMENTS];
     let mut points = [0u16; MOST_ELEMENTS];
@@ -17,11 +21,7 @@ fn smooth_case(mut case: Case, small: bool) {
     let points = case.list(&mut points);
     let bandwidths = case.list(&mut bandwidths);
     let rows = case.lent(&mut rows);
-    show_answer(if small {
-        tankcurve_preview(minutes, values, points, bandwidths, rows)
-    } else {
-        tankcurve_smooth(minutes, values, points, bandwidths, rows)
-    });
+    show_answer(call(minutes, values, points, bandwidths, rows));
     show_list(rows);
 }
 
@@ -42,10 +42,17 @@ struct Program;
 
 impl Calls for Program {
     fn answer(call: u64, case: Case) {
+        // the call's number is the input's
         match call {
-            1 => smooth_case(case, false),
+            1 => smooth_case(
+                case,
+                |ts, vs, zs, hs, out| tankcurve_smooth(ts, vs, zs, hs, out),
+            ),
             2 => fill_case(case),
-            3 => smooth_case(case, true),
+            3 => smooth_case(
+                case,
+                |ts, vs, zs, hs, out| tankcurve_preview(ts, vs, zs, hs, out),
+            ),
             _ => (),
         }
     }

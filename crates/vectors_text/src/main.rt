@@ -9,28 +9,36 @@ use vectors_io::{Calls, Case, each_case, show_text};
 // The longest buffer of a case.
 const MOST_BUFFER: usize = 44200;
 
-// The front of the bytes that are lent to a call: of the length that the case states, or of the longest text's.
-fn lent_front<'b>(case: &mut Case, stated: bool, bytes: &'b mut [u8]) -> &'b mut [u8] {
-    if stated {
-        case.lent(bytes)
-    } else {
-        let n = usize::min(MAX_OUTPUT, bytes.len());
-        &mut bytes[..n]
+// How many bytes are lent to a call: as many as the longest text has, or as many as the case states.
+#[derive(Clone, Copy, Debug, PartialEq, Eq)]
+enum Lent {
+    Longest,
+    Stated,
+}
+
+// The front of the bytes that are lent.
+fn lent_front<'b>(case: &mut Case, lent: Lent, bytes: &'b mut [u8]) -> &'b mut [u8] {
+    match lent {
+        Lent::Longest => {
+            let n = usize::min(MAX_OUTPUT, bytes.len());
+            &mut bytes[..n]
+        }
+        Lent::Stated => case.lent(bytes),
     }
 }
 
 // The sheet is the rest of the case.
-fn text_case(mut case: Case, stated: bool) {
+fn text_case(mut case: Case, lent: Lent) {
     let mut bytes = [7u8; MOST_BUFFER];
-    let out = lent_front(&mut case, stated, &mut bytes);
+    let out = lent_front(&mut case, lent, &mut bytes);
     show_text(tankcurve_text(case.rest, out), out);
 }
 
-fn refusal_text_case(mut case: Case, stated: bool) {
+fn refusal_text_case(mut case: Case, lent: Lent) {
     let mut bytes = [7u8; MOST_BUFFER];
     let report = case.number();
     let place = case.number();
-    let out = lent_front(&mut case, stated, &mut bytes);
+    let out = lent_front(&mut case, lent, &mut bytes);
     show_text(tankcurve_refusal_text(report, place, out), out);
 }
 
@@ -38,11 +46,12 @@ struct Program;
 
 impl Calls for Program {
     fn answer(call: u64, case: Case) {
+        // The number of the call is the input's.
         match call {
-            1 => text_case(case, false),
-            2 => text_case(case, true),
-            3 => refusal_text_case(case, false),
-            4 => refusal_text_case(case, true),
+            1 => text_case(case, Lent::Longest),
+            2 => text_case(case, Lent::Stated),
+            3 => refusal_text_case(case, Lent::Longest),
+            4 => refusal_text_case(case, Lent::Stated),
             _ => (),
         }
     }

@@ -5,24 +5,21 @@ ghost use Rattle.std.specs.Prelude.{map};
 ghost use Rattle.windows.specs.Windows.{WindowsTried};
 
 use cuts::{Coordinate, left_cut, place, right_cut};
+use meanings_boxes::{AxisMarks, Window};
 
 // Stores for each mark the place of its left cut and the place of the cut behind its right edge, among cuts that are moved up by `SHIFT`. Lists that
 // are too short stay as they are.
-pub fn put_windows<C: Coordinate>(
-    points: &[C],
-    bandwidths: &[u32],
-    cuts: &[u64],
-    firsts: &mut [usize],
-    ends: &mut [usize],
-)
-    ensures { WindowsTried (map C.number points.now) bandwidths.now C.SHIFT cuts.now firsts.old ends.old firsts.new ends.new }
+pub fn put_windows<C: Coordinate>(marks: AxisMarks<C>, cuts: &[u64], windows: &mut [Window])
+    ensures { WindowsTried (map C.number marks.entry.points.now) marks.entry.bandwidths.now C.SHIFT cuts.now windows.old windows.new }
 {
-    if bandwidths.len() < points.len() || firsts.len() < points.len() || ends.len() < points.len() {
+    if marks.bandwidths.len() < marks.points.len() || windows.len() < marks.points.len() {
         return;
     }
-    for (i, point) in points.iter().enumerate() {
+    for (i, point) in marks.points.iter().enumerate() {
         let point = point.number();
-        firsts[i] = place(cuts, left_cut(point, bandwidths[i], C::SHIFT));
-        ends[i] = place(cuts, right_cut(point, bandwidths[i], C::SHIFT));
+        windows[i] = Window {
+            first: place(cuts, left_cut(point, marks.bandwidths[i], C::SHIFT)),
+            end: place(cuts, right_cut(point, marks.bandwidths[i], C::SHIFT)),
+        };
     }
 }

@@ -5,5 +5,5 @@ use Rattle.biweight.proofs.row_at.Goals as goal
 pub returns : goal.returns
 returns c = search row_made
 
-pub weigh-run-requires : goal.weigh-run-requires
-weigh-run-requires c = search run_short
+pub weigh-weighed-requires : goal.weigh-weighed-requires
+weigh-weighed-requires c = search run_short

@@ -1,22 +1,32 @@
--- Each turn keeps the invariant of Weighing: one reading more, with the weight that the table has at its distance.
-use Rattle.biweight.proofs.Weighing.{weighing_begins, weighing_goes_on, run_weighed, weight_fits}
-use Rattle.biweight.proofs.Weighing.{term_fits, sum_fits}
+-- Each turn takes the reading that the iterator gives, with the weight that the table has at its distance.
+use Rattle.std.proofs.Common.{rules, arith, ◌<◌}
+use Rattle.std.proofs.lemmas.List.{length-append}
+use Rattle.biweight.proofs.Weighing.{reading_given, weight_fits, term_fits, sum_fits, weighing_goes_on}
 use Rattle.biweight.proofs.weigh.Goals as goal
 
-pub loop-i-init : goal.loop-i-init
-loop-i-init c = search weighing_begins
-
-pub loop-i-preserved : goal.loop-i-preserved
-loop-i-preserved c = search weighing_goes_on
-
-pub returns : goal.returns
-returns c = search run_weighed
-
 pub overflow_add-weight : goal.overflow_add-weight
-overflow_add-weight c = search weight_fits
+overflow_add-weight c =
+    let r = reading_given c.args.run.minutes.now c.args.run.values.now _ _ _ c.next.new.self _ _ (search rules) (search rules) c.loop-minute.yielded_by
+    c.in-Some.is c.next.ensures.steps in
+    search weight_fits
 
 pub overflow_mul-sum : goal.overflow_mul-sum
-overflow_mul-sum c = search term_fits
+overflow_mul-sum c =
+    let r = reading_given c.args.run.minutes.now c.args.run.values.now _ _ _ c.next.new.self _ _ (search rules) (search rules) c.loop-minute.yielded_by
+    c.in-Some.is c.next.ensures.steps in
+    let v : c.in-Some.value < 65536 = search (rules, arith) in
+    search term_fits
 
 pub overflow_add-sum : goal.overflow_add-sum
-overflow_add-sum c = search sum_fits
+overflow_add-sum c =
+    let r = reading_given c.args.run.minutes.now c.args.run.values.now _ _ _ c.next.new.self _ _ (search rules) (search rules) c.loop-minute.yielded_by
+    c.in-Some.is c.next.ensures.steps in
+    let v : c.in-Some.value < 65536 = search (rules, arith) in
+    search sum_fits
+
+pub loop-minute-preserved : goal.loop-minute-preserved
+loop-minute-preserved c =
+    let r = reading_given c.args.run.minutes.now c.args.run.values.now _ _ _ c.next.new.self _ _ (search rules) (search rules) c.loop-minute.yielded_by
+    c.in-Some.is c.next.ensures.steps in
+    let v : c.in-Some.value < 65536 = search (rules, arith) in
+    search (weighing_goes_on, length-append)

@@ -1,6 +1,6 @@
 -- The lowest half width out of range: at each turn none below i is.
 -- So the first that is found is the lowest, and at the end there is none.
-use Rattle.checks_curve.proofs.Refusals.{bad_found, none_bad}
+use Rattle.checks_curve.proofs.Searches.{bad_found, none_bad}
 use Rattle.checks_curve.proofs.first_out_of_range.Goals as goal
 
 pub returns-then-outside : goal.returns-then-outside

@@ -1,12 +1,7 @@
 -- The lowest half width out of range: at each turn none below i is.
 -- So the first that is found is the lowest, and at the end there is none.
-use Prim.Native.Nat.{◌-◌}
-use lib.ListN.{length}
-use Rattle.checks_curve.proofs.Refusals.{NoneBadBelow}
+use Rattle.checks_curve.proofs.Searches.{NoneBadBelow}
 use Rattle.checks_curve.proofs.first_out_of_range.Given as goal
 
 abbrev pub invariant-loop-i : goal.invariant-loop-i
 invariant-loop-i l = NoneBadBelow l.most l.bandwidths l.i
-
-abbrev pub decreases-loop-i : goal.decreases-loop-i
-decreases-loop-i l = length l.bandwidths - l.i

@@ -1,5 +1,5 @@
 -- Every check is made before the first step; lists that none refuses are searched.
-use Rattle.crossing.proofs.Searching.{lists_accepted, call_refused, call_answers}
+use Rattle.crossing.proofs.Searching.{lists_accepted}
 use Rattle.crossing.proofs.first_at_most.Goals as goal
 
 pub search-requires : goal.search-requires

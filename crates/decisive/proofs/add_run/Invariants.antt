@@ -3,4 +3,4 @@ use Rattle.decisive.proofs.Adding.{TotalTo}
 use Rattle.decisive.proofs.add_run.Given as goal
 
 abbrev pub invariant-loop-i : goal.invariant-loop-i
-invariant-loop-i l = TotalTo l.minutes l.values l.point l.bandwidth l.left l.right l.i l.weight l.sum
+invariant-loop-i l = TotalTo l.minutes l.values l.mark.point l.mark.bandwidth l.left l.right l.i l.weight l.sum

@@ -1,5 +1,5 @@
 -- Every check of the question at one mark is made first; lists that none refuses are searched.
-use Rattle.decisive.proofs.Removing.{lists_accepted, call_refused, call_answers}
+use Rattle.decisive.proofs.Removing.{lists_accepted}
 use Rattle.decisive.proofs.decisive_sample.Goals as goal
 
 pub search-requires : goal.search-requires

@@ -3,4 +3,4 @@ use Rattle.decisive.proofs.Removing.{NoneDecides}
 use Rattle.decisive.proofs.search.Given as goal
 
 abbrev pub invariant-loop-i : goal.invariant-loop-i
-invariant-loop-i l = NoneDecides l.minutes l.values l.point l.bandwidth l.limit l.run l.low l.i
+invariant-loop-i l = NoneDecides l.minutes l.values l.mark.point l.mark.bandwidth l.limit l.run l.low l.i

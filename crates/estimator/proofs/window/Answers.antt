@@ -19,14 +19,14 @@ returns-in-Ok-clause-ref_ptr_value c = (refl, search start_given)
 pub span_at-span-requires : goal.span_at-span-requires
 span_at-span-requires c = search accepted_ordered
 
-pub offset_bounds-values-left : goal.offset_bounds-values-left
-offset_bounds-values-left c = search span_fits
+pub offset_bounds-values-span : goal.offset_bounds-values-span
+offset_bounds-values-span c = search span_fits
 
-pub slice_bounds-result-count-in-Ok : goal.slice_bounds-result-count-in-Ok
-slice_bounds-result-count-in-Ok c = search span_ordered
+pub slice_bounds-result-count : goal.slice_bounds-result-count
+slice_bounds-result-count c = search span_ordered
 
-pub slice_bounds-result-start-in-Ok : goal.slice_bounds-result-start-in-Ok
-slice_bounds-result-start-in-Ok c = search span_ordered
+pub slice_bounds-result-start : goal.slice_bounds-result-start
+slice_bounds-result-start c = search span_ordered
 
 pub slice_bounds-result-end-in-Ok : goal.slice_bounds-result-end-in-Ok
 slice_bounds-result-end-in-Ok c = search span_within

@@ -6,11 +6,11 @@ use Rattle.neighbours.proofs.neighbours.Goals as goal
 pub put_bandwidths-requires : goal.put_bandwidths-requires
 put_bandwidths-requires c = search (fillable, c.judged.ensures, c.in_ok-judged.was)
 
-pub returns-in_err-smooth-clause-result_value : goal.returns-in_err-smooth-clause-result_value
-returns-in_err-smooth-clause-result_value c = absurd (search (never_refused, c.judged.ensures, c.in_ok-judged.was, c.in_err-smooth.was))
+pub returns-in_err-swept-clause-result_value : goal.returns-in_err-swept-clause-result_value
+returns-in_err-swept-clause-result_value c = absurd (search (never_refused, c.judged.ensures, c.in_ok-judged.was, c.in_err-swept.was))
 
-pub returns-in_err-smooth-clause-rows_after : goal.returns-in_err-smooth-clause-rows_after
-returns-in_err-smooth-clause-rows_after c = absurd (search (never_refused, c.judged.ensures, c.in_ok-judged.was, c.in_err-smooth.was))
+pub returns-in_err-swept-clause-rows_after : goal.returns-in_err-swept-clause-rows_after
+returns-in_err-swept-clause-rows_after c = absurd (search (never_refused, c.judged.ensures, c.in_ok-judged.was, c.in_err-swept.was))
 
 pub returns-clause-rows_after : goal.returns-clause-rows_after
 returns-clause-rows_after c = search (rows_given, c.judged.ensures, c.in_ok-judged.was)

@@ -4,4 +4,5 @@ use Rattle.pair.proofs.parted.Given as goal
 
 abbrev pub invariant-loop-k : goal.invariant-loop-k
 invariant-loop-k l =
-    AlikeTo l.minutes1 l.values1 l.minutes2 l.values2 l.points l.bandwidths l.k l.first l.second
+    AlikeTo l.first.minutes.now l.first.values.now l.second.minutes.now l.second.values.now l.marks.points.now l.marks.bandwidths.now l.k l.running1
+    l.running2

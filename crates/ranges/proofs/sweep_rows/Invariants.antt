@@ -4,4 +4,6 @@ use Rattle.ranges.proofs.Sweeping.{SweptTo}
 use Rattle.ranges.proofs.sweep_rows.Given as goal
 
 abbrev pub invariant-loop-k : goal.invariant-loop-k
-invariant-loop-k l = SweptTo l.minutes l.lows l.highs l.points l.bandwidths l.initial.rows l.k l.rows l.running
+invariant-loop-k l =
+    SweptTo l.ranges.minutes.now l.ranges.lows.now l.ranges.highs.now l.marks.points.now l.marks.bandwidths.now l.initial.rows l.k l.rows
+    l.running

@@ -8,11 +8,7 @@ use Rattle.sheet.proofs.read_into.Goals as goal
 pub returns-in_err-used : goal.returns-in_err-used
 returns-in_err-used c =
     let e = err_from_is_err_and c.from_residual.result c.from_residual.ensures.1 in
-    rw (e.1, e.2) (reading_refused c.in_err-used.ensures)
+    rw (e.1, e.2) (reading_refused c.in_err-used.ensures.scanned)
 
 pub returns : goal.returns
-returns c =
-    reading_used c.in_ok-used.ensures
-    c.requires
-    (search rules) (search rules) (search rules) (search rules)
-    (search rules) (search rules) (search rules) (search rules)
+returns c = reading_used c.in_ok-used.ensures.scanned c.in_ok-used.ensures.lengths (search rules) (search rules) (search rules) (search rules)

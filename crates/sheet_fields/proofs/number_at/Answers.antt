@@ -1,15 +1,15 @@
 -- Where the loop is left, the part ends: at the text's end or at a comma.
 use Rattle.std.proofs.Common.{arith}
-use Rattle.sheet_fields.proofs.Fields.{PartEnd, passed_goes_on, no_digit_here, sixth_byte_no_number, part_ends_at_end, part_ends_at_comma}
+use Rattle.sheet_fields.proofs.Fields.{PartEnd, no_digit_here, sixth_byte_no_number, part_ends_at_end, part_ends_at_comma}
 use Rattle.sheet_fields.proofs.Fields.{leading_zero_no_field, behind_no_number, plain_number}
 use Rattle.sheet_fields.proofs.number_at.Goals as goal
-use Rattle.sheet_fields.proofs.number_at.Goals.{Else-end-from, else-loop-at-test, then-loop-at-test+then-b-eq44}
+use Rattle.sheet_fields.proofs.number_at.Goals.{Else-end-from, else-loop-at-test, then-loop-at-test+then-b-eq-COMMA}
 use Rattle.sheet_fields.proofs.number_at.Goals.{else-end-from-gt1-via-then-end-from-gt1+else-text-from-eq-ZERO, else-end-from-gt1-via-else-end-from-gt1}
 
 part_end : (c : Else-end-from) → PartEnd c.args.text.now c.args.from c.loop-at-test.end c.loop-at.value
 part_end c = elim c.loop-at-test.branch [
   | else-loop-at-test w ↦ rw (w.end-is, c.loop-at.invariant.1) (part_ends_at_end c.loop-at.invariant.0 (omega arith) (omega arith))
-  | then-loop-at-test+then-b-eq44 w ↦ rw w.end-is (part_ends_at_comma c.loop-at.invariant.0 w.loop-at-test.true w.if-b-eq44.true)
+  | then-loop-at-test+then-b-eq-COMMA w ↦ rw w.end-is (part_ends_at_comma c.loop-at.invariant.0 w.loop-at-test.true w.if-b-eq-COMMA.true)
 ]
 
 pub returns-then-not-is_ascii_digit : goal.returns-then-not-is_ascii_digit
@@ -18,16 +18,11 @@ returns-then-not-is_ascii_digit c = no_digit_here c.loop-at.invariant.0 (search)
 pub returns-then-value-gt9999 : goal.returns-then-value-gt9999
 returns-then-value-gt9999 c = sixth_byte_no_number c.loop-at.invariant.0 (search) (search) (omega arith)
 
-pub loop-at-preserved : goal.loop-at-preserved
-loop-at-preserved c =
-    let d = c.if-not-is_ascii_digit.ensures.cases in
-    (passed_goes_on c.loop-at.invariant.0 (search) c.from.ensures d.0 d.1 (search), c.loop-at.invariant.1)
-
 pub returns-then-end-from : goal.returns-then-end-from
 returns-then-end-from c = elim c.loop-at-test.branch [
   | else-loop-at-test w ↦ behind_no_number _ _ (omega (arith, c.loop-at.invariant.1))
-  | then-loop-at-test+then-b-eq44 w ↦
-      (part_ends_at_comma c.loop-at.invariant.0 w.loop-at-test.true w.if-b-eq44.true).none_there (omega (arith, w.end-is))
+  | then-loop-at-test+then-b-eq-COMMA w ↦
+      (part_ends_at_comma c.loop-at.invariant.0 w.loop-at-test.true w.if-b-eq-COMMA.true).none_there (omega (arith, w.end-is))
 ]
 
 pub returns-then-text-from-eq-ZERO : goal.returns-then-text-from-eq-ZERO

@@ -1,34 +1,16 @@
--- Lists of other lengths are refused before the sheet is looked at.
--- With those of the right lengths the meaning is that of the sheet alone, which is read into them.
-use Rattle.checks_reader.proofs.Lengths.{tested_even}
-use Rattle.sheet_ranges.proofs.Scans.{uneven_refused, even_answered}
+-- The last list is of another length: what the call then answers.
+use Rattle.std.proofs.Common.{◌≡◌, arith}
+use Rattle.std.proofs.lemmas.Grind.{common_steps}
+use Rattle.std.proofs.lemmas.Result.{err_from_is_err_and}
+use Rattle.meanings.specs.Limits.{full}
+use Rattle.meanings.specs.Reports.{refused}
+use Rattle.meanings_ranges.specs.RangeCalls.{read_ranges}
+use Rattle.sheet_ranges.proofs.Scans.{bandwidths_uneven}
 use Rattle.sheet_ranges.proofs.read_ranges.Goals as goal
 
-pub returns-then-uneven_reader : goal.returns-then-uneven_reader
-returns-then-uneven_reader c =
-    let a = uneven_refused c.args.sheet.now c.args.minutes.now c.args.lows.now c.args.highs.now c.args.points.now c.args.bandwidths.now (cc) c.at.ensures in
-    record {
-      result_value = a.0;
-      minutes_after = a.1.0;
-      lows_after = a.1.1.0;
-      highs_after = a.1.1.1.0;
-      points_after = a.1.1.1.1.0;
-      bandwidths_after = a.1.1.1.1.1;
-    }
-
-pub read_into-requires : goal.read_into-requires
-read_into-requires c =
-    tested_even c.uneven_reader.ensures c.if-uneven_reader.false
-
-pub returns : goal.returns
-returns c =
-    let a = even_answered c.args.sheet.now c.args.minutes.now c.args.lows.now c.args.highs.now c.args.points.now c.args.bandwidths.now (cc)
-    c.read_into.ensures in
-    record {
-      result_value = a.0;
-      minutes_after = a.1.0;
-      lows_after = a.1.1.0;
-      highs_after = a.1.1.1.0;
-      points_after = a.1.1.1.1.0;
-      bandwidths_after = a.1.1.1.1.1;
-    }
+pub returns-in_err-bandwidths-clause-result_value : goal.returns-in_err-bandwidths-clause-result_value
+returns-in_err-bandwidths-clause-result_value c =
+    let h : read_ranges full c.args.sheet.now c.args.minutes.now c.args.lows.now c.args.highs.now c.args.points.now c.args.bandwidths.now
+    ≡ refused (record { number = 8; place = 0 }) = grind (arith, bandwidths_uneven) in
+    let e = err_from_is_err_and c.from_residual-in_err-bandwidths.result c.from_residual-in_err-bandwidths.ensures.1 in
+    rw (h, e.1, e.2) (grind (arith, common_steps))

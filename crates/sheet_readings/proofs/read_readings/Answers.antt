@@ -1,15 +1,12 @@
--- A list of another length is refused first; with all of their lengths the call is the scan.
-use Rattle.sheet_readings.proofs.ReadingLoop.{minutes_uneven, lows_uneven, highs_uneven, even_outcome}
+-- A list of another length is refused, where those before it have theirs.
+use Rattle.sheet_readings.proofs.ReadingLoop.{lows_uneven, highs_uneven}
 use Rattle.sheet_readings.proofs.read_readings.Goals as goal
 
-pub returns-then-minutes-ne1024 : goal.returns-then-minutes-ne1024
-returns-then-minutes-ne1024 c = search minutes_uneven
+pub returns-in_default-as_mut_array : goal.returns-in_default-as_mut_array
+returns-in_default-as_mut_array c =
+    lows_uneven c.in-Some.ensures.cases.long c.in_default-as_mut_array.ensures.cases c.at-in_default-as_mut_array.ensures
 
-pub returns-then-lows-ne1024 : goal.returns-then-lows-ne1024
-returns-then-lows-ne1024 c = search lows_uneven
-
-pub returns-then-highs-ne1024 : goal.returns-then-highs-ne1024
-returns-then-highs-ne1024 c = search highs_uneven
-
-pub returns : goal.returns
-returns c = search even_outcome
+pub returns-in_default-as_mut_array-2 : goal.returns-in_default-as_mut_array-2
+returns-in_default-as_mut_array-2 c =
+    highs_uneven c.in-Some.ensures.cases.long c.in-Some-as_mut_array.ensures.cases.long c.in_default-as_mut_array-2.ensures.cases
+    c.at-in_default-as_mut_array-2.ensures

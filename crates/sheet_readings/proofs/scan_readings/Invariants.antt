@@ -5,9 +5,8 @@ use lib.ListN.{length}
 use Rattle.sheet_readings.proofs.ReadingLoop.{ReadingsSoFar}
 use Rattle.sheet_readings.proofs.scan_readings.Given as goal
 
-abbrev pub invariant-loop-at : goal.invariant-loop-at
-invariant-loop-at l =
-    ReadingsSoFar l.sheet l.from l.kind l.initial.minutes l.initial.lows l.initial.highs l.minutes l.lows l.highs l.at l.so_far
+abbrev pub invariant-loop-line : goal.invariant-loop-line
+invariant-loop-line l = ReadingsSoFar l.sheet l.from l.kind l.minutes l.lows l.highs l.at l.so_far
 
-abbrev pub decreases-loop-at : goal.decreases-loop-at
-decreases-loop-at l = length l.sheet - l.at
+abbrev pub decreases-loop-line : goal.decreases-loop-line
+decreases-loop-line l = length l.sheet - l.at

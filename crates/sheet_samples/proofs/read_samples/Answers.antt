@@ -3,14 +3,19 @@
 use Rattle.sheet_samples.proofs.SampleLoop.{minutes_uneven, values_uneven, no_sample_header, samples_after_header}
 use Rattle.sheet_samples.proofs.read_samples.Goals as goal
 
-pub returns-then-minutes-ne1024 : goal.returns-then-minutes-ne1024
-returns-then-minutes-ne1024 c = search minutes_uneven
-
-pub returns-then-values-ne1024 : goal.returns-then-values-ne1024
-returns-then-values-ne1024 c = search values_uneven
-
 pub returns-in_default : goal.returns-in_default
-returns-in_default c = no_sample_header c.if-minutes-ne1024.false c.if-values-ne1024.false c.in_default.ensures c.at-in_default.ensures
+returns-in_default c = minutes_uneven c.in_default.ensures.cases c.at.ensures
+
+pub returns-in_default-as_mut_array : goal.returns-in_default-as_mut_array
+returns-in_default-as_mut_array c =
+    values_uneven c.in-Some.ensures.cases.long c.in_default-as_mut_array.ensures.cases c.at-in_default-as_mut_array.ensures
+
+pub returns-in_default-skip_header : goal.returns-in_default-skip_header
+returns-in_default-skip_header c =
+    no_sample_header c.in-Some.ensures.cases.long c.in-Some-as_mut_array.ensures.cases.long c.in_default-skip_header.ensures
+    c.at-in_default-skip_header.ensures
 
 pub returns : goal.returns
-returns c = samples_after_header c.if-minutes-ne1024.false c.if-values-ne1024.false c.in-Some.ensures c.scan_samples.ensures
+returns c =
+    samples_after_header c.in-Some.ensures.cases.long c.in-Some-as_mut_array.ensures.cases.long c.in-Some-skip_header.ensures
+    c.scan_samples.ensures

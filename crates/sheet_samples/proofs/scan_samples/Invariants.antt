@@ -5,9 +5,8 @@ use lib.ListN.{length}
 use Rattle.sheet_samples.proofs.SampleLoop.{SamplesSoFar}
 use Rattle.sheet_samples.proofs.scan_samples.Given as goal
 
-abbrev pub invariant-loop-at : goal.invariant-loop-at
-invariant-loop-at l =
-    SamplesSoFar l.sheet l.from l.initial.minutes l.initial.values l.minutes l.values l.at l.so_far
+abbrev pub invariant-loop-line : goal.invariant-loop-line
+invariant-loop-line l = SamplesSoFar l.sheet l.from l.minutes l.values l.at l.so_far
 
-abbrev pub decreases-loop-at : goal.decreases-loop-at
-decreases-loop-at l = length l.sheet - l.at
+abbrev pub decreases-loop-line : goal.decreases-loop-line
+decreases-loop-line l = length l.sheet - l.at

@@ -3,4 +3,4 @@ use Rattle.stepping_fused.proofs.Passing.{PassedTo}
 use Rattle.stepping_fused.proofs.passed_until.Given as goal
 
 abbrev pub invariant-loop-i : goal.invariant-loop-i
-invariant-loop-i g l = PassedTo g.C.Change.op l.initial.sums l.minutes l.values l.from l.to l.bound l.i l.sums
+invariant-loop-i g l = PassedTo g.C.Change.op l.initial.sums l.readings.minutes.now l.readings.values.now l.from l.to l.bound l.i l.sums

@@ -1,6 +1,5 @@
--- Every check is made before the first row is stored, so a refusal leaves the rows.
--- Where there is none the sweep stores them all and has counted its passes.
-use Rattle.sweep.proofs.Verdicts.{smooth_accepted, smooth_refused, rows_kept, smooth_given, rows_given}
+-- Every check is made before the first row is stored, so where there is none the lists are accepted.
+use Rattle.sweep.proofs.Verdicts.{smooth_accepted}
 use Rattle.sweep.proofs.smooth_under.Goals as goal
 
 pub smooth_rows-requires : goal.smooth_rows-requires

@@ -16,11 +16,11 @@ returns-then-n-lt10000000000000000 c = search eight_last_stored
 pub put_short-middle-requires : goal.put_short-middle-requires
 put_short-middle-requires c = (omega arith, search before_sixteen_fits)
 
-pub put_eight-last-requires : goal.put_eight-last-requires
-put_eight-last-requires c = (omega arith, search sixteen_begin)
-
 pub put_eight-requires-2 : goal.put_eight-requires-2
-put_eight-requires-2 c = (omega arith, search sixteen_go_on)
+put_eight-requires-2 c = (omega arith, search sixteen_begin)
+
+pub put_eight-requires-3 : goal.put_eight-requires-3
+put_eight-requires-3 c = (omega arith, search sixteen_go_on)
 
 pub returns : goal.returns
 returns c = search sixteen_stored

@@ -1,12 +1,13 @@
--- A number of 64 bits has at most 20 digits, so it fits where so many bytes are left.
-use Rattle.text_decimal.proofs.Room.{any_fits, any_ends, any_stored}
+-- The number fits where any does, or where so many digits do.
+use native.Mathlib.Omega.{arith}
+use Rattle.text_decimal.proofs.Room.{any_fits}
+use Rattle.text_decimal.proofs.put_number.Goals.{then-out-ge-MOST_DIGITS-via-then-out-ge-MOST_DIGITS}
+use Rattle.text_decimal.proofs.put_number.Goals.{then-out-ge-MOST_DIGITS-via-else-out-ge-MOST_DIGITS+then-decimal_size-out}
 use Rattle.text_decimal.proofs.put_number.Goals as goal
 
 pub put_decimal-requires : goal.put_decimal-requires
-put_decimal-requires c = search any_fits
-
-pub returns-then-at-size-clause-value : goal.returns-then-at-size-clause-value
-returns-then-at-size-clause-value c = search any_ends
-
-pub returns-then-at-size-clause-out_after : goal.returns-then-at-size-clause-out_after
-returns-then-at-size-clause-out_after c = search any_stored
+put_decimal-requires c =
+    elim c.then-out-ge-MOST_DIGITS.branch [
+      | then-out-ge-MOST_DIGITS-via-then-out-ge-MOST_DIGITS w ↦ search any_fits
+      | then-out-ge-MOST_DIGITS-via-else-out-ge-MOST_DIGITS+then-decimal_size-out w ↦ omega (arith, w.decimal_size.ensures.value, w.if-decimal_size-out.true)
+    ]

@@ -1,4 +1,4 @@
--- Where the check finds nothing the record's edges lie within the readings.
+-- What the move of the edges asks holds where the check finds nothing.
 use Rattle.turn.proofs.Windows.{turn_accepted}
 use Rattle.turn.proofs.turn.Goals as goal
 

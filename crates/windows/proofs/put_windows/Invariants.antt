@@ -5,4 +5,4 @@ use Rattle.windows.proofs.put_windows.Given as goal
 
 abbrev pub invariant-loop-i : goal.invariant-loop-i
 invariant-loop-i g l =
-    WindowsTo (map g.C.Coordinate.number l.points) l.bandwidths g.C.Coordinate.SHIFT l.cuts l.initial.firsts l.initial.ends l.firsts l.ends l.i
+    WindowsTo (map g.C.Coordinate.number l.marks.points.now) l.marks.bandwidths.now g.C.Coordinate.SHIFT l.cuts l.initial.windows l.windows l.i

@@ -3,5 +3,4 @@ use Rattle.box_sums.proofs.Storing.{RowsTo}
 use Rattle.box_sums.proofs.pairs.put_box_rows.Given as goal
 
 abbrev pub invariant-loop-j : goal.invariant-loop-j
-invariant-loop-j l =
-    RowsTo l.tables.counts.now l.tables.sums.now l.minutes.firsts.now l.minutes.ends.now l.temperatures.firsts.now l.temperatures.ends.now l.boxes l.at l.j
+invariant-loop-j l = RowsTo l.tables.counts.now l.tables.sums.now l.minutes l.temperatures l.boxes l.at l.j

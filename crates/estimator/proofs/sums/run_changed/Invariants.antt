@@ -4,4 +4,4 @@ use Rattle.estimator.proofs.Laws.{Joined}
 use Rattle.estimator.proofs.sums.run_changed.Given as goal
 
 abbrev pub invariant-loop-i : goal.invariant-loop-i
-invariant-loop-i g l = Joined g.C.Change.op l.initial.sums l.minutes l.values l.from l.to l.i l.sums
+invariant-loop-i g l = Joined g.C.Change.op l.initial.sums l.readings.minutes.now l.readings.values.now l.from l.to l.i l.sums

@@ -1,19 +1,10 @@
 -- Each turn stores one half width more behind those before, and hands the start on: marks are in order, so the next one passes every start that
 -- this one has passed.
-use Rattle.neighbours.proofs.Starts.{stores_begin, stored_length, can_search, stores_go_on, stores_end}
+use Rattle.neighbours.proofs.Starts.{stores_go_on, stores_end}
 use Rattle.neighbours.proofs.nearest.put_bandwidths.Goals as goal
-
-pub loop-i-init : goal.loop-i-init
-loop-i-init c = search stores_begin
 
 pub loop-i-preserved : goal.loop-i-preserved
 loop-i-preserved c = search stores_go_on
 
-pub returns : goal.returns
-returns c = search stores_end
-
-pub nearest_start-start-requires : goal.nearest_start-start-requires
-nearest_start-start-requires c = search can_search
-
-pub shape_of-bandwidths : goal.shape_of-bandwidths
-shape_of-bandwidths c = search stored_length
+pub returns-clause-filled : goal.returns-clause-filled
+returns-clause-filled c = search stores_end

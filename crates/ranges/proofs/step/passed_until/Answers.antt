@@ -1,6 +1,6 @@
 -- At each turn the readings from `from` up to i are passed and none of their minutes is at least `bound`; the first that is, or `to`, ends it.
 use native.Mathlib.Omega.{arith}
-use Rattle.ranges.proofs.Passing.{passing_begins, passing_goes_on, passing_stops, passing_ends}
+use Rattle.ranges.proofs.Passing.{passing_begins, passing_goes_on, passing_stops}
 use Rattle.ranges.proofs.step.passed_until.Goals as goal
 
 pub loop-i-init : goal.loop-i-init
@@ -11,6 +11,3 @@ returns-then-bound-minutes g c = search passing_stops
 
 pub loop-i-preserved : goal.loop-i-preserved
 loop-i-preserved g c = search passing_goes_on
-
-pub returns : goal.returns
-returns g c = search passing_ends

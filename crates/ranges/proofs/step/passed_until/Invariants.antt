@@ -3,4 +3,4 @@ use Rattle.ranges.proofs.Passing.{BothPassedTo}
 use Rattle.ranges.proofs.step.passed_until.Given as goal
 
 abbrev pub invariant-loop-i : goal.invariant-loop-i
-invariant-loop-i g l = BothPassedTo g.C.Change.op l.initial.sums l.minutes l.lows l.highs l.from l.to l.bound l.i l.sums
+invariant-loop-i g l = BothPassedTo g.C.Change.op l.initial.sums l.ranges.minutes.now l.ranges.lows.now l.ranges.highs.now l.from l.to l.bound l.i l.sums

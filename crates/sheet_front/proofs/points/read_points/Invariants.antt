@@ -6,8 +6,7 @@ use Rattle.sheet_front.proofs.PointLoop.{PointsSoFar}
 use Rattle.sheet_front.proofs.points.read_points.Given as goal
 
 abbrev pub invariant-loop-line : goal.invariant-loop-line
-invariant-loop-line l =
-    PointsSoFar l.sheet l.from l.initial.points l.initial.bandwidths l.points l.bandwidths l.at l.count
+invariant-loop-line l = PointsSoFar l.sheet l.from l.points l.bandwidths l.at l.count
 
 abbrev pub decreases-loop-line : goal.decreases-loop-line
 decreases-loop-line l = length l.sheet - l.at

@@ -3,4 +3,4 @@ use Rattle.text.proofs.Tables.{TableTo}
 use Rattle.text.proofs.curve.put_curve_lines.Given as goal
 
 abbrev pub invariant-loop-k : goal.invariant-loop-k
-invariant-loop-k l = TableTo l.initial.out l.at l.points l.bandwidths l.rows l.out l.to l.k
+invariant-loop-k l = TableTo l.initial.out l.marks.points.now l.marks.bandwidths.now l.rows l.out l.size l.k

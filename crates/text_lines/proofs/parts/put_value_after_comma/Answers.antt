@@ -1,6 +1,12 @@
 -- The value begins behind the comma.
-use Rattle.text_lines.proofs.Lines.{value_after_comma}
+use Rattle.text_lines.proofs.Lines.{comma_first, behind_comma, after_comma}
 use Rattle.text_lines.proofs.parts.put_value_after_comma.Goals as goal
 
+pub put_byte-begin-requires : goal.put_byte-begin-requires
+put_byte-begin-requires c = search comma_first
+
+pub put_value-requires : goal.put_value-requires
+put_value-requires c = search behind_comma
+
 pub returns : goal.returns
-returns c = search value_after_comma
+returns c = search after_comma

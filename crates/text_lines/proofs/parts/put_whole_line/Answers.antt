@@ -1,10 +1,10 @@
 -- The first number, a comma with each number and value behind it, and a line feed: each fits, and is stored right behind the last.
-use Rattle.text_lines.proofs.Lines.{first_fits, numbers_begin, number_fits, numbers_go_on}
+use Rattle.text_lines.proofs.Lines.{number_first, numbers_begin, number_fits, numbers_go_on}
 use Rattle.text_lines.proofs.Lines.{values_begin, value_fits, values_go_on, end_fits, line_stored}
 use Rattle.text_lines.proofs.parts.put_whole_line.Goals as goal
 
 pub put_decimal-end-requires : goal.put_decimal-end-requires
-put_decimal-end-requires c = search first_fits
+put_decimal-end-requires c = search number_first
 
 pub loop-n-init : goal.loop-n-init
 loop-n-init c = search numbers_begin

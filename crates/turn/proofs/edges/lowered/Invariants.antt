@@ -4,4 +4,4 @@ use Rattle.turn.proofs.Travels.{Falling}
 use Rattle.turn.proofs.edges.lowered.Given as goal
 
 abbrev pub invariant-loop-before : goal.invariant-loop-before
-invariant-loop-before l = Falling l.minutes l.values l.bound l.initial.before l.initial.sums l.before l.sums
+invariant-loop-before l = Falling l.readings.minutes.now l.readings.values.now l.bound l.initial.before l.initial.sums l.before l.sums

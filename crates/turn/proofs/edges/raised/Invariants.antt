@@ -4,4 +4,4 @@ use Rattle.turn.proofs.Travels.{Rising}
 use Rattle.turn.proofs.edges.raised.Given as goal
 
 abbrev pub invariant-loop-at : goal.invariant-loop-at
-invariant-loop-at l = Rising l.minutes l.values l.initial.at l.initial.sums l.at l.sums
+invariant-loop-at l = Rising l.readings.minutes.now l.readings.values.now l.initial.at l.initial.sums l.at l.sums
