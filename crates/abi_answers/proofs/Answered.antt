@@ -2,7 +2,7 @@
 use Rattle.std.specs.Prelude.{Result, Ok, Err}
 use Rattle.meanings.specs.Calls.{answer_of}
 use Rattle.meanings.specs.declared.Refusal.{Refusal}
-use Prim.Native.Nat.{ℕ, ◌*◌, ◌≤◌, zero-le}
+use Prim.Native.Nat.{ℕ, ◌≤◌, zero-le}
 use mathlib.Core.Path.{◌≡◌, refl, sym, ap, ◌∙◌}
 use mathlib.Core.Bool.{Bool, true, false}
 use mathlib.Core.List.{List}
@@ -14,7 +14,7 @@ use lib.ListN.{length}
 use Rattle.meanings.specs.Limits.{max_sheet}
 use Rattle.meanings.specs.Lists.{pick}
 use Rattle.meanings.specs.Reports.{Fault, Answer, given, refused, fault_of}
-use Rattle.meanings.specs.Codes.{detail_unit, code, answered, no_detail}
+use Rattle.meanings.specs.Codes.{code, answered, no_detail}
 use Rattle.abi_answers.specs.Answers.{place_limit, short, sized, stored, replaced}
 use Rattle.abi_answers.proofs.Places.{refusal_place, refusal_place_at_most}
 
@@ -46,23 +46,14 @@ module _ {A : Type 0} {r : Result A Refusal} {a : Answer A} (answer : answer_of 
         ∙ ap code (short_same (fault_of f) (refusal_place_at_most a (fault_of f) told small))
         ∙ ap (answered detail) told
 
-    pub refused_stays : {B : Type 0} (elements : A → List B) (xs : List B) → xs ≡ stored elements a xs
-    refused_stays elements xs = ap (λ (o : Answer A). stored elements o xs) told
-
   -- or as a value
   module _ {b : A} (met : r ≡ Ok b) where
     gave : given b ≡ a
     gave = sym (ap answer_of met) ∙ answer
 
-    pub accepted_code : 0 ≡ answered no_detail a
-    accepted_code = ap (answered no_detail) gave
-
     pub accepted_stored : {B : Type 0} (elements : A → List B) (xs ys : List B) → ys ≡ replaced (elements b) xs → length xs ≡ length (elements b)
         → ys ≡ stored elements a xs
     accepted_stored elements xs ys e l = e ∙ same_length_replaced (elements b) xs l ∙ ap (λ (o : Answer A). stored elements o xs) gave
-
-pub accepted_number : {r : Result ℕ Refusal} {a : Answer ℕ} → answer_of r ≡ a → {n : ℕ} → r ≡ Ok n → detail_unit * n ≡ answered (λ (k : ℕ). k) a
-accepted_number answer met = ap (answered (λ (k : ℕ). k)) (gave answer met)
 
 -- a list of another length is refused first, and stays
 abbrev pub uneven : Fault
@@ -86,10 +77,6 @@ module _ {A B : Type 0} (n : ℕ) (xs : List B) (a : Answer A) (other : length x
 pub right_size : {A B : Type 0} (n : ℕ) (xs : List B) → length xs ≡ n → (a : Answer A) → a ≡ sized n xs a
 unfolding sized
 right_size n xs right a = rw (eq-eqb (length xs) n right)
-
-pub sized_answer : {A : Type 0} (r : Result A Refusal) (a : Answer A) → answer_of r ≡ a → {B : Type 0} (n : ℕ) (xs : List B) → length xs ≡ n
-    → answer_of r ≡ sized n xs a
-sized_answer r a answer n xs right = answer ∙ right_size n xs right a
 
 -- two lists of set length: the second is looked at where the first is right
 module _ {A B C : Type 0} (n : ℕ) (xs : List B) (right : length xs ≡ n) (m : ℕ) (ys : List C) (a : Answer A) where

@@ -1,5 +1,6 @@
 // Rows, records and refusals as plain numbers, for the calls that programs in C and Rust make. A list of another length than what is to be stored in
-// it stays as it was.
+// it stays as it was. The calls answer such a list with 8, the number that C reads, and meet the answer of the call below in one match each. For a
+// function of both arms each call would first make its answer an array and a detail, as long as the arm that stores it.
 #![tactic(auto)]
 
 ghost use Rattle.std.specs.Prelude.{◌≡◌};

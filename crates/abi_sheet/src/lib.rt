@@ -13,6 +13,7 @@ use sheet::read_sheet;
 
 // The reader. counts: two numbers, the kept readings and the marks.
 #[unsafe(no_mangle)]
+#[tactic(auto, unfolding(abi_answers::specs::Answers::sized, abi_answers::specs::Answers::replaced), using(abi_answers::proofs::Answered::refused_code, crate::proofs::Places::read_place, crate::proofs::Places::counts_place))]
 pub extern "C" fn tankcurve_read(
     sheet: &[u8],
     minutes: &mut [u16],

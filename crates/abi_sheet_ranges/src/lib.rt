@@ -26,7 +26,7 @@ pub(crate) fn kind_number(kind: Kind) -> u64
 
 // The reader. counts: three numbers, the kept readings, the marks and the kind.
 #[unsafe(no_mangle)]
-#[tactic(auto, using(crate::proofs::Counts::other_counts_code, crate::proofs::Counts::other_counts_stay, crate::proofs::Counts::list_stays))]
+#[tactic(auto, unfolding(abi_answers::specs::Answers::sized, abi_answers::specs::Answers::replaced), using(abi_answers::proofs::Answered::refused_code, crate::proofs::Places::ranges_place, crate::proofs::Places::counts_place))]
 pub extern "C" fn tankcurve_read_ranges(
     sheet: &[u8],
     minutes: &mut [u16],

@@ -14,6 +14,7 @@ use text_sheet::curve_text;
 
 // The curve of a sheet as bytes: out has MAX_OUTPUT bytes, and the detail is how many are written. A refused sheet's report is the answer.
 #[unsafe(no_mangle)]
+#[tactic(auto, using(abi_answers::proofs::Answered::refused_code, crate::proofs::Places::write_place, crate::proofs::Places::text_small))]
 pub extern "C" fn tankcurve_text(sheet: &[u8], out: &mut [u8]) -> u64
     ensures value { result ≡ answered (λ n. n) (write_either sheet.now out.old) }
     ensures out_after { out.new ≡ write_either_buffer sheet.now out.old }
@@ -26,6 +27,7 @@ pub extern "C" fn tankcurve_text(sheet: &[u8], out: &mut [u8]) -> u64
 
 // The text of a refusal with this number and place: out has MAX_OUTPUT bytes, and the detail is how many are written.
 #[unsafe(no_mangle)]
+#[tactic(auto, using(abi_answers::proofs::Answered::refused_code, crate::proofs::Places::refusal_text_place, crate::proofs::Places::refusal_size))]
 pub extern "C" fn tankcurve_refusal_text(number: u64, place: u64, out: &mut [u8]) -> u64
     ensures value { result ≡ answered (λ n. n) (write_refusal_text number place out.old) }
     ensures out_after { out.new ≡ refusal_buffer number place out.old }

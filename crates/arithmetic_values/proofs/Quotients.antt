@@ -14,9 +14,6 @@ module _ (s w : ℕ) (n : w ≡ 0 → ⊥) where
   positive : 0 < w
   positive = omega arith
 
-  pub rest_at_most_weight : s % w ≤ w
-  rest_at_most_weight = omega (arith, mod-lt s positive)
-
   -- one more than the quotient fits wherever the rest is above 0
   next_fits : s < 2 ^ 64 → w - s % w ≤ s % w → s / w + 1 < 2 ^ 64
   next_fits f l = omega (arith, div-add-mod' s w, mod-lt s positive, mul-le-mul_left (s / w) positive)

@@ -8,7 +8,7 @@ ghost use Rattle.arithmetic_values.specs.Positions.{FirstAtLeast};
 use meanings::Mark;
 
 // A sum divided by its weight to the nearest whole number, a half to the even neighbour; 65,536 for missing if the weight is 0, which is
-// the number of a missing value in a row that C reads; no three calls have sum and weight, so they stay two numbers.
+// the number of a missing value in a row that C reads. Sum and weight are two numbers, as they stand in that row.
 // The rest is held against what it lacks of the weight, so that nothing is doubled.
 #[tactic(auto, using(crate::proofs::Quotients::no_weight, crate::proofs::Quotients::keeps, crate::proofs::Quotients::raises, crate::proofs::Quotients::makes_even))]
 pub fn value(sum: u64, weight: u64) -> u64

@@ -23,7 +23,8 @@ struct Weighed {
     sum: u64,
 }
 
-// One pass over a run's readings, with one read of the lent table for each.
+// One pass over a run's readings, with one read of the lent table for each. Beside add_run of `decisive`: one loop over both weights would be public, and ask
+// that no sum overflows, which no public function may ask.
 fn weigh(run: Readings, weights: &[u64], point: u16) -> Weighed
     requires { ShortRun run.minutes.now run.values.now weights.now }
     ensures { WeighedOver run.entry.minutes.now run.entry.values.now point result }

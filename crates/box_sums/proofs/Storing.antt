@@ -4,20 +4,20 @@ use Rattle.std.proofs.Common.{refl, ap, ◌∙◌, mul_comm, add-one, arith, len
 use Rattle.std.proofs.lemmas.List.{length-map, get_or-map, length-take-le}
 use Rattle.std.specs.List.{All}
 use Rattle.std.proofs.lemmas.Slice.{take-put_mid}
+use mir.Val.{Fits}
+use mir.Syntax.{w64}
 use borrow.Rule.Slice.PartMut.{put_mid}
 use Rattle.meanings_boxes.specs.declared.Window.{Window}
-use Rattle.meanings_boxes.specs.Boxes.{joined}
 use Rattle.meanings_boxes.specs.Lent.{firsts, ends}
-use Rattle.box_sums.specs.Pairs.{four_terms, pair_places, table_row, table_boxes, Corners, Strips, Fitting, BoxesTried}
-use Rattle.box_sums.specs.declared.Tables.{Tables}
-use Rattle.box_sums.specs.Rows.{WithinStrips, RowReady, BoxesFit}
+use Rattle.box_sums.specs.Pairs.{four_terms, pair_places, table_row, table_boxes, Strips, BoxesTried}
+use Rattle.box_sums.specs.Rows.{WithinStrips, RowReady, RowsReady}
 
 -- the four numbers of a box: the first two added, then each of the others taken away
-pub four_terms_are : (xs : List ℕ) (a b c d : ℕ) → ((i : ℕ) → get_or xs i 0 < 2 ^ 64)
+pub four_terms_are : (xs : List ℕ) (a b c d : ℕ) → ((i : ℕ) → Fits w64 (get_or xs i 0))
     → (((get_or xs (66 * b + d) 0 + get_or xs (66 * a + c) 0) % 2 ^ 64 + (2 ^ 64 - get_or xs (66 * a + d) 0)) % 2 ^ 64
     + (2 ^ 64 - get_or xs (66 * b + c) 0)) % 2 ^ 64 ≡ four_terms xs a b c d
 unfolding four_terms
-four_terms_are xs a b c d f = rw (mod_small (f (66 * a + d)), mod_small (f (66 * b + c))) refl
+four_terms_are xs a b c d f = rw (mod_small (f (66 * a + d)).fits, mod_small (f (66 * b + c)).fits) refl
   where
     mod_small : {m : ℕ} → m < 2 ^ 64 → m % 2 ^ 64 ≡ m
     mod_small l = omega (arith, l)
@@ -68,7 +68,7 @@ row_goes_on xs ys a b os bs k u v w m l s e f =
     numbers_go_on xs ys a b (firsts os) (ends os) bs k u v l s (rw (first_at os k w m, end_at os k w m) e) (rw (first_at os k w m, end_at os k w m) f)
 
 -- windows of strips, either way round
-pub all_strips : (ws : List Window) → All WithinStrips ws → Strips (firsts ws) (ends ws) (length ws)
+all_strips : (ws : List Window) → All WithinStrips ws → Strips (firsts ws) (ends ws) (length ws)
 all_strips ws a = record {
   firsts = omega (arith, length-map ws (λ (v : Window). v.first));
   ends = omega (arith, length-map ws (λ (v : Window). v.end));
@@ -78,13 +78,6 @@ all_strips ws a = record {
 
 pub strips_all : (ws : List Window) → Strips (firsts ws) (ends ws) (length ws) → All WithinStrips ws
 strips_all ws s k w l = (rw (first_at ws k w l) at (s.first k l), rw (end_at ws k w l) at (s.end k l))
-
--- what a pair's four numbers and a window's row ask
-pub corners_at : (t : Tables) (w : Window) (os : List Window) (bs xs : List ℕ) (k : ℕ) (o : Window) → RowReady t w os bs → length xs ≡ 4356 → k < length os
-    → Corners xs w.first w.end (get_or os k o).first (get_or os k o).end
-corners_at t w os bs xs k o r e l =
-    let s = strips_all os r.others k o l in
-    record { room = e; first = r.first; end = r.end; low = s.0; high = s.1 }
 
 pub row_ends : (xs ys : List ℕ) (a b : ℕ) (ls hs bs : List ℕ) (n k : ℕ) → length bs ≡ 2 * n → k ≤ n → n ≤ k → take (2 * k) bs ≡ table_row xs ys a b ls hs k
     → bs ≡ table_row xs ys a b ls hs n
@@ -110,14 +103,6 @@ boxes_none xs ys fs es ls hs m = refl
 pub record RowsTo (xs ys : List ℕ) (ws os : List Window) (bs : List ℕ) (at j : ℕ) : Type 0 where
   pub reached : at ≡ 2 * (length os * j)
   pub stored : take at bs ≡ table_boxes xs ys (firsts ws) (ends ws) j (firsts os) (ends os) (length os)
-
--- the places of all pairs
-scaled : (n m k : ℕ) → m ≤ k → n * m ≤ n * k
-scaled zero m k l = omega arith
-scaled (suc n) m k l = let h = scaled n m k l in omega (arith, h)
-
-few_places : (n m : ℕ) → n ≤ 32 → m ≤ 32 → 2 * n * m ≤ 2048
-few_places n m l u = let h = scaled n m 32 u in let e : 2 * n * m ≡ 2 * (n * m) = omega arith in rw e (omega arith)
 
 -- what a row of n takes
 rows_scaled : (m j n : ℕ) → j < n → m * j + m ≤ m * n
@@ -163,22 +148,34 @@ module _ (xs ys : List ℕ) (ws os : List Window) (bs : List ℕ) (at j : ℕ) (
       let s : length bs ≤ at = rw (r.reached, c, e, q) (omega arith) in
       sym (take_all at bs s) ∙ (rw q r.stored)
 
-pub row_ready : (t : Tables) (ws os : List Window) (bs₀ bs : List ℕ) (at j : ℕ) (w : Window) → BoxesFit t ws os bs₀
-    → RowsTo t.counts.now t.sums.now ws os bs at j → length bs ≡ length bs₀ → j < length ws
-    → RowReady t (get_or ws j w) os (take (at + 2 * length os - at) (drop at bs))
-row_ready t ws os bs₀ bs at j w f r e l =
-    let s = strips_all ws f.strips j w l in
-    let q = row_there t.counts.now t.sums.now ws os bs at j r (e ∙ f.room) l in
+pub row_ready : (xs ys : List ℕ) (ws os : List Window) (bs₀ bs : List ℕ) (at j : ℕ) (w : Window) → RowsReady ws os bs₀
+    → RowsTo xs ys ws os bs at j → length bs ≡ length bs₀ → j < length ws
+    → RowReady (get_or ws j w) os (take (at + 2 * length os - at) (drop at bs))
+row_ready xs ys ws os bs₀ bs at j w f r e l =
+    let q = row_there xs ys ws os bs at j r (e ∙ f.room) l in
     record {
-      counts = f.counts;
-      sums = f.sums;
-      first = s.0;
-      end = s.1;
-      few = f.other_few;
+      strips = f.strips j w l;
       others = f.others;
       room = length-take-le (at + 2 * length os - at) (drop at bs) (omega (arith, length-drop at bs)) ∙ omega arith;
     }
 
-pub boxes_put : (xs ys fs es : List ℕ) (n : ℕ) (ls hs : List ℕ) (m : ℕ) (bs bs' : List ℕ) → Fitting xs ys fs es n ls hs m bs
-    → bs' ≡ table_boxes xs ys fs es n ls hs m → BoxesTried xs ys fs es n ls hs m bs bs'
-boxes_put xs ys fs es n ls hs m bs bs' f e = record { put = λ g. e; left = λ g. absurd (g f) }
+-- The call: what it has tested, and then from both tables as arrays.
+pub rows_ready : {ws os : List Window} {bs : List ℕ} → length ws ≤ 32 → length os ≤ 32 → length bs ≡ 2 * length ws * length os
+    → All WithinStrips ws → All WithinStrips os → RowsReady ws os bs
+rows_ready l m e a b = record { few = l; other_few = m; strips = a; others = b; room = e }
+
+pub boxes_put : {xs ys xs' ys' : List ℕ} {ws os : List Window} {bs bs' : List ℕ} → length xs ≡ 4356 → xs' ≡ xs → length ys ≡ 4356 → ys' ≡ ys
+    → RowsReady ws os bs → bs' ≡ table_boxes xs' ys' (firsts ws) (ends ws) (length ws) (firsts os) (ends os) (length os)
+    → BoxesTried xs ys (firsts ws) (ends ws) (length ws) (firsts os) (ends os) (length os) bs bs'
+boxes_put {ws = ws} {os} l d m e r p = record {
+  put = λ g. rw (← d, ← e) p;
+  left = λ g. absurd (g (record {
+    counts = l;
+    sums = m;
+    few = r.few;
+    other_few = r.other_few;
+    room = r.room;
+    strips = all_strips ws r.strips;
+    others = all_strips os r.others;
+  }));
+}

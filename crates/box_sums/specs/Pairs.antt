@@ -11,14 +11,6 @@ number_at xs a b = slice_index xs (66 * a + b)
 unfoldable pub four_terms : List ℕ → ℕ → ℕ → ℕ → ℕ → ℕ
 four_terms xs a b c d = minus 64 (minus 64 (plus 64 (number_at xs b d) (number_at xs a c)) (number_at xs a d)) (number_at xs b c)
 
--- a table, and strips of both directions
-pub record Corners (xs : List ℕ) (a b c d : ℕ) : Type 0 where
-  pub room : length xs ≡ 4356
-  pub first : a ≤ 65
-  pub end : b ≤ 65
-  pub low : c ≤ 65
-  pub high : d ≤ 65
-
 -- count and value sum of a pair of windows
 abbrev pub pair_places : List ℕ → List ℕ → ℕ → ℕ → List ℕ → List ℕ → ℕ → List ℕ
 pair_places xs ys a b ls hs k = four_terms xs a b (slice_index ls k) (slice_index hs k) ∷ four_terms ys a b (slice_index ls k) (slice_index hs k) ∷ []

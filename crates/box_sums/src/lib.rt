@@ -18,6 +18,13 @@ pub struct Tables<'a> {
     pub sums: &'a [u64],
 }
 
+// Both as arrays, so that their lengths are in the types.
+#[derive(Clone, Copy)]
+pub(crate) struct FullTables<'a> {
+    pub counts: &'a [u64; 4356],
+    pub sums: &'a [u64; 4356],
+}
+
 // Whether each window begins and ends at strips: 0 to 65.
 pub(crate) fn strips_within(windows: &[Window]) -> bool
     ensures { IsTrue result ↔ All WithinStrips windows.now }
@@ -29,18 +36,19 @@ pub(crate) fn strips_within(windows: &[Window]) -> bool
 
 // Fills the list of boxes, two numbers for each minute window with each temperature window, by tables of 66 × 66 numbers; a list that doesn't fit stays
 // as it is.
-#[tactic(auto, using(crate::proofs::Storing::boxes_put, crate::proofs::Storing::all_strips, crate::proofs::Storing::strips_all))]
+#[tactic(auto, using(crate::proofs::Storing::strips_all))]
 pub fn put_boxes(tables: Tables, minutes: &[Window], temperatures: &[Window], boxes: &mut [u64])
     ensures { BoxesTried tables.entry.counts.now tables.entry.sums.now (firsts minutes.now) (ends minutes.now) (length minutes.now) (firsts temperatures.now) (ends temperatures.now) (length temperatures.now) boxes.old boxes.new }
 {
-    if tables.counts.len() == 4356
-        && tables.sums.len() == 4356
+    if let Some(counts) = tables.counts.as_array()
+        && let Some(sums) = tables.sums.as_array()
         && minutes.len() <= BOX_LIMITS.points
         && temperatures.len() <= BOX_LIMITS.points
         && boxes.len() == 2 * minutes.len() * temperatures.len()
         && strips_within(minutes)
         && strips_within(temperatures)
     {
+        let tables = FullTables { counts, sums };
         pairs::put_box_rows(tables, minutes, temperatures, boxes)
     }
 }

@@ -1,16 +1,17 @@
 // Boxes by tables of cumulative sums, four numbers each.
 ghost use Rattle.std.specs.Prelude.{◌≡◌};
-ghost use Rattle.box_sums.specs.Pairs.{four_terms, Corners};
-ghost use Rattle.box_sums.specs.Rows.{RowReady, BoxesFit, row_of, boxes_of};
+ghost use Rattle.box_sums.specs.Pairs.{four_terms};
+ghost use Rattle.box_sums.specs.Rows.{WithinStrips, RowReady, RowsReady, row_of, boxes_of};
 
-use crate::Tables;
+use crate::FullTables;
 use meanings_boxes::Window;
 
 // The cells of a minute window's strips and a temperature window's, added up: what lies below both ends, less what lies below one beginning, and what
-// lies below both beginnings added once again. Modulo 2^64, which is exact wherever the sum fits.
-#[tactic(auto, using(crate::proofs::Storing::four_terms_are))]
-pub(crate) fn box_sum(table: &[u64], window: Window, other: Window) -> u64
-    requires { Corners table.now window.first window.end other.first other.end }
+// lies below both beginnings added once again. Modulo 2^64, which is exact wherever the sum fits. The table stays flat, 66 numbers a row:
+// by rows of arrays each clause here would name rows beside the flat numbers that it is about.
+pub(crate) fn box_sum(table: &[u64; 4356], window: Window, other: Window) -> u64
+    requires first { WithinStrips window }
+    requires second { WithinStrips other }
     ensures { result ≡ four_terms table.now window.first window.end other.first other.end }
 {
     table[66 * window.end + other.end]
@@ -20,9 +21,9 @@ pub(crate) fn box_sum(table: &[u64], window: Window, other: Window) -> u64
 }
 
 // Count and value sum of one window with each of the other direction. The C interface has the row as a flat list, two numbers a pair.
-#[tactic(auto, using(crate::proofs::Storing::corners_at, crate::proofs::Storing::row_none, crate::proofs::Storing::row_goes_on, crate::proofs::Storing::row_ends))]
-pub(crate) fn put_box_row(tables: Tables, window: Window, others: &[Window], row: &mut [u64])
-    requires { RowReady tables window others.now row.old }
+#[tactic(auto, using(crate::proofs::Storing::row_none, crate::proofs::Storing::row_goes_on, crate::proofs::Storing::row_ends))]
+pub(crate) fn put_box_row(tables: FullTables, window: Window, others: &[Window], row: &mut [u64])
+    requires { RowReady window others.now row.old }
     ensures { row.new ≡ row_of tables.entry window others.now }
 {
     for k in 0..others.len() {
@@ -37,12 +38,12 @@ pub(crate) fn put_box_row(tables: Tables, window: Window, others: &[Window], row
 // The same of every minute window, slowest.
 #[tactic(auto, using(crate::proofs::Storing::rows_begin, crate::proofs::Storing::rows_go_on, crate::proofs::Storing::rows_end, crate::proofs::Storing::row_there))]
 pub(crate) fn put_box_rows(
-    tables: Tables,
+    tables: FullTables,
     minutes: &[Window],
     temperatures: &[Window],
     boxes: &mut [u64],
 )
-    requires { BoxesFit tables minutes.now temperatures.now boxes.old }
+    requires { RowsReady minutes.now temperatures.now boxes.old }
     ensures { boxes.new ≡ boxes_of tables.entry minutes.now temperatures.now }
 {
     let width = 2 * temperatures.len();

@@ -17,6 +17,7 @@ pub struct Cuts<'a> {
 }
 
 // Whether lists of such lengths can be filled: readings alike in number and at most 1,024, at most 64 cuts a direction, and 4,225 cells in each list.
+// Of both lists the lengths alone are looked at: Sizes of `meanings_boxes` is of other lists.
 pub fn fillable(readings: BoxReadings, cuts: Cuts, counts: usize, sums: usize) -> bool
     ensures { FitsTested (length readings.entry.minutes.now) (length readings.entry.temperatures.now) (length readings.entry.values.now) (length cuts.entry.minutes.now) (length cuts.entry.temperatures.now) counts sums result }
 {

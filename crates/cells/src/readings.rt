@@ -2,6 +2,7 @@
 ghost use Rattle.cells.specs.Cells.{Searchable, CellFound, Clean, CellsFilled};
 
 use crate::Cuts;
+use cuts::Coordinate;
 use meanings_boxes::{BoxReadings, STRIPS};
 use strips::strip;
 
@@ -10,8 +11,11 @@ pub(crate) fn cell_of(cuts: Cuts, minute: u16, temperature: u8) -> usize
     requires { Searchable cuts.minutes.now cuts.temperatures.now }
     ensures { CellFound cuts.entry.minutes.now cuts.entry.temperatures.now minute temperature result }
 {
-    let first = strip(cuts.minutes, u64::from(minute) + 65537);
-    let second = strip(cuts.temperatures, u64::from(temperature) + 257);
+    let first = strip(cuts.minutes, u64::from(minute.number() + u16::SHIFT));
+    let second = strip(
+        cuts.temperatures,
+        u64::from(temperature.number() + u8::SHIFT),
+    );
     STRIPS * first + second
 }
 

@@ -1,20 +1,14 @@
 -- Whether a list is so many numbers a mark long, by the quotient and the remainder that the code looks at.
-use Prim.Native.Nat.{ℕ, ◌+◌, ◌*◌, ◌/◌, ◌%◌, zero-le}
+use Prim.Native.Nat.{ℕ, ◌+◌, ◌*◌, ◌/◌, ◌%◌}
 use mathlib.Core.Path.{◌≡◌, sym, ap, ◌∙◌}
 use mathlib.Core.Bool.{true, false}
-use native.Mathlib.Nat.{mul_comm, zero-mul, div-add-mod'}
+use native.Mathlib.Nat.{mul_comm, div-add-mod'}
 use native.Mathlib.Omega.{arith}
-use borrow.Author.Tests.{le-ltb}
-use lib.Arith.{digits_div, digits_mod}
-use lib.Dec.{ltb}
+use lib.Arith.{digits_mod}
 use Rattle.meanings.specs.Reports.{differ}
 use Rattle.meanings.proofs.Checks.{differ_true, differ_same}
 
 module _ (rows width n : ℕ) where
-  -- a row of no numbers: the list is empty
-  pub rows_of_none : width ≡ 0 → ltb 0 rows ≡ differ rows (width * n)
-  rows_of_none e = rw (e, zero-mul n, le-ltb rows 0 zero-le)
-
   pub rows_fit : rows % width ≡ 0 → rows / width ≡ n → differ rows (width * n) ≡ false
   rows_fit r q = differ_same rows (width * n) (sym (div-add-mod' rows width) ∙ rw (r, q) (omega (arith, mul_comm n width)))
 
@@ -25,7 +19,3 @@ module _ (rows width n : ℕ) where
     pub rows_remainder : (rows % width ≡ 0 → ⊥) → differ rows (width * n) ≡ true
     rows_remainder r =
         differ_true rows (width * n) (λ e. r (ap (λ (x : ℕ). x % width) (as_digits e) ∙ digits_mod n (omega arith)))
-
-    pub rows_other : (rows / width ≡ n → ⊥) → differ rows (width * n) ≡ true
-    rows_other q =
-        differ_true rows (width * n) (λ e. q (ap (λ (x : ℕ). x / width) (as_digits e) ∙ digits_div n (omega arith)))

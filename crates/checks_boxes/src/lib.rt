@@ -82,7 +82,8 @@ pub fn box_size_fault(asked: Question, sizes: Sizes) -> Result<(), Refusal>
     Ok(())
 }
 
-// The lowest position whose byte is below the one before. Beside first_decrease of `checks`: one for both types would say in its clause how a type's numbers are read.
+// The lowest position whose byte is below the one before. Beside first_decrease of `checks`: one for both types would say in its clause how a type's
+// numbers are read, and every check of minutes with it. By `for`, as there, for speed.
 pub fn first_byte_decrease(xs: &[u8]) -> Option<usize>
     ensures { result ≡ lowest (decreases xs.now) (length xs.now) }
 {

@@ -10,7 +10,7 @@ ghost use Rattle.meanings.specs.Reports.{curve_size_checks, order_checks};
 use checks::{first_decrease, outside};
 use meanings::{Limits, Marks, Readings, Refusal, Report};
 
-// The lowest position whose half width is 0 or over the greatest one.
+// The lowest position whose half width is 0 or over the greatest one. By `for`, as first_decrease of `checks`, for speed.
 pub fn first_out_of_range(bandwidths: &[u32], most: u32) -> Option<usize>
     ensures { result ≡ lowest (outside_at most bandwidths.now) (length bandwidths.now) }
 {

@@ -28,7 +28,8 @@ pub fn advance_fault(
     bandwidth_fault(bandwidth)
 }
 
-// What a turn is refused for, of a record with these edges: 8, 6, 4, 11, 9. It differs from the step in its first line alone, which is all of it but two calls.
+// What a turn is refused for, of a record with these edges: 8, 6, 4, 11, 9. A function of the two calls that it shares with the step would take as many
+// lines as it saves, and a function of all three would take the first as a parameter.
 pub fn turn_fault(
     readings: Readings,
     running: &RunningSums,

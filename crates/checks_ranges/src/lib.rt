@@ -23,7 +23,7 @@ pub fn uneven_more(ranges: Ranges, points: &[u16], rows: usize) -> bool
     uneven_rows(rows, RANGE_ROW_WIDTH, points.len())
 }
 
-// The lowest position whose lowest value is above its highest.
+// The lowest position whose lowest value is above its highest. By `for`, as first_decrease of `checks`, for speed.
 pub(crate) fn first_crossed(ranges: Ranges) -> Option<usize>
     requires { length ranges.lows.now ≡ length ranges.highs.now }
     ensures { result ≡ lowest (crossed ranges.entry.lows.now ranges.entry.highs.now) (length ranges.entry.lows.now) }

@@ -10,7 +10,7 @@ use checks::{edge_below, uneven_rows};
 use checks_curve::{curve_size_fault, first_out_of_range, order_fault};
 use meanings::{Limits, MAX_BANDWIDTH, Mark, Marks, ROW_WIDTH, Readings, Refusal, Report};
 
-// The lowest position at which an edge lies below the one before.
+// The lowest position at which an edge lies below the one before. By `for`, as first_decrease of `checks`, for speed.
 pub(crate) fn first_edge_decrease(marks: Marks) -> Option<usize>
     requires { length marks.points.now ≡ length marks.bandwidths.now }
     ensures { result ≡ lowest (edge_decreases marks.entry.points.now marks.entry.bandwidths.now) (length marks.entry.points.now) }

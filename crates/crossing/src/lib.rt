@@ -6,20 +6,15 @@ ghost use Rattle.meanings.specs.Calls.{answer_of};
 ghost use Rattle.meanings.specs.Limits.{full as full_limits};
 ghost use Rattle.meanings.proofs.SmoothSteps.{CurveAccepted};
 ghost use Rattle.meanings_limit.specs.Crossing.{first_at_most};
-ghost use Rattle.estimator.specs.Rows.{Of16Bits};
 ghost use Rattle.crossing.specs.Search.{Searched};
 
 use checks::full;
 use checks_smooth::curve_fault;
+use estimator::of_16_bits;
 use meanings::{Mark, Marks, Readings, Refusal, RunningSums};
 use meanings_limit::Located;
 use stepping::step_to;
 use threshold::at_or_below;
-
-// What a list's type says, which is not known of a list in a struct: its numbers fit 16 bits.
-fn of_16_bits(numbers: &[u16])
-    ensures { Of16Bits numbers.now }
-{}
 
 // The search in accepted lists.
 fn search(readings: Readings, marks: Marks, limit: u16) -> Located

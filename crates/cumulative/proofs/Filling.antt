@@ -8,12 +8,12 @@ use native.Mathlib.Nat.{zero-add}
 use native.Mathlib.Omega.{arith}
 use mir.Val.{Fits}
 use mir.Syntax.{w32, w64}
-use lib.ListN.{length, get_or, set, take, drop, replicate, length-set, length-append, length-drop, length-replicate, get_or-append}
+use lib.ListN.{length, get_or, set, take, drop, replicate, length-set, length-replicate, get_or-append}
 use Rattle.std.proofs.lemmas.List.{length-take-le, get_or-replicate}
 use lib.Seq.{get_or-set_same, get_or-set_other}
 use Rattle.meanings.specs.Lists.{total}
 use Rattle.meanings.proofs.Totals.{total_zero}
-use Rattle.cumulative.specs.Tables.{row_sum, cumulative, Sized, RowsTo, RowBefore}
+use Rattle.cumulative.specs.Tables.{row_sum, cumulative, RowsTo, Accumulated, Tried}
 
 -- one cell more, and one row more
 row_more : (cs : List ℕ) (a b : ℕ) → row_sum cs a (b + 1) ≡ row_sum cs a b + get_or cs (65 * a + b) 0
@@ -51,45 +51,39 @@ pub rows_most : (cs : List ℕ) (a b : ℕ) → ((i : ℕ) → Fits w32 (get_or 
 unfolding cumulative
 rows_most cs a b f l = total_most (λ x. row_sum cs x b) 279172874240 0 a (λ x. row_most cs x b f l)
 
--- a cell of 32 bits has 64
-
 -- The first row.
-pub first_numbers : (cs ts : List ℕ) → Sized cs ts → 66 ≡ length (take 66 ts)
-first_numbers cs ts s = sym (length-take-le 66 ts (omega (arith, s.room)))
-
-pub first_row : {cs ts us : List ℕ} → Sized cs ts → us ≡ replicate (length (take 66 ts)) 0 → RowsTo cs (us ++ drop 66 ts) 0
-first_row {cs} {ts} {us} s e = record {
-  sized = record { cells = s.cells; room = length-append us (drop 66 ts) ∙ omega (arith, long, length-drop 66 ts, s.room) };
-  few = omega arith;
+pub first_row : (ts : List ℕ) {cs us : List ℕ} → length ts ≡ 4356 → us ≡ replicate (length (take 66 ts)) 0 → RowsTo cs (us ++ drop 66 ts) 0
+first_row ts {cs} {us} l e = record {
   holds = λ x y m n. let p : 66 * x + y ≡ y = omega arith in
       let q : x ≡ 0 = omega arith in
       rw (p, q) (get_or-append us (drop 66 ts) 0 y (omega (arith, long)) ∙ zero_at y n ∙ sym (rows_none cs y));
 }
   where
+    numbers : length (take 66 ts) ≡ 66
+    numbers = length-take-le 66 ts (omega (arith, l))
+
     long : length us ≡ 66
-    long = ap length e ∙ length-replicate (length (take 66 ts)) 0 ∙ sym (first_numbers cs ts s)
+    long = ap length e ∙ length-replicate (length (take 66 ts)) 0 ∙ numbers
 
     zero_at : (y : ℕ) → y ≤ 65 → get_or us y 0 ≡ 0
-    zero_at y l = rw e (get_or-replicate (length (take 66 ts)) y 0 0 (omega (arith, first_numbers cs ts s)))
+    zero_at y m = rw e (get_or-replicate (length (take 66 ts)) y 0 0 (omega (arith, numbers)))
 
 -- A row: b of its numbers are stored behind the first one, and row is the sum of its first b cells.
 pub record RowPart (cs ts : List ℕ) (a b row : ℕ) : Type 0 where
-  pub sized : Sized cs ts
+  pub room : length ts ≡ 4356
   pub more : a < 65
-  pub few : b ≤ 65
   pub before : (x y : ℕ) → x ≤ a → y ≤ 65 → get_or ts (66 * x + y) 0 ≡ cumulative cs x y
   pub here : (y : ℕ) → y ≤ b → get_or ts (66 * (a + 1) + y) 0 ≡ cumulative cs (a + 1) y
   pub sum : row ≡ row_sum cs a b
 
-pub row_begins : (cs ts : List ℕ) (a : ℕ) → RowBefore cs ts a → RowPart cs (set ts (66 * (a + 1)) 0) a 0 0
-row_begins cs ts a r = record {
-  sized = record { cells = r.rows.sized.cells; room = length-set ts (66 * (a + 1)) 0 ∙ r.rows.sized.room };
-  more = r.more;
-  few = omega arith;
-  before = λ x y l m. get_or-set_other ts (66 * (a + 1)) (66 * x + y) 0 0 (λ e. omega arith) ∙ r.rows.holds x y l m;
+pub row_begins : (cs ts : List ℕ) (a : ℕ) → RowsTo cs ts a → a < 65 → length ts ≡ 4356 → RowPart cs (set ts (66 * (a + 1)) 0) a 0 0
+row_begins cs ts a r m s = record {
+  room = length-set ts (66 * (a + 1)) 0 ∙ s;
+  more = m;
+  before = λ x y l n. get_or-set_other ts (66 * (a + 1)) (66 * x + y) 0 0 (λ e. omega arith) ∙ r.holds x y l n;
   here = λ y l. let e : y ≡ 0 = omega arith in
       let q : 66 * (a + 1) + y ≡ 66 * (a + 1) = omega arith in
-      rw (q, e) (get_or-set_same ts (66 * (a + 1)) 0 0 (omega (arith, r.more, r.rows.sized.room)) ∙ sym (rows_empty cs (a + 1)));
+      rw (q, e) (get_or-set_same ts (66 * (a + 1)) 0 0 (omega (arith, m, s)) ∙ sym (rows_empty cs (a + 1)));
   sum = sym (row_none cs a);
 }
 
@@ -101,9 +95,8 @@ module _ {cs ts : List ℕ} {a b row : ℕ} (r : RowPart cs ts a b row) where
       let p = 66 * (a + 1) + b + 1 in
       let v = get_or ts (66 * a + b + 1) 0 + (row + get_or cs (65 * a + b) 0) in
       record {
-        sized = record { cells = r.sized.cells; room = length-set ts p v ∙ r.sized.room };
+        room = length-set ts p v ∙ r.room;
         more = r.more;
-        few = omega arith;
         before = λ x y m n. get_or-set_other ts p (66 * x + y) v 0 (λ e. omega arith) ∙ r.before x y m n;
         here = λ y m. by y m (ℕ_discrete y (b + 1));
         sum = ap (λ n. n + get_or cs (65 * a + b) 0) r.sum ∙ sym (row_more cs a b);
@@ -113,7 +106,7 @@ module _ {cs ts : List ℕ} {a b row : ℕ} (r : RowPart cs ts a b row) where
       added =
           let q : 66 * a + (b + 1) ≡ 66 * a + b + 1 = omega arith in
           let u : get_or ts (66 * a + b + 1) 0 ≡ cumulative cs a (b + 1) = rw (← q) (r.before a (b + 1) (omega arith) (omega arith)) in
-          let s = r.sum in
+          let o = r.sum in
           let t = row_more cs a b in
           let w = rows_more cs a (b + 1) in
           omega arith
@@ -123,7 +116,7 @@ module _ {cs ts : List ℕ} {a b row : ℕ} (r : RowPart cs ts a b row) where
           ≡ cumulative cs (a + 1) y
       by y m (yes e) =
           let q : 66 * (a + 1) + (b + 1) ≡ 66 * (a + 1) + b + 1 = omega arith in
-          rw (e, q) (get_or-set_same ts (66 * (a + 1) + b + 1) _ 0 (omega (arith, r.more, r.sized.room)) ∙ added)
+          rw (e, q) (get_or-set_same ts (66 * (a + 1) + b + 1) _ 0 (omega (arith, r.more, r.room)) ∙ added)
       by y m (no e) =
           get_or-set_other ts (66 * (a + 1) + b + 1) (66 * (a + 1) + y) _ 0 (λ f. omega (arith, e)) ∙ r.here y (omega (arith, e))
 
@@ -141,3 +134,7 @@ module _ {cs ts : List ℕ} {a b row : ℕ} (r : RowPart cs ts a b row) where
       let n = rows_most cs a (b + 1) f (omega arith) in
       let t = row_more cs a b in
       omega (arith, r.sum, r.more)
+
+-- the call from both lists as arrays
+pub filled_whole : {cs cs' ts us : List ℕ} → length cs ≡ 4225 → length ts ≡ 4356 → cs' ≡ cs → Accumulated cs' us → Tried cs ts us
+filled_whole l m e f = record { filled = λ s. rw (← e) f; left = λ n. absurd (n (record { cells = l; room = m })) }

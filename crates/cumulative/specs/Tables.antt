@@ -1,5 +1,5 @@
 -- What the functions over a table of cumulative sums ask and say. cs is a list of 4,225 cells, ts the table.
-use Rattle.std.specs.Prelude.{ℕ, ◌+◌, ◌*◌, ◌≤◌, ◌<◌, ◌≡◌, List, length, get_or}
+use Rattle.std.specs.Prelude.{ℕ, ◌+◌, ◌*◌, ◌≤◌, ◌≡◌, List, length, get_or}
 use Rattle.meanings.specs.Lists.{total}
 
 -- the first b cells of strip a, added up
@@ -16,14 +16,7 @@ pub record Sized (cs ts : List ℕ) : Type 0 where
 
 -- rows 0 to a hold the sums
 pub record RowsTo (cs ts : List ℕ) (a : ℕ) : Type 0 where
-  pub sized : Sized cs ts
-  pub few : a ≤ 65
   pub holds : (x y : ℕ) → x ≤ a → y ≤ 65 → get_or ts (66 * x + y) 0 ≡ cumulative cs x y
-
--- and there is one more
-pub record RowBefore (cs ts : List ℕ) (a : ℕ) : Type 0 where
-  pub rows : RowsTo cs ts a
-  pub more : a < 65
 
 -- number 66 a + b is the sum over the first b cells of the first a strips
 pub record Accumulated (cs ts : List ℕ) : Type 0 where

@@ -9,7 +9,9 @@ ghost use Rattle.cumulative.specs.Tables.{Tried};
 pub fn accumulate(cells: &[u32], table: &mut [u64])
     ensures { Tried cells.now table.old table.new }
 {
-    if cells.len() == 4225 && table.len() == 4356 {
+    if let Some(cells) = cells.as_array()
+        && let Some(table) = table.as_mut_array()
+    {
         rows::put_table_rows(cells, table);
     }
 }

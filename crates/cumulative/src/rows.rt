@@ -1,19 +1,20 @@
-// The table row by row: each is the one above and the running sum of its own cells.
-ghost use Rattle.std.specs.Prelude.{◌+◌};
-ghost use Rattle.cumulative.specs.Tables.{Sized, RowBefore, RowsTo, Accumulated};
+// The table row by row: each is the one above and the running sum of its own cells. The table stays flat, 66 numbers a row: by rows of arrays
+// each clause would name rows beside the flat numbers that it is about.
+ghost use Rattle.std.specs.Prelude.{◌+◌, ◌<◌};
+ghost use Rattle.cumulative.specs.Tables.{RowsTo, Accumulated};
 
 // The row without cells: zeros.
-#[tactic(auto, using(crate::proofs::Filling::first_numbers, crate::proofs::Filling::first_row))]
-pub(crate) fn put_first_row(cells: &[u32], table: &mut [u64])
-    requires { Sized cells.now table.old }
+pub(crate) fn put_first_row(cells: &[u32; 4225], table: &mut [u64; 4356])
     ensures { RowsTo cells.now table.new 0 }
 {
     table[..66].fill(0);
 }
 
 // Row a + 1 by row a and the cells of strip a.
-pub(crate) fn put_table_row(cells: &[u32], a: usize, table: &mut [u64])
-    requires { RowBefore cells.now table.old a }
+#[tactic(auto, using(crate::proofs::Filling::row_begins))]
+pub(crate) fn put_table_row(cells: &[u32; 4225], a: usize, table: &mut [u64; 4356])
+    requires above { RowsTo cells.now table.old a }
+    requires more { a < 65 }
     ensures { RowsTo cells.now table.new (a + 1) }
 {
     table[66 * (a + 1)] = 0;
@@ -25,8 +26,7 @@ pub(crate) fn put_table_row(cells: &[u32], a: usize, table: &mut [u64])
 }
 
 // All rows.
-pub(crate) fn put_table_rows(cells: &[u32], table: &mut [u64])
-    requires { Sized cells.now table.old }
+pub(crate) fn put_table_rows(cells: &[u32; 4225], table: &mut [u64; 4356])
     ensures { Accumulated cells.now table.new }
 {
     put_first_row(cells, table);

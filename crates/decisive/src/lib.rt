@@ -25,7 +25,8 @@ pub(crate) struct Run {
     pub(crate) sum: u64,
 }
 
-// The run of accepted lists, each of its readings added once.
+// The run of accepted lists, each of its readings added once. That they are accepted is asked here, by search, and by estimate_at of `estimator`. Each has one
+// caller, which has tested them: a type for it would be made there and taken apart at once.
 fn add_run(readings: Readings, mark: Mark) -> Run
     requires { EvaluateAccepted readings.minutes.now readings.values.now mark.bandwidth }
     ensures { IsRun readings.entry.minutes.now readings.entry.values.now mark.point mark.bandwidth result }
@@ -49,7 +50,8 @@ fn add_run(readings: Readings, mark: Mark) -> Run
     }
 }
 
-// Whether a row with this weight and sum is low enough. Two numbers that two calls share.
+// Whether a row with this weight and sum is low enough. Two numbers, as `value` takes them: a type for both would be made
+// anew for each reading that is left out, and taken apart here.
 fn is_low(weight: u64, sum: u64, limit: u16) -> bool
     ensures { IsLow weight sum limit result }
 {

@@ -88,6 +88,3 @@ module _ {ts : List ℕ} {m a e i : ℕ} (s : Searched ts m a e i) where
 
   pub search_finds : i < e → m ≤ get_or ts i 0 → FoundFrom ts a e m i
   search_finds l t = record { found = sym (s.same ∙ rw (one_left l, le-leb _ _ t)) }
-
-  pub search_ends : e ≤ i → FoundFrom ts a e m e
-  search_ends l = let q : i ≡ e = omega (arith, s.upto) in record { found = sym (s.same ∙ rw (q, sub_self e)) }

@@ -1,8 +1,8 @@
 // Where a window's edges stand among the minutes.
 ghost use Rattle.estimator.specs.Rows.{Within, FoundFrom};
 
-// The first position from `from` up to `to` whose minute is at least `bound`, else `to`. Both are edges of the record, so a part
-// of the list would lose the position that is the answer.
+// The first position from `from` up to `to` whose minute is at least `bound`, else `to`. Both are edges of the record: of a
+// part of the list each call would add the start to the position that is the answer.
 pub(crate) fn first_from(minutes: &[u16], from: usize, to: usize, bound: u64) -> usize
     requires { Within minutes.now from to }
     ensures { FoundFrom minutes.now from to bound result }

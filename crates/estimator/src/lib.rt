@@ -11,10 +11,16 @@ ghost use Rattle.meanings.specs.Calls.{answer_of};
 ghost use Rattle.meanings.specs.Limits.{full as full_limits};
 ghost use Rattle.meanings.specs.Running.{advance as advance_meaning};
 ghost use Rattle.meanings.specs.Calls.{evaluate as evaluate_meaning, window as window_meaning, window_start};
+ghost use Rattle.estimator.specs.Rows.{Of16Bits};
 
 use checks::full;
 use checks_point::{advance_fault, evaluate_fault};
 use meanings::{Estimate, Mark, Readings, Refusal, RunningSums};
+
+// What the type of a list says, which a proof does not know of a list in a struct: its numbers fit 16 bits. It does nothing.
+pub fn of_16_bits(numbers: &[u16])
+    ensures { Of16Bits numbers.now }
+{}
 
 // The question at one mark: the row, or the report.
 #[tactic(auto, unfolding(meanings::specs::Calls::evaluate))]
@@ -40,8 +46,8 @@ pub fn window<'a>(minutes: &[u16], values: &'a [u16], mark: Mark) -> &'a [u16]
     }
 }
 
-// The single step, on a record of any origin: the new record, or the report. Record, readings and mark are what is moved, over what, and where to: three
-// things of each step, here and in all that steps.
+// The single step, on a record of any origin: the new record, or the report. Record, readings and mark stay three parameters, here and in all that
+// steps: what is moved, over what, and where to. A struct of them would be made for each step and taken apart in it.
 #[tactic(auto, unfolding(meanings::specs::Running::advance))]
 pub fn advance(running: RunningSums, readings: Readings, mark: Mark) -> Result<RunningSums, Refusal>
     ensures { answer_of result ≡ advance_meaning readings.entry.minutes.now readings.entry.values.now running mark.point mark.bandwidth }

@@ -3,8 +3,9 @@ ghost use Rattle.std.specs.Prelude.{◌≡◌};
 ghost use Rattle.meanings.specs.Lists.{Ordered};
 ghost use Rattle.meanings.specs.Estimate.{estimate};
 ghost use Rattle.meanings.proofs.Checks.{EvaluateAccepted};
-ghost use Rattle.estimator.specs.Rows.{IsSpan, Of16Bits};
+ghost use Rattle.estimator.specs.Rows.{IsSpan};
 
+use crate::of_16_bits;
 use crate::sums::run_changed;
 use arithmetic::Plus;
 use arithmetic_values::{first_at_least, lowest_minute};
@@ -27,11 +28,6 @@ pub(crate) fn span_at(minutes: &[u16], mark: Mark) -> Span
     let left = first_at_least(minutes, lowest_minute(mark));
     Span { left, right }
 }
-
-// What a list's type says, which is not known of a list in a struct: its numbers fit 16 bits.
-fn of_16_bits(numbers: &[u16])
-    ensures { Of16Bits numbers.now }
-{}
 
 pub(crate) fn estimate_at(readings: Readings, mark: Mark) -> Estimate
     requires { EvaluateAccepted readings.minutes.now readings.values.now mark.bandwidth }

@@ -1,5 +1,6 @@
 // One step of a running record: the right edge moves on, then the left one, up to the new right.
-// Beside `stepping_fused`: a step that two calls share the compiler keeps out of the sweep's loop, 269,137 instructions for 211,372 (docs/FIGURES.md).
+// Beside fused_step of `stepping_fused`: the compiler takes a step of that length into a loop only where the loop calls it once, so of two records side by
+// side one takes this step, 211,372 instructions for 269,137 (docs/FIGURES.md).
 ghost use Rattle.std.specs.Prelude.{◌≡◌};
 ghost use Rattle.meanings.specs.Running.{moved as moved_meaning};
 ghost use Rattle.meanings.proofs.Checks.{AdvanceAccepted};

@@ -1,17 +1,17 @@
 // The bandwidth presets, "the knob", and the evaluation grid, which "the mark filler" fills.
 #![tactic(auto)]
 
-ghost use Rattle.std.specs.Prelude.{◌≡◌, ◌+◌, ◌-◌, ◌*◌, ◌≤◌, ◌<◌, length, get_or, replicate};
+ghost use Rattle.std.specs.Prelude.{◌≡◌, ◌+◌, ◌-◌, ◌*◌, ◌≤◌, length};
 ghost use Rattle.meanings.specs.Calls.{answer_of};
 ghost use Rattle.meanings.specs.Limits.{full as full_limits, max_u16};
-ghost use Rattle.meanings.specs.Grid.{presets, grid};
+ghost use Rattle.meanings.specs.Grid.{grid};
 ghost use Rattle.meanings.specs.Calls.{fill, fill_points, fill_bandwidths};
 
 use checks::full;
 use checks_grid::fill_fault;
 use meanings::Refusal;
 
-// The bandwidth presets, by position: of the knob a program in C hands over the position.
+// The bandwidth presets. A program in C hands over a position among them, "the knob".
 const PRESETS: [u32; 12] = [30, 45, 60, 90, 120, 180, 240, 360, 480, 720, 1080, 1440];
 
 // Stores mark k as first + k × spacing, for every k.
@@ -25,7 +25,7 @@ pub(crate) fn put_points(points: &mut [u16], first: u16, spacing: u16)
     }
 }
 
-// The mark filler. The two lists to be written stay apart, as C lends them.
+// The mark filler. First mark, spacing and preset stay three numbers, here and in its checks, and the two lists to be written stay apart, as C gives them.
 #[tactic(auto, unfolding(meanings::specs::Calls::fill, meanings::specs::Calls::fill_points, meanings::specs::Calls::fill_bandwidths))]
 pub fn fill_grid(
     first: u16,

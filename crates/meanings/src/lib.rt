@@ -130,7 +130,7 @@ pub struct Turning {
 }
 
 // The kept readings of a tank, in two lent lists of any lengths: the checks have to see these, so no invariant holds of them. No call compares or
-// prints lent lists, and their equality would bring memcmp, which the archive's host does not give; so here and in the structs like it.
+// prints lent lists, so neither is derived, here and in the structs like it.
 #[derive(Clone, Copy)]
 pub struct Readings<'a> {
     pub minutes: &'a [u16],

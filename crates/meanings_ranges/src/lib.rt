@@ -29,7 +29,8 @@ pub enum Kind {
     Ranges = 1,
 }
 
-// How many readings a sheet of either kind keeps, how many marks it has, and its kind.
+// How many readings a sheet of either kind keeps, how many marks it has, and its kind. With Counts of `meanings` in it each clause about a number would read
+// counts.counts.samples for counts.samples, and no call takes one where it has the other.
 #[derive(Clone, Copy, Debug, PartialEq, Eq)]
 pub struct RangeCounts {
     pub samples: usize,

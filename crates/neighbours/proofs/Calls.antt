@@ -7,10 +7,11 @@ use mathlib.Core.Path.{◌≡◌, sym, ap, ◌∙◌}
 use mathlib.Core.List.{List}
 use Rattle.std.specs.Prelude.{None}
 use native.Mathlib.Omega.{arith}
-use lib.ListN.{length}
+use lib.ListN.{length, get_or}
+use mir.Val.{Fits}
+use mir.Syntax.{w16}
 use Rattle.meanings.specs.declared.Refusal.{Refusal}
-use Rattle.meanings.specs.Limits.{full, max_u16}
-use Rattle.meanings.specs.Lists.{AtMost}
+use Rattle.meanings.specs.Limits.{full}
 use Rattle.meanings.specs.Reports.{given, refused, fault_of, verdict_fault, first_of}
 use Rattle.meanings.specs.Moves.{moves}
 use Rattle.meanings.specs.Running.{fresh, passes}
@@ -19,6 +20,7 @@ use Rattle.meanings.specs.Calls.{smooth, smooth_refusal, smooth_rows}
 use Rattle.meanings.proofs.Checks.{same_limits}
 use Rattle.meanings_neighbours.specs.Neighbours.{neighbour_bandwidths, neighbours_checks, neighbours_refusal, rows_then}
 use Rattle.laws_neighbours.proofs.Refusals.{neighbours_accepts, sweep_accepts}
+use Rattle.estimator.specs.Rows.{Of16Bits}
 use Rattle.neighbours.specs.Nearest.{Fillable}
 
 module _ (ts vs zs : List ℕ) (k : ℕ) (hs rs : List ℕ) {v : Result Unit Refusal}
@@ -26,26 +28,26 @@ module _ (ts vs zs : List ℕ) (k : ℕ) (hs rs : List ℕ) {v : Result Unit Ref
   found : {w : Result Unit Refusal} → v ≡ w → neighbours_refusal full ts vs zs k hs rs ≡ verdict_fault w
   found q = sym (ap verdict_fault (sym q) ∙ f)
 
-  module _ {unit : Unit {0}} (q : v ≡ Ok unit) where
-    -- lists that the check finds nothing in
-    pub fillable : Fillable ts zs k hs
-    fillable =
-        let a = neighbours_accepts full ts vs zs k hs (same_limits full) (length rs) (found q) in
-        record {
-          low = a.low;
-          high = a.high;
-          ordered = a.ordered;
-          ordered_points = a.ordered_points;
-          even = a.even_points;
-        }
+  -- lists that the check finds nothing in
+  pub fillable : {unit : Unit {0}} → v ≡ Ok unit → Fillable ts zs k hs
+  fillable q =
+      let a = neighbours_accepts full ts vs zs k hs (same_limits full) (length rs) (found q) in
+      record {
+        low = a.low;
+        high = a.high;
+        ordered = a.ordered;
+        ordered_points = a.ordered_points;
+        even = a.even_points;
+      }
 
+  module _ {unit : Unit {0}} (q : v ≡ Ok unit) where
     module _ {P : List ℕ} (filled : P ≡ neighbour_bandwidths ts zs k) where
       -- the sweep with the new half widths
-      module _ (minutes : AtMost max_u16 ts) (points : AtMost max_u16 zs) where
+      module _ (minutes : Of16Bits ts) (points : (i : ℕ) → Fits w16 (get_or zs i 0)) where
         accepts : smooth_refusal full ts vs zs P rs ≡ None
         accepts =
             ap (λ (h : List ℕ). smooth_refusal full ts vs zs h rs) filled
-            ∙ sweep_accepts full ts vs zs k hs rs minutes points (found q)
+            ∙ sweep_accepts full ts vs zs k hs rs (λ i l. omega (arith, minutes.fits i)) (λ i l. omega (arith, points i)) (found q)
 
         pub rows_given : {R : List ℕ} → R ≡ smooth_rows full ts vs zs P rs → R ≡ rows_then full ts vs zs k hs rs
         unfolding rows_then smooth_rows

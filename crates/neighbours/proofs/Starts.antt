@@ -1,11 +1,9 @@
 -- The k readings from the first start that stays are k nearest ones: those at their ends decide how far the k-th is, and none outside is nearer
 -- than that. A start that one mark has passed every later mark passes too.
 use Prim.Native.Nat.{ℕ, suc, ◌+◌, ◌-◌, ◌*◌, ◌≤◌, ◌<◌}
-use mathlib.Core.Path.{◌≡◌, refl, sym, ap, ◌∙◌}
-use mathlib.Core.Logic.{◌⊎◌, inl, inr}
+use mathlib.Core.Path.{◌≡◌, sym, ap, ◌∙◌}
 use mathlib.Core.List.{List, [], ◌∷◌, ◌++◌}
 use native.Mathlib.Decide.{dec_lt}
-use native.Mathlib.Nat.{eq-or-lt_of_le}
 use native.Mathlib.Numerals.{add-one}
 use native.Mathlib.Omega.{arith}
 use borrow.Author.Tests.{ltb-true, le-leb}
@@ -18,28 +16,6 @@ use Rattle.meanings_neighbours.proofs.Counting.{run_counted, no_more_counted}
 use Rattle.meanings_neighbours.proofs.Kth.{kth_is_kth_distance}
 use Rattle.laws_neighbours.proofs.Edges.{bandwidths_length, bandwidth_at}
 use Rattle.neighbours.specs.Nearest.{StartsPassed, NearestFrom, IsBandwidth, Fillable}
-
--- the search for the start
-module _ {ts : List ℕ} {k z a : ℕ} (w : StartsPassed ts k z a) where
-  pub start_stays : 2 * z ≤ get_or ts a 0 + get_or ts (a + k) 0 → NearestFrom ts k z a
-  start_stays l = record { passed = w; stays = λ m. l }
-
-  pub start_goes_on : a < length ts - k → get_or ts a 0 + get_or ts (a + k) 0 < 2 * z → StartsPassed ts k z (a + 1)
-  start_goes_on m l = record {
-    low = w.low;
-    ordered = w.ordered;
-    room = omega arith;
-    below = λ i b. by i (eq-or-lt_of_le (let c : i ≤ a = omega arith in c));
-  }
-    where
-      by : (i : ℕ) → (i ≡ a) ⊎ (i < a) → get_or ts i 0 + get_or ts (i + k) 0 < 2 * z
-      by i (inl e) = rw e l
-      by i (inr b) = w.below i b
-
-  pub start_is_last : length ts - k ≤ a → NearestFrom ts k z (length ts - k)
-  start_is_last l =
-      let e : length ts - k ≡ a = omega (arith, w.room) in
-      rw e (record { passed = w; stays = λ m. absurd (omega arith) })
 
 -- a reading is nearer than d, or no further, by where it lies
 not_nearer_below : (t z d : ℕ) → t + d ≤ z → ¬ (distance t z < d)
@@ -133,21 +109,9 @@ pub record StoredTo (ts zs : List ℕ) (k : ℕ) (P₀ : List ℕ) (i start : �
   pub stored : take i P ≡ take i (neighbour_bandwidths ts zs k)
   pub passed : i < length zs → StartsPassed ts k (get_or zs i 0) start
 
-pub stores_begin : {ts zs : List ℕ} {k : ℕ} {P₀ : List ℕ} → Fillable ts zs k P₀ → StoredTo ts zs k P₀ 0 0 P₀
-stores_begin f = record {
-  fit = f;
-  upto = omega arith;
-  sized = sym f.even;
-  stored = refl;
-  passed = λ l. record { low = f.low; ordered = f.ordered; room = let l = f.high in omega arith; below = λ j m. absurd (omega arith) };
-}
-
 module _ {ts zs : List ℕ} {k : ℕ} {P₀ : List ℕ} {i start : ℕ} {P : List ℕ} (w : StoredTo ts zs k P₀ i start P) where
   pub stored_length : length P ≡ length P₀
   stored_length = w.sized ∙ w.fit.even
-
-  pub can_search : i < length zs → StartsPassed ts k (get_or zs i 0) start
-  can_search l = w.passed l
 
   has_room : i < length zs → i < length P
   has_room l = omega (arith, w.sized)

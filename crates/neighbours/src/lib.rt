@@ -11,11 +11,12 @@ ghost use Rattle.meanings_neighbours.specs.Neighbours.{neighbours as neighbours_
 
 use checks::full;
 use checks_neighbours::neighbours_fault;
+use estimator::of_16_bits;
 use meanings::{Marks, Readings, Refusal};
 use sweep::smooth;
 
-// What the call is refused for, at the full limits. It and the next function make the marks: a caller that lends the half widths to be written cannot,
-// since the borrow checker doesn't cover marks beside half widths that are lent anew.
+// What the call is refused for, at the full limits. It and the next function make the marks: a caller that lends the half widths to be written cannot:
+// marks beside half widths that are lent anew were tried, and the borrow checker doesn't cover them.
 fn judged(
     readings: Readings,
     points: &[u16],
@@ -55,6 +56,7 @@ pub fn neighbours(
     ensures rows_after { rows.new ≡ rows_then full_limits readings.entry.minutes.now readings.entry.values.now points.now k bandwidths.old rows.old }
 {
     judged(readings, points, k, bandwidths, rows.len())?;
+    of_16_bits(readings.minutes);
     nearest::put_bandwidths(readings.minutes, points, k, bandwidths);
     // Never refused: with marks in order no edge of these half widths goes back, and none is out of range.
     swept(readings, points, bandwidths, rows)?;

@@ -1,8 +1,6 @@
 // The k readings nearest to a mark stand in a row. From mark to mark their first position never falls, so all marks together
 // pass each reading at most once.
 ghost use Rattle.std.specs.Prelude.{◌≡◌};
-ghost use Rattle.meanings.specs.Limits.{max_u16};
-ghost use Rattle.meanings.specs.Lists.{AtMost};
 ghost use Rattle.meanings_neighbours.specs.Neighbours.{neighbour_bandwidths};
 ghost use Rattle.neighbours.specs.Nearest.{StartsPassed, NearestFrom, IsBandwidth, Fillable};
 
@@ -35,12 +33,10 @@ pub(crate) fn bandwidth_from(minutes: &[u16], start: usize, k: usize, point: u16
     last - z + 1
 }
 
-// Stores the half width of each mark. That minutes fit 16 bits is not known of a list in a struct, so it is said here.
+// Stores the half width of each mark.
 pub(crate) fn put_bandwidths(minutes: &[u16], points: &[u16], k: usize, bandwidths: &mut [u32])
     requires { Fillable minutes.now points.now k bandwidths.old }
-    ensures filled { bandwidths.new ≡ neighbour_bandwidths minutes.now points.now k }
-    ensures minutes_fit { AtMost max_u16 minutes.now }
-    ensures points_fit { AtMost max_u16 points.now }
+    ensures { bandwidths.new ≡ neighbour_bandwidths minutes.now points.now k }
 {
     let mut start = 0;
     for i in 0..points.len() {

@@ -7,20 +7,15 @@ ghost use Rattle.meanings.specs.Calls.{answer_of};
 ghost use Rattle.meanings.specs.Limits.{full as full_limits};
 ghost use Rattle.meanings_pair.specs.Comparison.{of_tank, compare as compare_meaning, compare_bounds, compare_run, run_tank, run_start};
 ghost use Rattle.meanings_pair.proofs.Accepted.{PairAccepted};
-ghost use Rattle.estimator.specs.Rows.{Of16Bits};
 ghost use Rattle.pair.specs.Search.{Searched};
 
 use checks::full;
 use checks_pair::compare_fault;
+use estimator::of_16_bits;
 use meanings::{Mark, Marks, Readings, Refusal, RunningSums};
 use meanings_pair::{Bounded, Parting};
 use ranking::{split_at, unlike};
 use stepping::{step_beside, step_to};
-
-// What a list's type says, which is not known of a list in a struct: its numbers fit 16 bits.
-fn of_16_bits(numbers: &[u16])
-    ensures { Of16Bits numbers.now }
-{}
 
 // The search in accepted lists.
 fn parted(first: Readings, second: Readings, marks: Marks) -> Option<Bounded>
@@ -60,6 +55,7 @@ pub fn part(first: Readings, second: Readings, marks: Marks) -> Result<Option<Bo
 }
 
 // The first mark at which the tanks' values differ and the tank that is higher there; alike; or the report.
+#[tactic(auto, unfolding(meanings_pair::specs::Comparison::compare_bounds))]
 pub fn compare(first: Readings, second: Readings, marks: Marks) -> Result<Option<Parting>, Refusal>
     ensures { answer_of result ≡ compare_meaning full_limits first.entry.minutes.now first.entry.values.now second.entry.minutes.now second.entry.values.now marks.entry.points.now marks.entry.bandwidths.now }
 {
@@ -72,8 +68,9 @@ pub fn compare(first: Readings, second: Readings, marks: Marks) -> Result<Option
 }
 
 // The same question's run, as a part of the higher tank's own values: where the tanks do not part, and on a refusal, the empty part at the start of
-// the first tank's. It was promised to callers as a part whatever the answer, so it is no Option. The lists stay apart, since the answer borrows the
-// values and not the minutes.
+// the first tank's. It is a part of the values whatever the answer, as callers may rely on, so it is no Option. The lists stay apart, since the answer
+// borrows the values and not the minutes.
+#[tactic(auto, unfolding(meanings_pair::specs::Comparison::compare_bounds, meanings_pair::specs::Comparison::compare_run, meanings_pair::specs::Comparison::run_tank, meanings_pair::specs::Comparison::run_start), using(crate::proofs::Answers::run_ordered, crate::proofs::Answers::higher_fits))]
 pub fn compare_run<'a>(
     minutes1: &[u16],
     values1: &'a [u16],

@@ -6,23 +6,17 @@ ghost use Rattle.list_fronts.specs.Copied.{copied};
 
 use list_fronts::copy_front;
 use meanings::Marks;
+use meanings_ranges::Ranges;
 
 // Stores the kept readings at the fronts of the lent lists. Those to be written stay apart, as C lends them.
-pub fn put_samples(
-    ts: &[u16],
-    ls: &[u16],
-    us: &[u16],
-    minutes: &mut [u16],
-    lows: &mut [u16],
-    highs: &mut [u16],
-)
-    ensures minutes_after { minutes.new ≡ copied ts.now (length ts.now) minutes.old }
-    ensures lows_after { lows.new ≡ copied ls.now (length ls.now) lows.old }
-    ensures highs_after { highs.new ≡ copied us.now (length us.now) highs.old }
+pub fn put_samples(ranges: Ranges, minutes: &mut [u16], lows: &mut [u16], highs: &mut [u16])
+    ensures minutes_after { minutes.new ≡ copied ranges.entry.minutes.now (length ranges.entry.minutes.now) minutes.old }
+    ensures lows_after { lows.new ≡ copied ranges.entry.lows.now (length ranges.entry.lows.now) lows.old }
+    ensures highs_after { highs.new ≡ copied ranges.entry.highs.now (length ranges.entry.highs.now) highs.old }
 {
-    copy_front(ts, minutes);
-    copy_front(ls, lows);
-    copy_front(us, highs);
+    copy_front(ranges.minutes, minutes);
+    copy_front(ranges.lows, lows);
+    copy_front(ranges.highs, highs);
 }
 
 // And the marks with their half widths.

@@ -35,7 +35,8 @@ impl From<SampleLine> for ReadingLine {
     }
 }
 
-// Four numbers as a reading line's values, if each is in its range; None as of a line of another form, so no TryFrom with an error of its own.
+// Four numbers as a reading line's values, if each is in its range. Its caller is asked for a line and answers None where there is none: the error of a TryFrom
+// would be thrown away there.
 pub fn ranged_reading(minute: u32, injection: u32, low: u32, high: u32) -> Option<ReadingLine>
     ensures { reading_values result ≡ with_high (ranged_sample (Some minute) (Some injection) (Some low)) (Some high) }
 {

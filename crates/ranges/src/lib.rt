@@ -10,16 +10,16 @@ ghost use Rattle.meanings.specs.Limits.{full as full_limits};
 ghost use Rattle.meanings.specs.Moves.{moves};
 ghost use Rattle.meanings.specs.Running.{fresh, passes};
 ghost use Rattle.meanings_ranges.specs.Ranges.{range_fields, range_row_width, range_rows, smooth_ranges as smooth_ranges_meaning, smooth_ranges_rows};
-ghost use Rattle.estimator.specs.Rows.{Of16Bits};
 ghost use Rattle.ranges.specs.Sweep.{SweepAccepted};
 
 use checks::full;
 use checks_ranges::ranges_fault;
+use estimator::of_16_bits;
 use meanings::{Mark, Marks, Refusal};
 use meanings_ranges::{RANGE_ROW_WIDTH, RangeEstimate, Ranges};
 use range_sums::{BothRecord, both_row};
 
-// Stores the row of mark k. The C interface lends the rows as one list of numbers.
+// Stores the row of mark k. The C interface lends the rows as one list of numbers; a From for the sweep alone would be as long, and copied besides.
 pub(crate) fn put_range_row(rows: &mut [u64], k: usize, e: RangeEstimate)
     requires { range_row_width * k + range_row_width ≤ length rows.old }
     ensures { rows.new ≡ sets rows.old (range_row_width * k) (range_fields e) }
@@ -33,11 +33,6 @@ pub(crate) fn put_range_row(rows: &mut [u64], k: usize, e: RangeEstimate)
     rows[at + 5] = e.value.low;
     rows[at + 6] = e.value.high;
 }
-
-// What a list's type says, which is not known of a list in a struct: its numbers fit 16 bits.
-fn of_16_bits(numbers: &[u16])
-    ensures { Of16Bits numbers.now }
-{}
 
 // Stores the rows of all marks and answers the passes: last right plus last left. No loop in common with the sweep of `sweep`: it would be public, over
 // a trait for record, step and row, and each step asks that the lists are accepted, which no public function may ask.

@@ -36,7 +36,7 @@ pub(crate) fn passed_until<C: Change>(
 }
 
 // The records after an accepted step: the right edge moves on, then the left one, up to the new right. Beside fused_move of `stepping_fused`: one
-// function for both would be public and generic in records, sums and readings, three traits for eleven lines.
+// function for both would be public and generic in records, sums and readings, three traits for thirteen lines.
 pub(crate) fn both_move(running: BothRecord, ranges: Ranges, mark: Mark) -> BothRecord
     requires { BothAccepted ranges.minutes.now ranges.lows.now ranges.highs.now running.left running.right mark.bandwidth }
     ensures { BothMoved ranges.entry.minutes.now ranges.entry.lows.now ranges.entry.highs.now running mark.point mark.bandwidth result }

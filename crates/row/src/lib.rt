@@ -9,7 +9,7 @@ use arithmetic_values::value;
 use meanings::{Estimate, Mark, RunningSums};
 
 // The row of a record of any origin at a mark with any half width: its edges, and the formulas over its six sums modulo 2^64.
-// Beside the row of ranges, which has two sums and values by one weight: one function for both would hand over how many, and be no plainer.
+// The row over ranges is two of these, of the lows and of the highs.
 #[tactic(auto, unfolding(meanings::specs::Running::record_row))]
 pub fn record_row(running: RunningSums, mark: Mark) -> Estimate
     ensures { result ≡ record_row running mark.point mark.bandwidth }

@@ -109,10 +109,6 @@ pub record Passed (t : List ℕ) (p q v : ℕ) : Type 0 where
   pub front_length : q ≡ p + length front
   pub small : v < 100000
 
-pub passed_begins : {t : List ℕ} {p : ℕ} → Passed t p p 0
-passed_begins =
-    record { front = []; seen = refl; front_digits = refl; front_says = refl; front_length = omega arith; small = omega arith }
-
 module _ {t : List ℕ} {p q v : ℕ} (s : Passed t p q v) where
   passed_field : field_at t p ≡ number_of p (s.front ++ first_part (drop q t))
   unfolding field_at

@@ -4,13 +4,13 @@ use mathlib.Core.Path.{◌≡◌, ◌∙◌}
 use mathlib.Core.List.{List}
 use borrow.Author.Tests.{lt-ltb, le-ltb}
 use lib.ListN.{length}
-use Rattle.meanings.specs.declared.Report.TheVariants.{TooLong, BadHeader, LengthMismatch}
+use Rattle.meanings.specs.declared.Report.TheVariants.{TooLong, BadHeader}
 use Rattle.meanings.specs.declared.Refusal.{Refusal}
 use Rattle.std.specs.Prelude.{Result, Some, None, Err}
 use Rattle.meanings.specs.Limits.{full, max_sheet}
 use Rattle.meanings.specs.Bytes.{point_header}
 use Rattle.meanings.specs.Reports.{given}
-use Rattle.meanings.proofs.Checks.{differ_same, differ_true}
+use Rattle.meanings.proofs.Checks.{differ_same}
 use Rattle.meanings_ranges.specs.RangeSheet.{sheet_front}
 use Rattle.sheet_front.specs.declared.points.Front.{Front as PointsEnd}
 use Rattle.sheet_front.specs.Stages.{HeaderTried, front_read, PointsFound, FrontFound, front_call, FrontOutcome}
@@ -30,21 +30,6 @@ module _ {s : List ℕ} (short : length s ≤ max_sheet) where
       → FrontFound s r zs hs
   unfolding sheet_front
   points_follow tried g = record { outcome = rw (le-ltb max_sheet (length s) short) (header_goes_on _ tried) ∙ g.outcome; within = g.within }
-
--- the lengths of the lists, tested
-module _ {s zs hs : List ℕ} {m n : ℕ} where
-  pub points_uneven : {r : Refusal} → ¬ (m ≡ 512) → r ≡ (record { report = LengthMismatch; place = 0 }) → FrontOutcome s m n (Err r) zs hs
-  unfolding front_call
-  points_uneven d e = record { outcome = rw (differ_true m 512 d, e); within = tt }
-
-  pub bandwidths_uneven : {r : Refusal} → m ≡ 512 → ¬ (n ≡ 512) → r ≡ (record { report = LengthMismatch; place = 0 })
-      → FrontOutcome s m n (Err r) zs hs
-  unfolding front_call
-  bandwidths_uneven k d e = record { outcome = rw (differ_same m 512 k, differ_true n 512 d, e); within = tt }
-
-  pub even_outcome : {r : Result PointsEnd Refusal} → m ≡ 512 → n ≡ 512 → FrontFound s r zs hs → FrontOutcome s m n r zs hs
-  unfolding front_call
-  even_outcome e d f = record { outcome = rw (differ_same m 512 e, differ_same n 512 d) f.outcome; within = f.within }
 
 -- the call with lists of full length says what the front is, and its counts lie within their limits
 module _ {s zs hs : List ℕ} {m n : ℕ} {r : Result PointsEnd Refusal} (call : FrontOutcome s m n r zs hs) (points : m ≡ 512) (bandwidths : n ≡ 512) where

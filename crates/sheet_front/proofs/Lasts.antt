@@ -50,10 +50,6 @@ pub no_last_edge_below : (zs hs : List ℕ) (m : Mark) → None ≡ slice_get zs
 unfolding edge_below_last
 no_last_edge_below zs hs m e = rw (none_at_last zs e)
 
-pub no_last_width_below : (zs hs : List ℕ) (m : Mark) → length zs ≡ length hs → None ≡ slice_get hs (length hs - 1) → false ≡ edge_below_last zs hs m
-unfolding edge_below_last
-no_last_width_below zs hs m l e = rw (l, none_at_last hs e)
-
 pub last_edge_below : (zs hs : List ℕ) (m : Mark) (z h : ℕ) {b : Bool} → length zs ≡ length hs → Some z ≡ slice_get zs (length zs - 1)
     → Some h ≡ slice_get hs (length hs - 1) → b ≡ edge_below m.point m.bandwidth z h → b ≡ edge_below_last zs hs m
 unfolding edge_below_last

@@ -41,7 +41,7 @@ pub(crate) fn scan_front(
 }
 
 // The same for lists of any lengths. What the lists hold after a refusal is left open: they are a reader's own.
-#[tactic(auto, using(crate::proofs::Fronts::points_uneven, crate::proofs::Fronts::bandwidths_uneven, crate::proofs::Fronts::even_outcome))]
+#[tactic(auto, unfolding(crate::specs::Stages::front_call), using(meanings::proofs::Checks::differ_same, meanings::proofs::Checks::differ_true))]
 pub fn read_front(
     sheet: &[u8],
     points: &mut [u16],
@@ -49,11 +49,8 @@ pub fn read_front(
 ) -> Result<Front, Refusal>
     ensures { FrontOutcome sheet.now (length points.old) (length bandwidths.old) result points.new bandwidths.new }
 {
-    let Some(points) = points.as_mut_array() else {
-        return Err(Report::LengthMismatch.at(0));
-    };
-    let Some(bandwidths) = bandwidths.as_mut_array() else {
-        return Err(Report::LengthMismatch.at(0));
-    };
+    let uneven = Report::LengthMismatch.at(0);
+    let points = points.as_mut_array().ok_or(uneven)?;
+    let bandwidths = bandwidths.as_mut_array().ok_or(uneven)?;
     scan_front(sheet, points, bandwidths)
 }

@@ -17,29 +17,23 @@ pub struct Front {
 pub(crate) fn below_last(points: &[u16], point: u16) -> bool
     ensures { result ≡ below_last points.now point }
 {
-    let Some(last) = points.last() else {
-        return false;
-    };
-    point < *last
+    points.last().is_some_and(|last| point < *last)
 }
 
 // Whether an edge of a mark is below that of the last of these.
-#[tactic(auto, using(crate::proofs::Lasts::no_last_edge_below, crate::proofs::Lasts::no_last_width_below, crate::proofs::Lasts::last_edge_below))]
+#[tactic(auto, using(crate::proofs::Lasts::no_last_edge_below, crate::proofs::Lasts::last_edge_below))]
 pub(crate) fn edge_below_last(marks: Marks, mark: Mark) -> bool
     requires { length marks.points.now ≡ length marks.bandwidths.now }
     ensures { result ≡ edge_below_last marks.entry.points.now marks.entry.bandwidths.now mark }
 {
-    let Some(point) = marks.points.last() else {
-        return false;
-    };
-    let Some(bandwidth) = marks.bandwidths.last() else {
-        return false;
-    };
-    let before = Mark {
-        point: *point,
-        bandwidth: *bandwidth,
-    };
-    edge_below(mark, before)
+    let last = marks.points.last().zip(marks.bandwidths.last());
+    last.is_some_and(|(point, bandwidth)| {
+        let before = Mark {
+            point: *point,
+            bandwidth: *bandwidth,
+        };
+        edge_below(mark, before)
+    })
 }
 
 // What the line of a mark at byte `place` earns after these marks: 5, 9, 10, 6.
@@ -63,9 +57,9 @@ pub(crate) fn point_fault(marks: Marks, mark: Mark, place: usize) -> Result<(), 
     Ok(())
 }
 
-// Stores the mark of a line's text, which begins at byte `place`, behind the first `count`, or says what the line earns. Text and place stay two, since
-// one is looked at and the other only told. The two lists stay parameters of their own: in a struct
-// of lent lists each contract would name the loan of each list once more, and its length.
+// Stores the mark of a line's text, which begins at byte `place`, behind the first `count`, or says what the line earns. Text and place stay two, since one is
+// looked at and the other only told. The two lists stay parameters of their own: in a struct of lent lists each contract would name the loan of each list once
+// more.
 #[tactic(auto, using(crate::proofs::Lasts::point_room))]
 pub(crate) fn store_point(
     text: &[u8],

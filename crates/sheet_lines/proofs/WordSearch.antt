@@ -9,7 +9,7 @@ use Rattle.std.proofs.Common.{take_all}
 use native.Mathlib.Omega.{arith}
 use native.Mathlib.Nat.{add-zero}
 use borrow.Author.Tests.{leb-true, ltb-true, ltb-false, lt-ltb, le-ltb}
-use lib.Count.{count_trailing_zeros, trailing_le}
+use lib.Count.{count_trailing_zeros}
 use lib.Dec.{leb, ltb, eqb}
 use lib.ListN.{length, get_or, drop, length-drop, drop_of_length-le}
 use lib.Seq.{drop-cons}
@@ -46,9 +46,6 @@ eight s p w e = by (leb (p + 8) (length s)) refl e
     by : (b : Bool) → leb (p + 8) (length s) ≡ b → Some w ≡ pick b (Some (word (λ k. get_or s (p + k) 0) 8)) None → Eight s p w
     by true h e = record { within = leb-true (p + 8) (length s) h; value = cc }
     by false h e = let z : ◌≡◌ {A = ℕ} 0 1 = cc in absurd (omega arith)
-
-pub place_fits : (bits : ℕ) → count_trailing_zeros 64 bits / 8 < 18446744073709551616
-place_fits bits = omega (arith, trailing_le 64 bits)
 
 module _ (s : List ℕ) (p : ℕ) {w : ℕ} (word-given : Some w ≡ word_at s p) where
   eight_given : Eight s p w

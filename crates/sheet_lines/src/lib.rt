@@ -1,4 +1,6 @@
-// The lines of the tank sheet: where a line ends, and whether its text is a given one. Every function takes every input.
+// The lines of the tank sheet: where a line ends, and whether its text is a given one. Every function takes every input. The sheet and a place in it stay two
+// parameters, here and in all that reads it by lines: a part of the sheet would lose the place that a report names. The clauses of the stages name the byte at
+// which each begins; of a cursor, lent to be moved, each would name it before and after.
 #![tactic(auto)]
 
 ghost use Rattle.std.specs.Prelude.{◌≡◌, ◌<◌, ◌==◌, length, position};

@@ -40,8 +40,9 @@ pub(crate) fn second_header(sheet: &[u8], from: usize) -> Option<Names>
     })
 }
 
-// From the second header line at byte `from` on, into lists of any lengths, which stay apart as C lends them.
-// What they hold after a refusal is left open: they are a reader's own.
+// From the second header line at byte `from` on, into lists of any lengths. What they hold after a refusal is left open: they are a reader's own. The three
+// stay parameters of their own for the reason at store_reading of `sheet_readings`.
+#[tactic(auto, unfolding(crate::specs::Stages::named_call, sheet_readings::specs::Stages::readings_call))]
 pub fn read_named(
     sheet: &[u8],
     from: usize,

@@ -9,21 +9,15 @@ use lib.Seq.{length-take-le}
 use Rattle.meanings.specs.declared.Refusal.{Refusal}
 use Rattle.meanings.specs.Limits.{full}
 use Rattle.meanings.specs.Reports.{refused}
-use Rattle.std.specs.Prelude.{Result, Ok, Err}
+use Rattle.std.specs.Prelude.{Ok, Err}
 use Rattle.meanings_ranges.specs.declared.RangeCounts.{RangeCounts}
 use Rattle.meanings_ranges.specs.RangeSheet.{read_either}
 use Rattle.meanings_ranges.specs.RangeCalls.{read_ranges}
 use Rattle.list_fronts.specs.Copied.{copied}
 use Rattle.list_fronts.proofs.Copies.{copied_front, copied_part}
-use Rattle.sheet_scan.specs.Stages.{uneven_reader, EitherScanned, ScanOutcome}
-use Rattle.sheet_scan.proofs.Scans.{minutes_off, lows_off, highs_off, points_off, bandwidths_off, all_even, same_read, scanned_of_call}
-use Rattle.sheet_ranges.specs.Stages.{FullLists, ReadInto}
-
--- a sheet read into lists of full length
-pub scanned_whole : {s ts₀ ls₀ us₀ zs₀ hs₀ ts ls us zs hs : List ℕ} {r : Result RangeCounts Refusal} → ScanOutcome s ts₀ ls₀ us₀ zs₀ hs₀ r ts ls us zs hs
-    → length ts₀ ≡ 1024 → length ls₀ ≡ 1024 → length us₀ ≡ 1024 → length zs₀ ≡ 512 → length hs₀ ≡ 512 → EitherScanned s r ts ls us zs hs
-scanned_whole {ts₀ = ts₀} {ls₀} {us₀} {zs₀} {hs₀} call x y z w v =
-    scanned_of_call (all_even (length ts₀) (length ls₀) (length us₀) (length zs₀) (length hs₀) x y z w v) call
+use Rattle.sheet_scan.specs.Stages.{uneven_reader, EitherScanned, FullLists}
+use Rattle.sheet_scan.proofs.Scans.{minutes_off, lows_off, highs_off, points_off, bandwidths_off, all_even, same_read}
+use Rattle.sheet_ranges.specs.Stages.{ReadInto}
 
 -- a list copied whole to the front of another
 abbrev pub whole : List ℕ → List ℕ → List ℕ

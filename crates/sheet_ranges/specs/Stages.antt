@@ -1,15 +1,11 @@
 -- What the reader of both kinds leaves in lists of the right lengths, as one record.
-use Rattle.std.specs.Prelude.{ℕ, ◌≡◌, List, length, Result}
+use Rattle.std.specs.Prelude.{ℕ, ◌≡◌, List, Result}
 use Rattle.meanings.specs.Limits.{full}
 use Rattle.meanings.specs.declared.Refusal.{Refusal}
 use Rattle.meanings.specs.Calls.{answer_of}
 use Rattle.meanings_ranges.specs.declared.RangeCounts.{RangeCounts}
 use Rattle.meanings_ranges.specs.RangeSheet.{read_either}
 use Rattle.meanings_ranges.specs.RangeCalls.{range_counts, range_front, minutes_of, lows_of, highs_of, points_of, bandwidths_of}
-
--- the reader's own lists have their lengths
-abbrev pub FullLists : List ℕ → List ℕ → List ℕ → List ℕ → List ℕ → Type 0
-FullLists ts ls us zs hs = (length ts ≡ 1024) × (length ls ≡ 1024) × (length us ≡ 1024) × (length zs ≡ 512) × (length hs ≡ 512)
 
 -- the sheet read into lists of the right lengths, which hold what the meaning says afterwards
 pub record ReadInto (s ts ls us zs hs : List ℕ) (r : Result RangeCounts Refusal) (ts' ls' us' zs' hs' : List ℕ) : Type 0 where

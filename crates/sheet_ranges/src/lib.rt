@@ -6,41 +6,12 @@ ghost use Rattle.meanings.specs.Limits.{full};
 ghost use Rattle.meanings.specs.Calls.{answer_of};
 ghost use Rattle.meanings_ranges.specs.RangeCalls.{range_counts, range_front, read_ranges, minutes_of, lows_of};
 ghost use Rattle.meanings_ranges.specs.RangeCalls.{highs_of, points_of, bandwidths_of};
-ghost use Rattle.sheet_scan.specs.Stages.{EitherScanned};
-ghost use Rattle.sheet_ranges.specs.Stages.{FullLists, ReadInto};
+ghost use Rattle.sheet_ranges.specs.Stages.{ReadInto};
 
 use meanings::{Marks, Refusal, Report};
-use meanings_ranges::RangeCounts;
+use meanings_ranges::{RangeCounts, Ranges};
 use range_fronts::{put_points, put_samples};
-use sheet_scan::scan_sheet;
-
-// The reader's own lists, which a sheet is read into before the lent ones are written. Beside those of `sheet`: one reader for both kinds would take a
-// third list of 1,024 numbers from the stack of the plain one.
-#[derive(Drop)]
-pub(crate) struct SheetLists {
-    pub minutes: [u16; 1024],
-    pub lows: [u16; 1024],
-    pub highs: [u16; 1024],
-    pub points: [u16; 512],
-    pub bandwidths: [u32; 512],
-}
-
-impl SheetLists {
-    // Reads the sheet into these lists. What they hold after a refusal is left open.
-    pub(crate) fn scan(&mut self, sheet: &[u8]) -> Result<RangeCounts, Refusal>
-        ensures scanned { EitherScanned sheet.now result self.new.minutes self.new.lows self.new.highs self.new.points self.new.bandwidths }
-        ensures lengths { FullLists self.new.minutes self.new.lows self.new.highs self.new.points self.new.bandwidths }
-    {
-        scan_sheet(
-            sheet,
-            &mut self.minutes,
-            &mut self.lows,
-            &mut self.highs,
-            &mut self.points,
-            &mut self.bandwidths,
-        )
-    }
-}
+use sheet_scan::SheetLists;
 
 // Reads the sheet into lists of its own, so that a refusal leaves the lent ones as they were.
 pub(crate) fn read_into(
@@ -53,23 +24,15 @@ pub(crate) fn read_into(
 ) -> Result<RangeCounts, Refusal>
     ensures { ReadInto sheet.now minutes.old lows.old highs.old points.old bandwidths.old result minutes.new lows.new highs.new points.new bandwidths.new }
 {
-    let mut lists = SheetLists {
-        minutes: [0; 1024],
-        lows: [0; 1024],
-        highs: [0; 1024],
-        points: [0; 512],
-        bandwidths: [0; 512],
-    };
+    let mut lists = SheetLists::new();
     let used = lists.scan(sheet)?;
     let n = used.samples;
-    put_samples(
-        &lists.minutes[..n],
-        &lists.lows[..n],
-        &lists.highs[..n],
-        minutes,
-        lows,
-        highs,
-    );
+    let ranges = Ranges {
+        minutes: &lists.minutes[..n],
+        lows: &lists.lows[..n],
+        highs: &lists.highs[..n],
+    };
+    put_samples(ranges, minutes, lows, highs);
     let marks = Marks {
         points: &lists.points[..used.points],
         bandwidths: &lists.bandwidths[..used.points],

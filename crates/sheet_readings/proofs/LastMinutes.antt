@@ -1,27 +1,16 @@
 -- Of the lines before, only the last one's minute decides what the reading lines keep.
 use Prim.Native.Nat.{ℕ}
-use mathlib.Core.Path.{◌≡◌, refl, sym, ◌∙◌}
+use mathlib.Core.Path.{◌≡◌, refl}
 use mathlib.Core.List.{List, [], ◌∷◌, ◌++◌}
 use Rattle.std.specs.Prelude.{Option, None, Some, IsSome}
 use Rattle.sheet_values.specs.LineValues.{minute_before}
+use Rattle.sheet_values.proofs.LastMinutes.{Alike, alike_behind}
 use native.Mathlib.Omega.{arith}
-use lib.Dec.{ltb}
-use lib.ListN.{length}
 use Rattle.meanings.specs.declared.Limits.{Limits}
-use Rattle.meanings.specs.Reports.{decreases}
 use Rattle.meanings.specs.Sheet.{Lines, end, unended, line, next_place, add_kept}
 use Rattle.meanings_ranges.specs.declared.Kind.{Kind}
 use Rattle.meanings_ranges.specs.RangeSheet.{Readings, RangeInjection, kept_range, reading_line, with_reading, read_readings}
 use Rattle.sheet_readings.specs.Stages.{kept_readings}
-
--- two lists of minutes that any next minute falls below alike
-abbrev Alike : List ℕ → List ℕ → Type 0
-Alike a b = (y : ℕ) → decreases (a ++ y ∷ []) (length a) ≡ decreases (b ++ y ∷ []) (length b)
-
-last_decides : (xs : List ℕ) (m y : ℕ) → decreases ((xs ++ m ∷ []) ++ y ∷ []) (length (xs ++ m ∷ [])) ≡ ltb y m
-last_decides [] m y = refl
-last_decides (a ∷ []) m y = refl
-last_decides (a ∷ b ∷ r) m y = last_decides (b ∷ r) m y
 
 -- the same readings with other minutes of all lines
 abbrev after : List ℕ → List ℕ → List ℕ → List ℕ → Readings
@@ -33,7 +22,7 @@ alike_lines L k p a b ts ls us end e = refl
 alike_lines L k p a b ts ls us (unended t) e = refl
 alike_lines L k p a b ts ls us (line t d r) e =
     by (reading_line k t)
-    (λ m ts' ls' us'. alike_lines L k q (a ++ m ∷ []) (b ++ m ∷ []) ts' ls' us' r (λ y. last_decides a m y ∙ sym (last_decides b m y)))
+    (λ m ts' ls' us'. alike_lines L k q (a ++ m ∷ []) (b ++ m ∷ []) ts' ls' us' r (alike_behind a b m))
   where
     q : ℕ
     q = next_place p t d
@@ -54,4 +43,4 @@ alike_lines L k p a b ts ls us (line t d r) e =
 pub last_minute : (L : Limits) (k : Kind) (p : ℕ) (before : List ℕ) (o : Option ℕ) (ts ls us : List ℕ) (r : Lines) → IsSome o
     → read_readings L k p (after (before ++ minute_before o) ts ls us) r kept_readings ≡ read_readings L k p (after (minute_before o) ts ls us) r kept_readings
 last_minute L k p before None ts ls us r e = let z : ◌≡◌ {A = ℕ} 0 1 = cc in absurd (omega arith)
-last_minute L k p before (Some m) ts ls us r e = alike_lines L k p (before ++ m ∷ []) (m ∷ []) ts ls us r (λ y. last_decides before m y)
+last_minute L k p before (Some m) ts ls us r e = alike_lines L k p (before ++ m ∷ []) (m ∷ []) ts ls us r (alike_behind before [] m)

@@ -1,15 +1,14 @@
--- The reading lines, line by line: what is left of their meaning after those read so far; and the call from it.
+-- The reading lines, line by line: what is left of their meaning after those read so far.
 use Prim.Native.Nat.{ℕ, ◌-◌, ◌≤◌, ◌<◌}
 use mathlib.Core.Path.{◌≡◌, refl, sym, ap, ◌∙◌}
 use mathlib.Core.List.{List}
-use Rattle.std.specs.Prelude.{Result, Some, None, Ok, Err}
+use Rattle.std.specs.Prelude.{Some, None, Ok, Err}
 use native.Mathlib.Omega.{arith}
 use lib.ListN.{length, take, drop, drop_of_length-le, length-drop}
-use Rattle.meanings.specs.declared.Report.TheVariants.{MalformedLine, LengthMismatch}
+use Rattle.meanings.specs.declared.Report.TheVariants.{MalformedLine}
 use Rattle.meanings.specs.declared.Refusal.{Refusal}
 use Rattle.meanings.specs.Limits.{full}
 use Rattle.meanings.specs.Sheet.{Lines, end, unended, line, lines, refused_at}
-use Rattle.meanings.proofs.Checks.{differ_same, differ_true}
 use Rattle.laws_text.proofs.Texts.{no_lines}
 use Rattle.meanings_ranges.specs.declared.Kind.{Kind}
 use Rattle.meanings_ranges.specs.RangeSheet.{Readings, no_readings, reading_line, with_reading, read_readings}
@@ -17,8 +16,8 @@ use Rattle.sheet_lines.specs.declared.Line.{Line}
 use Rattle.sheet_lines.specs.Lines.{first_end, line_at}
 use Rattle.sheet_lines.proofs.LineEnds.{LineFound, ended_line, text_begins, text_within, line_shortens}
 use Rattle.sheet_values.specs.LineValues.{minute_before}
-use Rattle.sheet_readings.specs.declared.Progress.{Progress}
-use Rattle.sheet_readings.specs.Stages.{read_so_far, kept_readings, ReadingTried, ReadingsFound, readings_call, ReadingsOutcome}
+use Rattle.sheet_values.specs.declared.Progress.{Progress}
+use Rattle.sheet_readings.specs.Stages.{read_so_far, kept_readings, ReadingTried, ReadingsFound}
 use Rattle.sheet_readings.proofs.LastMinutes.{last_minute}
 
 readings_without_line : (s : List ℕ) (k : Kind) (p : ℕ) (w : Readings) → p < length s → line_at s p ≡ None
@@ -70,27 +69,6 @@ module _ {s : List ℕ} {from : ℕ} {k : Kind} {ts ls us : List ℕ} {p : ℕ} 
               ∙ last_minute full k l.next (minute_before f.last) g.last (take g.count ts') (take g.count ls') (take g.count us')
               (lines (drop l.next s)) tried.within.1;
         }
-
--- the lengths of the lists, tested
-module _ {s : List ℕ} {from : ℕ} {k : Kind} {ts ls us : List ℕ} {a b c : ℕ} where
-  pub minutes_uneven : {r : Refusal} → ¬ (a ≡ 1024) → r ≡ (record { report = LengthMismatch; place = 0 }) → ReadingsOutcome s from k a b c (Err r) ts ls us
-  unfolding readings_call
-  minutes_uneven d e = record { outcome = rw (differ_true a 1024 d, e); within = tt }
-
-  module _ (x : a ≡ 1024) where
-    pub lows_uneven : {r : Refusal} → ¬ (b ≡ 1024) → r ≡ (record { report = LengthMismatch; place = 0 }) → ReadingsOutcome s from k a b c (Err r) ts ls us
-    unfolding readings_call
-    lows_uneven d e = record { outcome = rw (differ_same a 1024 x, differ_true b 1024 d, e); within = tt }
-
-    module _ (y : b ≡ 1024) where
-      pub highs_uneven : {r : Refusal} → ¬ (c ≡ 1024) → r ≡ (record { report = LengthMismatch; place = 0 }) → ReadingsOutcome s from k a b c (Err r) ts ls us
-      unfolding readings_call
-      highs_uneven d e = record { outcome = rw (differ_same a 1024 x, differ_same b 1024 y, differ_true c 1024 d, e); within = tt }
-
-      pub even_outcome : {r : Result ℕ Refusal} → c ≡ 1024 → ReadingsFound s from k r ts ls us → ReadingsOutcome s from k a b c r ts ls us
-      unfolding readings_call
-      even_outcome z f =
-          record { outcome = rw (differ_same a 1024 x, differ_same b 1024 y, differ_same c 1024 z) f.outcome; within = f.within }
 
 -- what reading the lines goes by
 pub ruleset reading_lines = (readings_begin, readings_end, text_begins, text_within, line_shortens)

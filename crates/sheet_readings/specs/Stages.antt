@@ -1,6 +1,6 @@
 -- What the reading lines have given, as what is left of their meaning: a contract says that the meaning before a stage is the meaning of what the
 -- stage gives. Each contract is one record.
-use Rattle.std.specs.Prelude.{ℕ, ◌≤◌, ◌≡◌, ◌||◌, List, [], ◌∷◌, ◌++◌, take, drop, IsSome}
+use Rattle.std.specs.Prelude.{ℕ, ◌≤◌, ◌≡◌, ◌||◌, List, [], ◌∷◌, ◌++◌, take, drop}
 use Rattle.std.specs.Prelude.{Option, Result, Ok, Err}
 use Rattle.meanings.specs.declared.Limits.{Limits}
 use Rattle.meanings.specs.declared.Refusal.{Refusal}
@@ -10,8 +10,8 @@ use Rattle.meanings.specs.Sheet.{lines, or_next}
 use Rattle.meanings_ranges.specs.declared.Kind.{Kind}
 use Rattle.meanings_ranges.specs.RangeSheet.{Readings, no_readings, reading_line, with_reading}
 use Rattle.meanings_ranges.specs.RangeSheet.{read_readings as read_readings_meaning}
-use Rattle.sheet_values.specs.LineValues.{minute_before}
-use Rattle.sheet_readings.specs.declared.Progress.{Progress}
+use Rattle.sheet_values.specs.declared.Progress.{Progress}
+use Rattle.sheet_values.specs.LineValues.{minute_before, stored_within}
 
 -- of all lines their minutes ms, and the first n of three lists
 abbrev pub read_so_far : List ℕ → ℕ → List ℕ → List ℕ → List ℕ → Readings
@@ -30,11 +30,6 @@ kept_readings r = given (record { minutes = r.minutes; lows = r.lows; highs = r.
 abbrev pub reading_stored : Result Progress Refusal → List ℕ → List ℕ → List ℕ → List ℕ → (Readings → Answer KeptReadings) → Answer KeptReadings
 reading_stored (Ok w) before ts ls us next = next (read_so_far (before ++ minute_before w.last) w.count ts ls us)
 reading_stored (Err r) before ts ls us next = refused (fault_of r)
-
--- then there is a line before, and no more readings than there may be
-abbrev pub stored_within : Result Progress Refusal → Type 0
-stored_within (Ok w) = (w.count ≤ 1024) × IsSome w.last
-stored_within (Err r) = Unit {0}
 
 -- a reading line with text t at byte p, after the first readings of three lists, as many as w says, which are ts', ls' and us' afterwards
 pub record ReadingTried (k : Kind) (t : List ℕ) (p : ℕ) (ts ls us : List ℕ) (w : Progress) (r : Result Progress Refusal) (ts' ls' us' : List ℕ) : Type 0 where

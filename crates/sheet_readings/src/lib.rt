@@ -1,4 +1,4 @@
-// The reading lines of a sheet of either kind. Every public function takes every input.
+// The reading lines of a sheet of either kind. Every public function takes every input. Beside crates/sheet_samples, for the reason there.
 #![tactic(auto)]
 
 ghost use Rattle.std.specs.Prelude.{◌≤◌, length};
@@ -7,18 +7,11 @@ ghost use Rattle.sheet_readings.specs.Stages.{ReadingTried, ReadingsFound, Readi
 use meanings::{Refusal, Report};
 use meanings_ranges::Kind;
 use range_values::reading_line;
-use sheet_values::early;
+use sheet_values::{Progress, early};
 
-// How far the reading lines are read: how many readings are kept, and the minute of the line before, if there is one. Beside Progress of
-// `sheet_samples`, for the reason there.
-#[derive(Clone, Copy, Debug, PartialEq, Eq)]
-pub(crate) struct Progress {
-    pub count: usize,
-    pub last: Option<u16>,
-}
-
-// Stores the reading of a line's text behind those that are kept, if it is kept too, or says what the line earns: 3, 4, 15, 6. The three lists stay
-// parameters of their own: in a struct of lent lists each contract would name the loan of each list once more, and its length.
+// Stores the reading of a line's text, which begins at byte `place`, behind those that are kept, if it is kept too, or says what the line earns: 3, 4, 15, 6.
+// Text and place stay two, since one is looked at and the other only told. The three lists stay parameters of their own: in a struct of lent lists each
+// contract would name the loan of each list once more.
 pub(crate) fn store_reading(
     kind: Kind,
     text: &[u8],
@@ -85,7 +78,7 @@ pub(crate) fn scan_readings(
 }
 
 // The same for lists of any lengths. What the lists hold after a refusal is left open: they are a reader's own.
-#[tactic(auto, using(crate::proofs::ReadingLoop::minutes_uneven, crate::proofs::ReadingLoop::lows_uneven, crate::proofs::ReadingLoop::highs_uneven, crate::proofs::ReadingLoop::even_outcome))]
+#[tactic(auto, unfolding(crate::specs::Stages::readings_call), using(meanings::proofs::Checks::differ_same, meanings::proofs::Checks::differ_true))]
 pub fn read_readings(
     sheet: &[u8],
     from: usize,
@@ -96,14 +89,9 @@ pub fn read_readings(
 ) -> Result<usize, Refusal>
     ensures { ReadingsOutcome sheet.now from kind (length minutes.old) (length lows.old) (length highs.old) result minutes.new lows.new highs.new }
 {
-    let Some(minutes) = minutes.as_mut_array() else {
-        return Err(Report::LengthMismatch.at(0));
-    };
-    let Some(lows) = lows.as_mut_array() else {
-        return Err(Report::LengthMismatch.at(0));
-    };
-    let Some(highs) = highs.as_mut_array() else {
-        return Err(Report::LengthMismatch.at(0));
-    };
+    let uneven = Report::LengthMismatch.at(0);
+    let minutes = minutes.as_mut_array().ok_or(uneven)?;
+    let lows = lows.as_mut_array().ok_or(uneven)?;
+    let highs = highs.as_mut_array().ok_or(uneven)?;
     scan_readings(sheet, from, kind, minutes, lows, highs)
 }

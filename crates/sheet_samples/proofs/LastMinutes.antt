@@ -1,31 +1,20 @@
 -- Of the lines before, only the last one's minute decides what the reading lines give.
 use Prim.Native.Nat.{ℕ}
-use mathlib.Core.Path.{◌≡◌, refl, sym, ◌∙◌}
+use mathlib.Core.Path.{◌≡◌, refl}
 use mathlib.Core.List.{List, [], ◌∷◌, ◌++◌}
 use Rattle.std.specs.Prelude.{Option, None, Some, IsSome}
 use Rattle.sheet_values.specs.LineValues.{minute_before}
+use Rattle.sheet_values.proofs.LastMinutes.{Alike, alike_behind}
 use native.Mathlib.Omega.{arith}
-use lib.Dec.{ltb}
-use lib.ListN.{length}
 use Rattle.meanings.specs.declared.Limits.{Limits}
-use Rattle.meanings.specs.Reports.{decreases}
 use Rattle.meanings.specs.Sheet.{Lines, end, unended, line, next_place, Injection, kept, add_kept, sample_line, with_sample, read_samples}
-
--- two lists of minutes that any next minute falls below alike
-abbrev Alike : List ℕ → List ℕ → Type 0
-Alike a b = (y : ℕ) → decreases (a ++ y ∷ []) (length a) ≡ decreases (b ++ y ∷ []) (length b)
-
-last_decides : (xs : List ℕ) (m y : ℕ) → decreases ((xs ++ m ∷ []) ++ y ∷ []) (length (xs ++ m ∷ [])) ≡ ltb y m
-last_decides [] m y = refl
-last_decides (a ∷ []) m y = refl
-last_decides (a ∷ b ∷ r) m y = last_decides (b ∷ r) m y
 
 alike_lines : (L : Limits) (zs hs : List ℕ) (p : ℕ) (a b ts vs : List ℕ) (ls : Lines) → Alike a b
     → read_samples L zs hs p a ts vs ls ≡ read_samples L zs hs p b ts vs ls
 alike_lines L zs hs p a b ts vs end e = refl
 alike_lines L zs hs p a b ts vs (unended t) e = refl
 alike_lines L zs hs p a b ts vs (line t d ls) e =
-    by (sample_line t) (λ m ts' vs'. alike_lines L zs hs q (a ++ m ∷ []) (b ++ m ∷ []) ts' vs' ls (λ y. last_decides a m y ∙ sym (last_decides b m y)))
+    by (sample_line t) (λ m ts' vs'. alike_lines L zs hs q (a ++ m ∷ []) (b ++ m ∷ []) ts' vs' ls (alike_behind a b m))
   where
     q : ℕ
     q = next_place p t d
@@ -40,4 +29,4 @@ alike_lines L zs hs p a b ts vs (line t d ls) e =
 pub last_minute : (L : Limits) (zs hs : List ℕ) (p : ℕ) (before : List ℕ) (o : Option ℕ) (ts vs : List ℕ) (ls : Lines) → IsSome o
     → read_samples L zs hs p (before ++ minute_before o) ts vs ls ≡ read_samples L zs hs p (minute_before o) ts vs ls
 last_minute L zs hs p before None ts vs ls e = let z : ◌≡◌ {A = ℕ} 0 1 = cc in absurd (omega arith)
-last_minute L zs hs p before (Some m) ts vs ls e = alike_lines L zs hs p (before ++ m ∷ []) (m ∷ []) ts vs ls (λ y. last_decides before m y)
+last_minute L zs hs p before (Some m) ts vs ls e = alike_lines L zs hs p (before ++ m ∷ []) (m ∷ []) ts vs ls (alike_behind before [] m)

@@ -4,20 +4,20 @@ use mathlib.Core.Path.{◌≡◌, refl, sym, ◌∙◌}
 use mathlib.Core.List.{List, []}
 use native.Mathlib.Omega.{arith}
 use lib.ListN.{length, take, drop, drop_of_length-le}
-use Rattle.meanings.specs.declared.Report.TheVariants.{BadHeader, MalformedLine, LengthMismatch}
+use Rattle.meanings.specs.declared.Report.TheVariants.{MalformedLine}
 use Rattle.meanings.specs.declared.Refusal.{Refusal}
 use Rattle.std.specs.Prelude.{Result, Some, None, Ok, Err}
 use Rattle.meanings.specs.Limits.{full}
 use Rattle.meanings.specs.Bytes.{sample_header}
 use Rattle.meanings.specs.Sheet.{lines, header, read_samples}
-use Rattle.meanings.proofs.Checks.{differ_same, differ_true}
+use Rattle.meanings.proofs.Checks.{differ_same}
 use Rattle.sheet_lines.specs.declared.Line.{Line}
 use Rattle.sheet_lines.specs.Lines.{line_at}
 use Rattle.sheet_lines.proofs.LineEnds.{ended_line, text_begins, text_within, line_shortens}
 use Rattle.sheet_values.specs.LineValues.{minute_before}
-use Rattle.sheet_samples.specs.declared.Progress.{Progress}
+use Rattle.sheet_values.specs.declared.Progress.{Progress}
 use Rattle.sheet_front.specs.Stages.{HeaderTried}
-use Rattle.sheet_front.proofs.LineSteps.{header_goes_on, header_stops}
+use Rattle.sheet_front.proofs.LineSteps.{header_goes_on}
 use Rattle.sheet_samples.specs.Stages.{SampleTried, samples_read, SamplesFound, samples_call, SamplesOutcome}
 use Rattle.sheet_samples.proofs.LineSteps.{samples_without_line, samples_at_line}
 use Rattle.sheet_samples.proofs.LastMinutes.{last_minute}
@@ -60,32 +60,12 @@ module _ {s : List ℕ} {from : ℕ} {ts vs : List ℕ} {p : ℕ} {f : Progress}
               tried.within.1;
         }
 
--- the call: the lengths of the lists, tested, and then the header line before the reading lines
-module _ {s : List ℕ} {from : ℕ} {ts vs : List ℕ} {a b : ℕ} where
-  pub minutes_uneven : {r : Refusal} → ¬ (a ≡ 1024) → r ≡ (record { report = LengthMismatch; place = 0 }) → SamplesOutcome s from a b (Err r) ts vs
-  unfolding samples_call
-  minutes_uneven d e = record { outcome = λ zs hs. rw (differ_true a 1024 d, e); within = tt }
-
-  module _ (x : a ≡ 1024) where
-    pub values_uneven : {r : Refusal} → ¬ (b ≡ 1024) → r ≡ (record { report = LengthMismatch; place = 0 }) → SamplesOutcome s from a b (Err r) ts vs
-    unfolding samples_call
-    values_uneven d e = record { outcome = λ zs hs. rw (differ_same a 1024 x, differ_true b 1024 d, e); within = tt }
-
-    module _ (y : b ≡ 1024) where
-      pub no_sample_header : {r : Refusal} → HeaderTried sample_header s from None → r ≡ (record { report = BadHeader; place = from })
-          → SamplesOutcome s from a b (Err r) ts vs
-      unfolding samples_call
-      no_sample_header tried e =
-          record { outcome = λ zs hs. rw (differ_same a 1024 x, differ_same b 1024 y, e) (header_stops _ tried); within = tt }
-
-      pub samples_after_header : {p : ℕ} {r : Result ℕ Refusal} → HeaderTried sample_header s from (Some p) → SamplesFound s p r ts vs
-          → SamplesOutcome s from a b r ts vs
-      unfolding samples_call
-      samples_after_header tried g =
-          record {
-            outcome = λ zs hs. rw (differ_same a 1024 x, differ_same b 1024 y) (header_goes_on _ tried ∙ g.outcome zs hs);
-            within = g.within;
-          }
+-- the call with lists of full length, behind the header line
+pub samples_after_header : {s : List ℕ} {from : ℕ} {ts vs : List ℕ} {a b p : ℕ} {r : Result ℕ Refusal} → a ≡ 1024 → b ≡ 1024
+    → HeaderTried sample_header s from (Some p) → SamplesFound s p r ts vs → SamplesOutcome s from a b r ts vs
+unfolding samples_call
+samples_after_header {a = a} {b = b} x y tried g =
+    record { outcome = λ zs hs. rw (differ_same a 1024 x, differ_same b 1024 y) (header_goes_on _ tried ∙ g.outcome zs hs); within = g.within }
 
 -- the call with lists of full length says what the sheet is from there on
 module _ {s : List ℕ} {from : ℕ} {ts vs : List ℕ} {a b : ℕ} {r : Result ℕ Refusal} (call : SamplesOutcome s from a b r ts vs) where

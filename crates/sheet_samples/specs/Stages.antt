@@ -1,24 +1,19 @@
 -- What the reading lines have given, as what is left of the sheet's meaning: a contract says that the meaning before a stage is the meaning of
 -- what the stage gives. Each contract is one record; what goes on after a stage stands in it for every way to go on.
-use Rattle.std.specs.Prelude.{ℕ, ◌≤◌, ◌≡◌, ◌||◌, List, [], ◌∷◌, ◌++◌, take, drop, IsSome, Result, Ok, Err}
+use Rattle.std.specs.Prelude.{ℕ, ◌≤◌, ◌≡◌, ◌||◌, List, [], ◌∷◌, ◌++◌, take, drop, Result, Ok, Err}
 use Rattle.meanings.specs.declared.Limits.{Limits}
 use Rattle.meanings.specs.declared.Refusal.{Refusal}
 use Rattle.meanings.specs.Limits.{full}
 use Rattle.meanings.specs.Bytes.{sample_header}
 use Rattle.meanings.specs.Reports.{given, refused, fault_of, check, at, first_of, differ}
 use Rattle.meanings.specs.Sheet.{lines, Outcome, or_next, header, sample_line, with_sample, read_samples}
-use Rattle.sheet_values.specs.LineValues.{minute_before}
-use Rattle.sheet_samples.specs.declared.Progress.{Progress}
+use Rattle.sheet_values.specs.declared.Progress.{Progress}
+use Rattle.sheet_values.specs.LineValues.{minute_before, stored_within}
 
 -- after a reading line behind lines with these minutes
 abbrev pub sample_stored : Result Progress Refusal → List ℕ → List ℕ → List ℕ → (List ℕ → List ℕ → List ℕ → Outcome) → Outcome
 sample_stored (Ok w) before ts vs next = next (before ++ minute_before w.last) (take w.count ts) (take w.count vs)
 sample_stored (Err r) before ts vs next = refused (fault_of r)
-
--- then there is a line before, and no more readings than there may be
-abbrev pub stored_within : Result Progress Refusal → Type 0
-stored_within (Ok w) = (w.count ≤ 1024) × IsSome w.last
-stored_within (Err r) = Unit {0}
 
 -- a reading line with text t at byte p, after the first readings of ts and vs, as many as w says, which are ts' and vs' afterwards
 pub record SampleTried (t : List ℕ) (p : ℕ) (ts vs : List ℕ) (w : Progress) (r : Result Progress Refusal) (ts' vs' : List ℕ) : Type 0 where

@@ -1,4 +1,6 @@
-// The second header line of the tank sheet and the reading lines behind it. Every public function takes every input.
+// The second header line of the tank sheet and the reading lines behind it. Every public function takes every input. What reads the lines stands beside
+// that of crates/sheet_readings: one with the lists of both kinds would take a third list of 1,024 numbers from the stack of the plain reader; one over a
+// trait for the lists would need that trait, two impls and their laws, and each clause would say by it what the lists hold.
 #![tactic(auto)]
 
 ghost use Rattle.std.specs.Prelude.{◌≤◌, length};
@@ -6,18 +8,11 @@ ghost use Rattle.sheet_samples.specs.Stages.{SampleTried, SamplesFound, SamplesO
 
 use meanings::{Refusal, Report};
 use sheet_front::skip_header;
-use sheet_values::early;
+use sheet_values::{Progress, early};
 
-// How far the reading lines are read: how many readings are kept, and the minute of the line before, if there is one. What reads them stands beside
-// that of crates/sheet_readings: one for both kinds would take a third list of 1,024 numbers from the stack of the plain reader.
-#[derive(Clone, Copy, Debug, PartialEq, Eq)]
-pub(crate) struct Progress {
-    pub count: usize,
-    pub last: Option<u16>,
-}
-
-// Stores the reading of a line's text behind those that are kept, if it is kept too, or says what the line earns: 3, 4, 6. The two lists stay
-// parameters of their own: in a struct of lent lists each contract would name the loan of each list once more, and its length.
+// Stores the reading of a line's text, which begins at byte `place`, behind those that are kept, if it is kept too, or says what the line earns: 3, 4, 6. Text
+// and place stay two, since one is looked at and the other only told. The two lists stay parameters of their own: in a struct of lent lists each contract would
+// name the loan of each list once more.
 pub(crate) fn store_sample(
     text: &[u8],
     place: usize,
@@ -75,8 +70,9 @@ pub(crate) fn scan_samples(
     Ok(so_far.count)
 }
 
-// The second header line at byte `from` and the reading lines behind it, into lists of any lengths. What the lists hold after a refusal is left
-// open: they are a reader's own.
+// The second header line at byte `from` and the reading lines behind it, into lists of any lengths. What the lists hold after a refusal is left open: they are
+// a reader's own.
+#[tactic(auto, unfolding(crate::specs::Stages::samples_call), using(meanings::proofs::Checks::differ_same, meanings::proofs::Checks::differ_true, sheet_front::proofs::LineSteps::header_stops))]
 pub fn read_samples(
     sheet: &[u8],
     from: usize,
@@ -85,12 +81,9 @@ pub fn read_samples(
 ) -> Result<usize, Refusal>
     ensures { SamplesOutcome sheet.now from (length minutes.old) (length values.old) result minutes.new values.new }
 {
-    let Some(minutes) = minutes.as_mut_array() else {
-        return Err(Report::LengthMismatch.at(0));
-    };
-    let Some(values) = values.as_mut_array() else {
-        return Err(Report::LengthMismatch.at(0));
-    };
+    let uneven = Report::LengthMismatch.at(0);
+    let minutes = minutes.as_mut_array().ok_or(uneven)?;
+    let values = values.as_mut_array().ok_or(uneven)?;
     let Some(first) = skip_header(sheet, from, b"minute,inj,vdk") else {
         return Err(Report::BadHeader.at(from));
     };

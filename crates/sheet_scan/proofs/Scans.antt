@@ -75,44 +75,11 @@ module _ (a b c d e : ℕ) where
           all_even v = rw (differ_same a 1024 x, differ_same b 1024 y, differ_same c 1024 z, differ_same d 512 w, differ_same e 512 v)
 
 module _ {s ts₀ ls₀ us₀ zs₀ hs₀ : List ℕ} where
-  uneven_outcome : uneven_reader full (length ts₀) (length ls₀) (length us₀) (length zs₀) (length hs₀) ≡ true → {r : Refusal} {ts ls us zs hs : List ℕ}
-      → r ≡ (record { report = LengthMismatch; place = 0 }) → ScanOutcome s ts₀ ls₀ us₀ zs₀ hs₀ (Err r) ts ls us zs hs
-  unfolding read_ranges
-  uneven_outcome e d = record { outcome = rw (e, d); within = tt }
-
-  even_outcome : {r : Result RangeCounts Refusal} {ts ls us zs hs : List ℕ}
-      → uneven_reader full (length ts₀) (length ls₀) (length us₀) (length zs₀) (length hs₀) ≡ false → EitherScanned s r ts ls us zs hs
-      → ScanOutcome s ts₀ ls₀ us₀ zs₀ hs₀ r ts ls us zs hs
-  even_outcome e x = record { outcome = same_read s ts₀ ls₀ us₀ zs₀ hs₀ e ∙ x.outcome; within = x.within }
-
-  pub minutes_uneven : ¬ (length ts₀ ≡ 1024)
-      → {r : Refusal} {ts ls us zs hs : List ℕ} → r ≡ (record { report = LengthMismatch; place = 0 }) → ScanOutcome s ts₀ ls₀ us₀ zs₀ hs₀ (Err r) ts ls us zs hs
-  minutes_uneven n d =
-      uneven_outcome (minutes_off (length ts₀) (length ls₀) (length us₀) (length zs₀) (length hs₀) n) d
-
-  pub lows_uneven : length ts₀ ≡ 1024 → ¬ (length ls₀ ≡ 1024)
-      → {r : Refusal} {ts ls us zs hs : List ℕ} → r ≡ (record { report = LengthMismatch; place = 0 }) → ScanOutcome s ts₀ ls₀ us₀ zs₀ hs₀ (Err r) ts ls us zs hs
-  lows_uneven x n d =
-      uneven_outcome (lows_off (length ts₀) (length ls₀) (length us₀) (length zs₀) (length hs₀) x n) d
-
-  pub highs_uneven : length ts₀ ≡ 1024 → length ls₀ ≡ 1024 → ¬ (length us₀ ≡ 1024)
-      → {r : Refusal} {ts ls us zs hs : List ℕ} → r ≡ (record { report = LengthMismatch; place = 0 }) → ScanOutcome s ts₀ ls₀ us₀ zs₀ hs₀ (Err r) ts ls us zs hs
-  highs_uneven x y n d =
-      uneven_outcome (highs_off (length ts₀) (length ls₀) (length us₀) (length zs₀) (length hs₀) x y n) d
-
-  pub points_uneven : length ts₀ ≡ 1024 → length ls₀ ≡ 1024 → length us₀ ≡ 1024 → ¬ (length zs₀ ≡ 512)
-      → {r : Refusal} {ts ls us zs hs : List ℕ} → r ≡ (record { report = LengthMismatch; place = 0 }) → ScanOutcome s ts₀ ls₀ us₀ zs₀ hs₀ (Err r) ts ls us zs hs
-  points_uneven x y z n d =
-      uneven_outcome (points_off (length ts₀) (length ls₀) (length us₀) (length zs₀) (length hs₀) x y z n) d
-
   pub bandwidths_uneven : length ts₀ ≡ 1024 → length ls₀ ≡ 1024 → length us₀ ≡ 1024 → length zs₀ ≡ 512 → ¬ (length hs₀ ≡ 512)
       → {r : Refusal} {ts ls us zs hs : List ℕ} → r ≡ (record { report = LengthMismatch; place = 0 }) → ScanOutcome s ts₀ ls₀ us₀ zs₀ hs₀ (Err r) ts ls us zs hs
+  unfolding read_ranges
   bandwidths_uneven x y z w n d =
-      uneven_outcome (bandwidths_off (length ts₀) (length ls₀) (length us₀) (length zs₀) (length hs₀) x y z w n) d
-
-  pub scan_outcome : length ts₀ ≡ 1024 → length ls₀ ≡ 1024 → length us₀ ≡ 1024 → length zs₀ ≡ 512 → length hs₀ ≡ 512
-      → {r : Result RangeCounts Refusal} {ts ls us zs hs : List ℕ} → EitherScanned s r ts ls us zs hs → ScanOutcome s ts₀ ls₀ us₀ zs₀ hs₀ r ts ls us zs hs
-  scan_outcome x y z w v o = even_outcome (all_even (length ts₀) (length ls₀) (length us₀) (length zs₀) (length hs₀) x y z w v) o
+      record { outcome = rw (bandwidths_off (length ts₀) (length ls₀) (length us₀) (length zs₀) (length hs₀) x y z w n, d); within = tt }
 
   pub scanned_of_call : {r : Result RangeCounts Refusal} {ts ls us zs hs : List ℕ}
       → uneven_reader full (length ts₀) (length ls₀) (length us₀) (length zs₀) (length hs₀) ≡ false

@@ -1,5 +1,5 @@
 -- What is left of the meaning of a sheet of either kind once it is read. Each contract is one record.
-use Rattle.std.specs.Prelude.{ℕ, ◌≤◌, ◌≡◌, Bool, ◌||◌, List, take, Result, Ok, Err}
+use Rattle.std.specs.Prelude.{ℕ, ◌≤◌, ◌≡◌, Bool, ◌||◌, List, length, take, replicate, Result, Ok, Err}
 use Rattle.meanings.specs.declared.Limits.{Limits}
 use Rattle.meanings.specs.Limits.{full}
 use Rattle.meanings.specs.Reports.{Answer, given, refused, fault_of, differ}
@@ -40,3 +40,14 @@ uneven_reader L a b c d e =
 pub record ScanOutcome (s ts₀ ls₀ us₀ zs₀ hs₀ : List ℕ) (r : Result RangeCounts Refusal) (ts ls us zs hs : List ℕ) : Type 0 where
   pub outcome : read_ranges full s ts₀ ls₀ us₀ zs₀ hs₀ ≡ either_read r ts ls us zs hs
   pub within : used_within r
+
+-- a reader's own lists, before a sheet is read into them, and their lengths
+pub record Zeros (ts ls us zs hs : List ℕ) : Type 0 where
+  pub minutes : ts ≡ replicate 1024 0
+  pub lows : ls ≡ replicate 1024 0
+  pub highs : us ≡ replicate 1024 0
+  pub points : zs ≡ replicate 512 0
+  pub bandwidths : hs ≡ replicate 512 0
+
+abbrev pub FullLists : List ℕ → List ℕ → List ℕ → List ℕ → List ℕ → Type 0
+FullLists ts ls us zs hs = (length ts ≡ 1024) × (length ls ≡ 1024) × (length us ≡ 1024) × (length zs ≡ 512) × (length hs ≡ 512)

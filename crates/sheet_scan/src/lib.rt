@@ -1,7 +1,7 @@
 // A sheet of either kind read into lists whose holder counts on them only once it is accepted. Every public function takes every input.
 #![tactic(auto)]
 
-ghost use Rattle.sheet_scan.specs.Stages.{EitherScanned, ScanOutcome};
+ghost use Rattle.sheet_scan.specs.Stages.{EitherScanned, FullLists, ScanOutcome, Zeros};
 
 use meanings::{Refusal, Report};
 use meanings_ranges::RangeCounts;
@@ -28,8 +28,9 @@ pub(crate) fn scan(
     })
 }
 
-// The same for lists of any lengths. What the lists hold after a refusal is left open: they are a reader's own. Each stays a parameter of its own: of
-// lists in a struct a contract would name what is left by the field's place.
+// The same for lists of any lengths. What the lists hold after a refusal is left open: they are a reader's own. Each stays a parameter of its own: in a
+// struct of lent lists the contract would name the loan of each list once more.
+#[tactic(auto, unfolding(meanings_ranges::specs::RangeCalls::read_ranges), using(meanings::proofs::Checks::differ_same, meanings::proofs::Checks::differ_true))]
 pub fn scan_sheet(
     sheet: &[u8],
     minutes: &mut [u16],
@@ -41,20 +42,51 @@ pub fn scan_sheet(
     ensures { ScanOutcome sheet.now minutes.old lows.old highs.old points.old bandwidths.old result minutes.new lows.new highs.new points.new bandwidths.new }
 {
     let uneven = Report::LengthMismatch.at(0);
-    let Some(minutes) = minutes.as_mut_array() else {
-        return Err(uneven);
-    };
-    let Some(lows) = lows.as_mut_array() else {
-        return Err(uneven);
-    };
-    let Some(highs) = highs.as_mut_array() else {
-        return Err(uneven);
-    };
-    let Some(points) = points.as_mut_array() else {
-        return Err(uneven);
-    };
-    let Some(bandwidths) = bandwidths.as_mut_array() else {
-        return Err(uneven);
-    };
+    let minutes = minutes.as_mut_array().ok_or(uneven)?;
+    let lows = lows.as_mut_array().ok_or(uneven)?;
+    let highs = highs.as_mut_array().ok_or(uneven)?;
+    let points = points.as_mut_array().ok_or(uneven)?;
+    let bandwidths = bandwidths.as_mut_array().ok_or(uneven)?;
     scan(sheet, minutes, lows, highs, points, bandwidths)
+}
+
+// Lists of full length of a reader's own. Beside those of `sheet`: one reader for both kinds would take a third list of 1,024 numbers from the stack of the
+// plain one.
+#[derive(Drop)]
+pub struct SheetLists {
+    pub minutes: [u16; 1024],
+    pub lows: [u16; 1024],
+    pub highs: [u16; 1024],
+    pub points: [u16; 512],
+    pub bandwidths: [u32; 512],
+}
+
+impl SheetLists {
+    // Lists of zeros.
+    pub fn new() -> SheetLists
+        ensures { Zeros result.minutes result.lows result.highs result.points result.bandwidths }
+    {
+        SheetLists {
+            minutes: [0; 1024],
+            lows: [0; 1024],
+            highs: [0; 1024],
+            points: [0; 512],
+            bandwidths: [0; 512],
+        }
+    }
+
+    // Reads the sheet into these lists. What they hold after a refusal is left open.
+    pub fn scan(&mut self, sheet: &[u8]) -> Result<RangeCounts, Refusal>
+        ensures scanned { EitherScanned sheet.now result self.new.minutes self.new.lows self.new.highs self.new.points self.new.bandwidths }
+        ensures lengths { FullLists self.new.minutes self.new.lows self.new.highs self.new.points self.new.bandwidths }
+    {
+        scan_sheet(
+            sheet,
+            &mut self.minutes,
+            &mut self.lows,
+            &mut self.highs,
+            &mut self.points,
+            &mut self.bandwidths,
+        )
+    }
 }

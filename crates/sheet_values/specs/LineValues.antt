@@ -1,8 +1,10 @@
 -- What the functions over a whole line say. The values of a line are point_line and sample_line of the meanings.
-use Rattle.std.specs.Prelude.{ℕ, Bool, false, nat_lt, List, [], ◌∷◌, Option, Some, None}
+use Rattle.std.specs.Prelude.{ℕ, ◌≤◌, Bool, false, nat_lt, List, [], ◌∷◌, Option, Some, None, IsSome, Result, Ok, Err}
 use Rattle.meanings.specs.declared.Mark.{Mark}
+use Rattle.meanings.specs.declared.Refusal.{Refusal}
 use Rattle.meanings.specs.Sheet.{EvaluationPoint, Injection}
 use Rattle.sheet_values.specs.declared.SampleLine.{SampleLine}
+use Rattle.sheet_values.specs.declared.Progress.{Progress}
 
 abbrev pub point_values : Option Mark → Option EvaluationPoint
 point_values (Some m) = Some (record { point = m.point; bandwidth = m.bandwidth })
@@ -21,3 +23,8 @@ early m (Some b) = nat_lt m b
 abbrev pub minute_before : Option ℕ → List ℕ
 minute_before None = []
 minute_before (Some m) = m ∷ []
+
+-- after a reading line there is a line before, and no more readings than there may be
+abbrev pub stored_within : Result Progress Refusal → Type 0
+stored_within (Ok w) = (w.count ≤ 1024) × IsSome w.last
+stored_within (Err r) = Unit {0}

@@ -16,6 +16,13 @@ pub struct SampleLine {
     pub value: u16,
 }
 
+// How far reading lines of either kind are read: how many readings are kept, and the minute of the line before, if there is one.
+#[derive(Clone, Copy, Debug, PartialEq, Eq)]
+pub struct Progress {
+    pub count: usize,
+    pub last: Option<u16>,
+}
+
 // The mark of a line's text; its half width has no range here.
 pub fn point_line(text: &[u8]) -> Option<Mark>
     ensures { point_values result ≡ point_line text.now }
@@ -33,7 +40,7 @@ pub fn sample_line(text: &[u8]) -> Option<SampleLine>
     ranged_sample(t, j, v)
 }
 
-// A reading line's values, if each is in its range; None as of a line of another form, so no TryFrom with an error of its own.
+// A reading line's values, if each is in its range. Both callers answer None where there is none: each would throw away the error of a TryFrom.
 pub fn ranged_sample(minute: u32, injection: u32, value: u32) -> Option<SampleLine>
     ensures { sample_values result ≡ ranged_sample (Some minute) (Some injection) (Some value) }
 {

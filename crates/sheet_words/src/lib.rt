@@ -13,7 +13,7 @@ const LINE_FEEDS: u64 = 0x0a0a0a0a0a0a0a0a;
 const HIGH_BITS: u64 = 0x8080808080808080;
 
 // The eight bytes from byte `at` on as one number, the first lowest, if as many follow. The length less 7 is the same for each word of a list, so
-// a word takes one comparison: by get and first_chunk it took two, and the reader more instructions.
+// a word takes one comparison, where get and first_chunk take two.
 #[tactic(auto, using(crate::proofs::Joining::eight_follow, crate::proofs::Joining::fewer_follow))]
 pub fn word_at(s: &[u8], at: usize) -> Option<u64>
     ensures { result ≡ word_at s.now at }

@@ -11,9 +11,7 @@ use Rattle.meanings.specs.Running.{next_record, after_step, record_row}
 use Rattle.meanings.proofs.Steps.{Small, at_window}
 use Rattle.meanings.proofs.SmoothSteps.{CurveAccepted, running_at, running_within, step_accepted}
 use Rattle.meanings.proofs.SmoothRows.{record_of_window_gives_row}
-use Rattle.estimator.specs.Rows.{Of16Bits}
 use Rattle.arithmetic.proofs.Zeros.{IsZeros, zeros}
-use Rattle.estimator.proofs.Rows.{of_16_bits}
 use Rattle.stepping.specs.declared.Reached.{Reached}
 use Rattle.stepping.specs.Steps.{IsFresh, SteppedRow}
 
@@ -29,10 +27,6 @@ pub record SteppedTo (ts vs zs hs : List ℕ) (k : ℕ) (r : RunningSums) : Type
   pub small : Small ts vs
   pub accepted : CurveAccepted ts vs zs hs
   pub running : r ≡ running_at ts vs zs hs k
-
-pub steps_begin : {ts vs zs hs : List ℕ} {r : RunningSums} → CurveAccepted ts vs zs hs → Of16Bits ts → Of16Bits vs → IsFresh r
-    → SteppedTo ts vs zs hs 0 r
-steps_begin a t v f = record { small = of_16_bits a.even a.few t v; accepted = a; running = f.zeros }
 
 -- its edges, which are the passes of these steps, are as few as the readings
 pub edges_fit : {ts vs zs hs : List ℕ} {k : ℕ} {r : RunningSums} → SteppedTo ts vs zs hs k r → r.right + r.left < 2 ^ 64

@@ -15,7 +15,8 @@ pub struct Reached {
     pub row: Estimate,
 }
 
-// The record after a step, accepted or refused: `fused_step` by the call of the step, for `step_beside`.
+// The record after a step, accepted or refused. It gives what `fused_step` gives, by `advance`, so that a loop may call each once: the figures are at
+// step_beside.
 pub fn stepped(running: RunningSums, readings: Readings, mark: Mark) -> RunningSums
     ensures { Stepped readings.entry.minutes.now readings.entry.values.now running mark.point mark.bandwidth result }
 {
@@ -31,7 +32,8 @@ pub fn step_to(running: RunningSums, readings: Readings, mark: Mark) -> Reached
     Reached { running: next, row }
 }
 
-// The same for a second record in the same loop: the compiler takes a step of this length into a loop only where it is called once.
+// The same for a second record in the same loop: the compiler takes a step of this length into a loop only where it is called once. Two sweeps side by side
+// take 211,372 instructions with this, and 269,137 with `step_to` for both records (docs/FIGURES.md), where 1.1 of two sweeps is the goal.
 pub fn step_beside(running: RunningSums, readings: Readings, mark: Mark) -> Reached
     ensures { SteppedRow readings.entry.minutes.now readings.entry.values.now running mark.point mark.bandwidth result }
 {

@@ -14,9 +14,9 @@ use checks::full;
 use checks_point::advance_fault;
 use meanings::{Mark, PowerSums, Readings, RunningSums};
 
-// Takes in or lets go the readings from `from` on, up to the first minute of at least `bound` or to `to`: edges of the record, so a
-// part of the lists would lose the position that is the answer. Beside that of `ranges`: one function over both
-// would be public, and a public function asks nothing of its callers, so it would test each position.
+// Takes in or lets go the readings from `from` on, up to the first minute of at least `bound` or to `to`. Both are edges of the record: of
+// parts of the lists each call would add the start to the position that is the answer. Beside that of `ranges`: one function over both would be public, and a public
+// function asks nothing of its callers, so it would test each position.
 fn passed_until<C: Change>(
     s: PowerSums,
     readings: Readings,

@@ -9,7 +9,7 @@ ghost use Rattle.strips.specs.Strips.{StripOrZero};
 use meanings_boxes::MAX_CUTS;
 
 // How many cuts, which rise, lie at or below x: eight for each eighth one that does, and those of the block behind. Of more than 64 cuts, which no
-// direction has, 0: an Option would have its one caller write an arm that never runs.
+// direction has, 0: the call takes every list and cannot fail.
 #[tactic(auto, using(crate::proofs::Counts::strip_or_zero))]
 pub fn strip(cuts: &[u64], x: u64) -> usize
     ensures { StripOrZero cuts.now x result }

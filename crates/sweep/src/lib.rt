@@ -1,4 +1,5 @@
-// The whole sweep and its preview: one step a mark from a fresh record, and a row after each.
+// The whole sweep and its preview: one step a mark from a fresh record, and a row after each. Readings and marks stay two parameters, here and in all calls
+// over both: `pair` takes two tanks over one list of marks, and a question at one mark has readings and no list.
 #![tactic(auto)]
 
 ghost use Rattle.std.specs.Prelude.{◌≡◌, ◌+◌, ◌*◌, ◌≤◌, length};
@@ -10,15 +11,15 @@ ghost use Rattle.meanings.specs.Estimate.{fields, rows as rows_meaning};
 ghost use Rattle.meanings.specs.Moves.{moves};
 ghost use Rattle.meanings.specs.Running.{fresh, passes};
 ghost use Rattle.meanings.proofs.SmoothSteps.{SmoothAccepted};
-ghost use Rattle.estimator.specs.Rows.{Of16Bits};
 
 use checks::{full, preview_limits};
 use checks_smooth::smooth_fault;
+use estimator::of_16_bits;
 use meanings::{Estimate, Limits, Mark, Marks, ROW_WIDTH, Readings, Refusal, RunningSums};
 use stepping::step_to;
 
 // Stores the row of mark k. Beside the row of ranges, of seven numbers: of both only the width is the same question, so one function is no plainer.
-// The rows are one flat list of the C interface, and five stores take no array through memory.
+// The rows are one flat list of the C interface. By From<Estimate> and copy_from_slice it was tried: the proof does not close without a law of a cut list.
 fn put_row(rows: &mut [u64], k: usize, e: Estimate)
     requires { row_width * k + row_width ≤ length rows.old }
     ensures { rows.new ≡ sets rows.old (row_width * k) (fields e) }
@@ -30,11 +31,6 @@ fn put_row(rows: &mut [u64], k: usize, e: Estimate)
     rows[at + 3] = e.sum;
     rows[at + 4] = e.value;
 }
-
-// What a list's type says, which is not known of a list in a struct: its numbers fit 16 bits.
-fn of_16_bits(numbers: &[u16])
-    ensures { Of16Bits numbers.now }
-{}
 
 // Stores the rows of all marks and answers the passes: last right plus last left.
 fn smooth_rows(readings: Readings, marks: Marks, rows: &mut [u64]) -> u64

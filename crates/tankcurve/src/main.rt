@@ -2,7 +2,7 @@
 #![tactic(auto)]
 
 ghost use Rattle.std.specs.Prelude.{◌≡◌, ◌+◌, ◌≤◌, length, take, IfOk};
-ghost use Rattle.meanings.specs.Limits.{max_sheet, max_output};
+ghost use Rattle.meanings.specs.Limits.{max_sheet};
 ghost use Rattle.meanings.specs.Reports.{fault_of};
 ghost use Rattle.meanings.specs.Output.{refusal_text};
 ghost use Rattle.meanings_ranges.specs.RangeOutput.{either_program};
@@ -31,9 +31,9 @@ fn read_input(mut input: Stdin, buf: &mut [u8]) -> Result<usize, Error>
     Ok(done)
 }
 
-// Puts the text of a refusal at the front of the buffer, and gives its length.
-fn refuse(refusal: Refusal, out: &mut [u8]) -> usize
-    requires { length out.old ≡ max_output }
+// Puts the text of a refusal at the front of the buffer, and gives its length. The text is never refused itself: the buffer's type has the right length.
+#[tactic(auto, unfolding(meanings::specs::Calls::write_refusal_text, meanings::specs::Calls::refusal_buffer))]
+fn refuse(refusal: Refusal, out: &mut [u8; MAX_OUTPUT]) -> usize
     ensures out_after { take result out.new ≡ refusal_text (fault_of refusal) }
     ensures value { result ≡ length (refusal_text (fault_of refusal)) }
 {
@@ -43,8 +43,8 @@ fn refuse(refusal: Refusal, out: &mut [u8]) -> usize
 
 // Puts what the program writes for the sheet that is the buffer's first `size` bytes at the front of the buffer, over the sheet, and gives its length.
 // Buffer and size stay apart: text_over says why.
-fn answer(buf: &mut [u8], size: usize) -> usize
-    requires { length buf.old ≡ max_output }
+#[tactic(auto, unfolding(meanings_ranges::specs::RangeOutput::either_program, meanings_ranges::specs::RangeOutput::write_either, meanings_ranges::specs::RangeOutput::write_either_buffer))]
+fn answer(buf: &mut [u8; MAX_OUTPUT], size: usize) -> usize
     ensures buf_after { take result buf.new ≡ either_program (take size buf.old) }
     ensures value { result ≡ length (either_program (take size buf.old)) }
 {
@@ -55,9 +55,7 @@ fn answer(buf: &mut [u8], size: usize) -> usize
 }
 
 // Writes the answer, a short write being written on. Where a write fails, what has been written may be a text cut short, and standard error says so.
-fn write_answer(buf: &mut [u8], size: usize)
-    requires { length buf.old ≡ max_output }
-{
+fn write_answer(buf: &mut [u8; MAX_OUTPUT], size: usize) {
     let n = answer(buf, size);
     if !io::write_all(OUT, &buf[..n]) {
         io::write_all(ERR, b"tankcurve: standard output cannot be written\n");
@@ -65,9 +63,8 @@ fn write_answer(buf: &mut [u8], size: usize)
 }
 
 // From standard input to standard output in one buffer: the sheet is read into its front, and its curve is written over it.
-fn run(input: Stdin, buf: &mut [u8])
-    requires { length buf.old ≡ max_output }
-{
+#[tactic(auto, using(crate::proofs::Within::front_length))]
+fn run(input: Stdin, buf: &mut [u8; MAX_OUTPUT]) {
     let room = 32769;
     match read_input(input, &mut buf[..room]) {
         Ok(n) => write_answer(buf, n),

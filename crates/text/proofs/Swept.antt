@@ -1,51 +1,36 @@
--- What the sweep refuses is answered; what it accepts has few marks, short numbers and so a text that fits, which its rows and passes make.
+-- What the sweep accepts has few marks, short numbers and so a text that fits, which its rows and passes make.
 use Prim.Native.Nat.{ℕ, ◌*◌, ◌≤◌}
-use Rattle.std.specs.Prelude.{Result, Ok, Err}
+use Rattle.std.specs.Prelude.{Result, Ok}
 use Rattle.meanings.specs.Calls.{answer_of}
 use mathlib.Core.Path.{◌≡◌, sym, ap, ◌∙◌}
 use mathlib.Core.List.{List}
-use Rattle.std.specs.Prelude.{Option, None, Some}
+use Rattle.std.specs.Prelude.{Option, None}
 use Rattle.std.specs.Option.{ok_or}
 use native.Mathlib.Omega.{arith}
-use mir.Val.{Fits}
-use mir.Syntax.{w16}
-use lib.ListN.{length, get_or}
+use lib.ListN.{length}
 use Rattle.meanings.specs.declared.Refusal.{Refusal}
 use Rattle.meanings.specs.Lists.{AtMost}
 use Rattle.meanings.specs.Limits.{full, max_u16, max_output, row_width}
 use Rattle.meanings.specs.Moves.{moves}
-use Rattle.meanings.specs.Reports.{Fault, given, refused, unless, fault_of, uneven_rows}
+use Rattle.meanings.specs.Reports.{given, uneven_rows}
 use Rattle.meanings.specs.Sheet.{or_next}
 use Rattle.meanings.specs.Estimate.{rows}
 use Rattle.meanings.specs.Running.{fresh, passes}
 use Rattle.meanings.specs.Calls.{smooth_refusal, smooth, smooth_rows, curve_size, filled_front}
 use Rattle.meanings.specs.Output.{curve_text}
-use Rattle.meanings.proofs.Checks.{differ_true, differ_same, given_accepted, same_limits, steps_ordered, CurveSizes, curve_sizes_accept}
+use Rattle.meanings.proofs.Checks.{differ_same, given_accepted, same_limits, steps_ordered, CurveSizes, curve_sizes_accept}
 use Rattle.meanings.proofs.SmoothRows.{rows_length}
 use Rattle.meanings.proofs.SmoothSteps.{SmoothAccepted, smooth_accepts, none_of_three}
 use Rattle.laws_output.proofs.AcceptedSheet.{AcceptedContents}
 use Rattle.laws_output.proofs.OutputFits.{curve_text_fits}
+use Rattle.estimator.specs.Rows.{Of16Bits}
 use Rattle.text_decimal.specs.Written.{written, Put}
 use Rattle.text_decimal.proofs.Room.{room_used, list_used}
-use Rattle.text.specs.Table.{table_text, contents_of, curve_of, lists_swept, lists_rows}
+use Rattle.text.specs.Table.{table_text, contents_of, curve_of, lists_swept}
 use Rattle.text.proofs.Tables.{table_text_is_curve}
 
--- a buffer of another length
-module _ (ts vs zs hs rs out : List ℕ) (another : ¬ (length out ≡ max_output)) where
-  pub other_buffer : refused (record { number = 8; place = 0 }) ≡ curve_size (lists_swept ts vs zs hs rs out)
-  unfolding lists_swept
-  other_buffer = rw (differ_true (length out) max_output another)
-
-  pub other_buffer_rows : rs ≡ lists_rows ts vs zs hs rs out
-  unfolding lists_rows
-  other_buffer_rows = rw (differ_true (length out) max_output another)
-
-  pub other_buffer_stays : out ≡ filled_front (lists_swept ts vs zs hs rs out) curve_text out
-  unfolding lists_swept
-  other_buffer_stays = rw (differ_true (length out) max_output another)
-
-of_16_bits : (xs : List ℕ) → ((i : ℕ) → Fits w16 (get_or xs i 0)) → AtMost max_u16 xs
-of_16_bits xs f i l = omega (arith, f i)
+at_most : (xs : List ℕ) → Of16Bits xs → AtMost max_u16 xs
+at_most xs f i l = omega (arith, f.fits i)
 
 -- lists that the sweep does not refuse are as those of an accepted sheet
 module _ (ts vs zs hs rs : List ℕ) (found : smooth_refusal full ts vs zs hs rs ≡ None) where
@@ -55,8 +40,7 @@ module _ (ts vs zs hs rs : List ℕ) (found : smooth_refusal full ts vs zs hs rs
   sizes : CurveSizes full ts vs zs hs (uneven_rows row_width (length rs) (length zs))
   sizes = curve_sizes_accept full ts vs zs hs _ (none_of_three full ts vs zs hs _ found).0
 
-  accepted_lists : ((i : ℕ) → Fits w16 (get_or ts i 0)) → ((i : ℕ) → Fits w16 (get_or vs i 0)) → ((i : ℕ) → Fits w16 (get_or zs i 0))
-      → AcceptedContents (contents_of ts vs zs hs)
+  accepted_lists : Of16Bits ts → Of16Bits vs → Of16Bits zs → AcceptedContents (contents_of ts vs zs hs)
   accepted_lists minutes values points =
       let a = swept_lists.lists in
       record {
@@ -65,9 +49,9 @@ module _ (ts vs zs hs rs : List ℕ) (found : smooth_refusal full ts vs zs hs rs
         few_samples = a.few;
         few_points = a.few_points;
         some_point = sizes.some_point;
-        minute_range = of_16_bits ts minutes;
-        value_range = of_16_bits vs values;
-        point_range = of_16_bits zs points;
+        minute_range = at_most ts minutes;
+        value_range = at_most vs values;
+        point_range = at_most zs points;
         bandwidth_low = λ k l. (a.bandwidths k (omega (arith, a.even_points))).0;
         bandwidth_high = λ k l. (a.bandwidths k (omega (arith, a.even_points))).1;
         minute_order = a.ordered;
@@ -82,27 +66,7 @@ module _ (ts vs zs hs rs out : List ℕ) (right : length out ≡ max_output) whe
   unfolding lists_swept
   goes_by_sweep = rw (differ_same (length out) max_output right)
 
-  pub swept_rows : (rs' : List ℕ) → rs' ≡ smooth_rows full ts vs zs hs rs → rs' ≡ lists_rows ts vs zs hs rs out
-  unfolding lists_rows
-  swept_rows rs' e = e ∙ rw (differ_same (length out) max_output right)
-
   module _ (r : Result ℕ Refusal) (answer : answer_of r ≡ smooth full ts vs zs hs rs) where
-    -- a refusal
-    module _ (f : Refusal) (unswept : r ≡ Err f) where
-      refused_by_sweep : smooth_refusal full ts vs zs hs rs ≡ Some (fault_of f)
-      unfolding smooth
-      refused_by_sweep = by (smooth_refusal full ts vs zs hs rs) (sym (ap answer_of unswept) ∙ answer)
-        where
-          by : (o : Option Fault) → refused (fault_of f) ≡ unless o (passes ts vs fresh (moves zs hs)) → o ≡ Some (fault_of f)
-          by None e = let z : ◌≡◌ {A = ℕ} 0 1 = cc in absurd (omega arith)
-          by (Some g) e = cc
-
-      pub sweep_refused : refused (fault_of f) ≡ curve_size (lists_swept ts vs zs hs rs out)
-      sweep_refused = rw (goes_by_sweep, refused_by_sweep)
-
-      pub sweep_refused_stays : out ≡ filled_front (lists_swept ts vs zs hs rs out) curve_text out
-      sweep_refused_stays = rw (goes_by_sweep, refused_by_sweep)
-
     -- its passes and rows
     module _ (n : ℕ) (done : r ≡ Ok n) where
       accepted : (smooth_refusal full ts vs zs hs rs ≡ None) × (passes ts vs fresh (moves zs hs) ≡ n)
@@ -126,17 +90,16 @@ module _ (ts vs zs hs rs out : List ℕ) (right : length out ≡ max_output) whe
         text_is_curve : table_text zs hs rs' (length ts) n ≡ curve_of ts vs zs hs
         text_is_curve = rw (← accepted.1, rows_given) (table_text_is_curve ts vs zs hs)
 
-        module _ (minutes : (i : ℕ) → Fits w16 (get_or ts i 0)) (values : (i : ℕ) → Fits w16 (get_or vs i 0)) (points : (i : ℕ) → Fits w16 (get_or zs i 0))
-          where
-            pub text_fits : length (table_text zs hs rs' (length ts) n) ≤ length out
-            text_fits =
-                let fits = curve_text_fits (contents_of ts vs zs hs) (accepted_lists ts vs zs hs rs accepted.0 minutes values points) in
-                rw (text_is_curve, right) fits
+        module _ (minutes : Of16Bits ts) (values : Of16Bits vs) (points : Of16Bits zs) where
+          pub text_fits : length (table_text zs hs rs' (length ts) n) ≤ length out
+          text_fits =
+              let fits = curve_text_fits (contents_of ts vs zs hs) (accepted_lists ts vs zs hs rs accepted.0 minutes values points) in
+              rw (text_is_curve, right) fits
 
-            module _ (now : List ℕ) (o : Option ℕ) (put : Put out (table_text zs hs rs' (length ts) n) now o) where
-              pub curve_answered : (e : Refusal) → answer_of (ok_or o e) ≡ curve_size (lists_swept ts vs zs hs rs out)
-              curve_answered e = rw (room_used out _ text_fits o put.size, lists_given, text_is_curve)
+          module _ (now : List ℕ) (o : Option ℕ) (put : Put out (table_text zs hs rs' (length ts) n) now o) where
+            pub curve_answered : (e : Refusal) → answer_of (ok_or o e) ≡ curve_size (lists_swept ts vs zs hs rs out)
+            curve_answered e = rw (room_used out _ text_fits o put.size, lists_given, text_is_curve)
 
-              pub curve_in_front : now ≡ filled_front (lists_swept ts vs zs hs rs out) curve_text out
-              unfolding written
-              curve_in_front = list_used out _ text_fits now put.list ∙ rw (lists_given, text_is_curve)
+            pub curve_in_front : now ≡ filled_front (lists_swept ts vs zs hs rs out) curve_text out
+            unfolding written
+            curve_in_front = list_used out _ text_fits now put.list ∙ rw (lists_given, text_is_curve)

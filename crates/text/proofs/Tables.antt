@@ -2,7 +2,7 @@
 use Prim.Native.Nat.{ℕ, zero, suc, ◌+◌, ◌*◌, ◌≤◌, ◌<◌}
 use mathlib.Core.Path.{◌≡◌, refl, sym, ap, ◌∙◌}
 use mathlib.Core.List.{List, ◌++◌}
-use Rattle.std.specs.Prelude.{Option, None, Some}
+use Rattle.std.specs.Prelude.{Option, Some}
 use native.Mathlib.Omega.{arith}
 use lib.ListN.{length, get_or, drop}
 use lib.Seq.{get_or-take, get_or-drop}
@@ -13,11 +13,11 @@ use Rattle.meanings.specs.Estimate.{estimate, fields, rows}
 use Rattle.meanings.specs.Running.{fresh, passes}
 use Rattle.meanings.specs.Output.{curve_line, curve_lines, curve_text}
 use Rattle.meanings.proofs.SmoothRows.{row_at_point}
-use Rattle.text_decimal.specs.Written.{put_size, put_list, Put}
+use Rattle.text_decimal.specs.Written.{put_size, put_list}
 use Rattle.text_lines.specs.Whole.{whole_text}
-use Rattle.text_decimal.proofs.Room.{stored_put, put_is_stored, never_none}
+use Rattle.text_decimal.proofs.Room.{put_is_stored}
 use Rattle.text_decimal.proofs.Writing.{rest_of, given_back}
-use Rattle.text_lines.proofs.Whole.{LinesTo, lines_begin, next_fits, lines_go_on, lines_stored}
+use Rattle.text_lines.proofs.Whole.{LinesTo, next_fits, lines_go_on}
 use Rattle.text.specs.Table.{stored_row, mark_line, table_lines, table_text, contents_of, curve_of}
 
 module _ (ts vs zs hs : List ℕ) (n k : ℕ) (inside : k < n) where
@@ -52,28 +52,15 @@ pub record TableTo (out zs hs rs now : List ℕ) (q k : ℕ) : Type 0 where
   pub five : length rs ≡ row_width * length zs
   pub lines : LinesTo (mark_line zs hs rs) (length zs) out now q k
 
-pub table_begins : {out zs hs rs : List ℕ} → length hs ≡ length zs → length rs ≡ row_width * length zs
-    → length (table_lines zs hs rs (length zs)) ≤ length out → TableTo out zs hs rs out 0 0
-table_begins even five fits = record { even = even; five = five; lines = lines_begin fits }
+module _ {out zs hs rs now : List ℕ} {q k : ℕ} (w : TableTo out zs hs rs now q k) (more : k < length zs) where
+  -- the next line fits
+  pub next_line_fits : length (mark_line zs hs rs k) ≤ length (rest_of q now)
+  next_line_fits = next_fits w.lines more
 
-module _ {out zs hs rs now : List ℕ} {q k : ℕ} (w : TableTo out zs hs rs now q k) (more : k < length zs) (e : Estimate) (row : e ≡ stored_row rs k)
-    (o : Option ℕ) (size : o ≡ put_size (rest_of q now) (curve_line (get_or zs k 0) (get_or hs k 0) e)) where
-  row_fits : length (curve_line (get_or zs k 0) (get_or hs k 0) e) ≤ length (rest_of q now)
-  row_fits = rw row (next_fits w.lines more)
-
-  -- the line is put
-  pub row_is_put : o ≡ None → (last : List ℕ) (a : Option ℕ) → Put out (table_lines zs hs rs (length zs)) last a
-  row_is_put none last a = never_none (rest_of q now) _ row_fits o size none
-
-  module _ (r : ℕ) (some : o ≡ Some r) (next : List ℕ) (list : next ≡ put_list (rest_of q now) (curve_line (get_or zs k 0) (get_or hs k 0) e)) where
-    pub table_goes_on : TableTo out zs hs rs (given_back q now next) (q + r) (k + 1)
-    table_goes_on =
-        let s = put_is_stored (rest_of q now) _ row_fits o size r some next list in
+  -- and is put
+  module _ (e : Estimate) (row : e ≡ stored_row rs k) (o : Option ℕ) (size : o ≡ put_size (rest_of q now) (curve_line (get_or zs k 0) (get_or hs k 0) e)) where
+    pub table_goes_on : (r : ℕ) → o ≡ Some r → (next : List ℕ) → next ≡ put_list (rest_of q now) (curve_line (get_or zs k 0) (get_or hs k 0) e)
+        → TableTo out zs hs rs (given_back q now next) (q + r) (k + 1)
+    table_goes_on r some next list =
+        let s = put_is_stored (rest_of q now) _ (rw row next_line_fits) o size r some next list in
         record { even = w.even; five = w.five; lines = lines_go_on w.lines more (rw row at s) }
-
-    pub row_end : q + r ≤ length out
-    row_end = table_goes_on.lines.so_far.within
-
-pub table_put : {out zs hs rs now : List ℕ} {q k : ℕ} → TableTo out zs hs rs now q k → length zs ≤ k
-    → Put out (table_lines zs hs rs (length zs)) now (Some q)
-table_put w none = stored_put (lines_stored w.lines none)

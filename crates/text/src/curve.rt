@@ -8,7 +8,8 @@ use meanings::{Estimate, Mark, Marks, ROW_WIDTH};
 use text_decimal::put_bytes;
 use text_lines::{put_curve_line, put_pair_line};
 
-// The row of mark k. Rows stand one behind the other in one list of numbers, as the C interface lends it.
+// The row of mark k. Rows stand one behind the other in one list of numbers, as the C interface lends it; of a TryFrom each call would take an Err that never
+// comes, since the room is asked.
 pub(crate) fn stored_row(rows: &[u64], k: usize) -> Estimate
     requires { row_width * k + row_width ≤ length rows.now }
     ensures { result ≡ stored_row rows.now k }
@@ -24,6 +25,7 @@ pub(crate) fn stored_row(rows: &[u64], k: usize) -> Estimate
 }
 
 // A line for each mark, which fits. text_ranges has the same loop: a trait over the row, with its width and line as ghost members, is longer than both.
+#[tactic(auto, unfolding(text_decimal::specs::Written::put_size, text_decimal::specs::Written::put_list, text_decimal::specs::Written::fits, text_decimal::specs::Written::written), using(crate::proofs::Tables::next_line_fits))]
 pub(crate) fn put_curve_lines(out: &mut [u8], marks: Marks, rows: &[u64]) -> Option<usize>
     requires { (length marks.bandwidths.now ≡ length marks.points.now) × (length rows.now ≡ row_width * length marks.points.now) × (length (table_lines marks.points.now marks.bandwidths.now rows.now (length marks.points.now)) ≤ length out.old) }
     ensures { Put out.old (table_lines marks.entry.points.now marks.entry.bandwidths.now rows.now (length marks.entry.points.now)) out.new result }
@@ -41,6 +43,7 @@ pub(crate) fn put_curve_lines(out: &mut [u8], marks: Marks, rows: &[u64]) -> Opt
 
 // The whole curve, which fits, then kept readings and passes. text_ranges has the same with another header; a trait is longer than both, as at
 // put_curve_lines.
+#[tactic(auto, unfolding(text_decimal::specs::Written::put_size, text_decimal::specs::Written::fits, text_lines::specs::Whole::whole_text))]
 pub(crate) fn put_curve(
     out: &mut [u8],
     kept: usize,
@@ -48,7 +51,9 @@ pub(crate) fn put_curve(
     rows: &[u64],
     passes: u64,
 ) -> Option<usize>
-    requires { (length marks.bandwidths.now ≡ length marks.points.now) × (length rows.now ≡ row_width * length marks.points.now) × (length (table_text marks.points.now marks.bandwidths.now rows.now kept passes) ≤ length out.old) }
+    requires even { length marks.bandwidths.now ≡ length marks.points.now }
+    requires five { length rows.now ≡ row_width * length marks.points.now }
+    requires fits { length (table_text marks.points.now marks.bandwidths.now rows.now kept passes) ≤ length out.old }
     ensures { Put out.old (table_text marks.entry.points.now marks.entry.bandwidths.now rows.now kept passes) out.new result }
 {
     let lines = put_bytes(out, b"mark,half,left,right,weight,sum,vdk\n")?;

@@ -10,29 +10,29 @@ ghost use Rattle.meanings.specs.Calls.{curve_size, filled_front};
 ghost use Rattle.text.specs.Table.{lists_swept, lists_rows};
 
 use crate::curve::put_curve;
+use estimator::of_16_bits;
 use meanings::{MAX_OUTPUT, Marks, Readings, Refusal, Report};
 use sweep::smooth;
 
 // Sweeps the lists and writes their curve into a buffer of MAX_OUTPUT bytes, which no curve exceeds. A buffer of another length is refused with 8
 // before the sweep, and what the sweep refuses with its report; the buffer and the rows then stay as they were.
-// Each list stays a parameter of its own: that the text fits stands on the range of their numbers, which is known of a list, and not of one in a struct.
-#[tactic(auto, unfolding(crate::specs::Table::lists_swept, crate::specs::Table::lists_rows))]
+#[tactic(auto, unfolding(crate::specs::Table::lists_swept, crate::specs::Table::lists_rows, meanings::specs::Calls::smooth), using(crate::proofs::Swept::even_points, crate::proofs::Swept::five_a_mark, crate::proofs::Swept::text_fits))]
 pub fn swept_text(
-    minutes: &[u16],
-    values: &[u16],
-    points: &[u16],
-    bandwidths: &[u32],
+    readings: Readings,
+    marks: Marks,
     rows: &mut [u64],
     out: &mut [u8],
 ) -> Result<usize, Refusal>
-    ensures result_value { answer_of result ≡ curve_size (lists_swept minutes.now values.now points.now bandwidths.now rows.old out.old) }
-    ensures rows_after { rows.new ≡ lists_rows minutes.now values.now points.now bandwidths.now rows.old out.old }
-    ensures out_after { out.new ≡ filled_front (lists_swept minutes.now values.now points.now bandwidths.now rows.old out.old) curve_text out.old }
+    ensures result_value { answer_of result ≡ curve_size (lists_swept readings.entry.minutes.now readings.entry.values.now marks.entry.points.now marks.entry.bandwidths.now rows.old out.old) }
+    ensures rows_after { rows.new ≡ lists_rows readings.entry.minutes.now readings.entry.values.now marks.entry.points.now marks.entry.bandwidths.now rows.old out.old }
+    ensures out_after { out.new ≡ filled_front (lists_swept readings.entry.minutes.now readings.entry.values.now marks.entry.points.now marks.entry.bandwidths.now rows.old out.old) curve_text out.old }
 {
+    of_16_bits(readings.minutes);
+    of_16_bits(readings.values);
+    of_16_bits(marks.points);
     if out.len() != MAX_OUTPUT {
         return Err(Report::LengthMismatch.at(0));
     }
-    let marks = Marks { points, bandwidths };
-    let passes = smooth(Readings { minutes, values }, marks, rows)?;
-    put_curve(out, minutes.len(), marks, rows, passes).ok_or(Report::LengthMismatch.at(0))
+    let passes = smooth(readings, marks, rows)?;
+    put_curve(out, readings.minutes.len(), marks, rows, passes).ok_or(Report::LengthMismatch.at(0))
 }

@@ -2,7 +2,6 @@
 use Prim.Native.Nat.{ℕ, ◌+◌, ◌/◌, ◌%◌, ◌≤◌, ◌<◌}
 use mathlib.Core.Path.{◌≡◌, refl, sym, ◌∙◌}
 use mathlib.Core.List.{List, [], ◌∷◌, ◌++◌, append_assoc}
-use native.Mathlib.Omega.{arith}
 use lib.ListN.{length}
 use Rattle.std.specs.Int.{w32, to_le_bytes}
 use Rattle.meanings.specs.Bytes.{zero_digit}
@@ -62,9 +61,6 @@ module _ (n : ℕ) (low : 1000 ≤ n) (high : n < 10000) (out : List ℕ) where
 
 -- a number of three digits: one, and two behind it
 module _ (n : ℕ) (low : 100 ≤ n) (high : n < 1000) (out : List ℕ) (fits : length (decimal n) ≤ length out) where
-  pub three_begin : length ((zero_digit + n / 100) ∷ []) ≤ length out
-  three_begin = first_fits out _ ((zero_digit + n / 100) ∷ []) (two_digits (n % 100)) fits (of_three n low high)
-
   module _ (now : List ℕ) (q : ℕ) (front : Stored out ((zero_digit + n / 100) ∷ []) now q) where
     pub three_go_on : length (two_digits (n % 100)) ≤ length (rest_of q now)
     three_go_on = second_fits out _ _ _ fits (of_three n low high) now q front
@@ -128,9 +124,6 @@ module _ (n : ℕ) (large : 10000000000000000 ≤ n) (out : List ℕ) (fits : le
 
       pub sixteen_go_on : length (eight_digits (n % 100000000)) ≤ length (rest_of (q₁ + q₂) (given_back q₁ out₁ rest))
       sixteen_go_on = second_fits out _ _ _ fits parts _ _ two_stored
-
-      pub sixteen_inside : q₁ + q₂ ≤ length (given_back q₁ out₁ rest)
-      sixteen_inside = omega (arith, two_stored.within, two_stored.same)
 
       pub sixteen_stored : (back : List ℕ) (r : ℕ) → Stored (rest_of (q₁ + q₂) (given_back q₁ out₁ rest)) (eight_digits (n % 100000000)) back r
           → Stored out (decimal n) (given_back (q₁ + q₂) (given_back q₁ out₁ rest) back) (q₁ + q₂ + r)

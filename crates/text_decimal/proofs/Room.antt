@@ -41,12 +41,6 @@ module _ (out t : List ℕ) (room : length t ≤ length out) (o : Option ℕ) (p
   pub is_some : IsSome o
   is_some = rw room_used
 
-  pub never_none : {A : Type 0} → o ≡ None → A
-  never_none e =
-      let none : ◌≡◌ {A = Option ℕ} None (Some (length t)) = sym e ∙ room_used in
-      let z : ◌≡◌ {A = ℕ} 0 1 = cc in
-      absurd (omega (arith, z))
-
   pub put_is_stored : (r : ℕ) → o ≡ Some r → (now : List ℕ) → now ≡ put_list out t → Stored out t now r
   unfolding put_list
   put_is_stored r e now list =

@@ -1,11 +1,12 @@
 -- Texts that are stored one behind the other: what stands in the list is the texts joined.
-use Prim.Native.Nat.{ℕ, ◌+◌, ◌-◌, ◌^◌, ◌≤◌, ◌<◌}
+use Prim.Native.Nat.{ℕ, ◌+◌, ◌-◌, ◌≤◌}
 use mathlib.Core.Path.{◌≡◌, refl, sym, ap, ◌∙◌}
 use mathlib.Core.List.{List, [], ◌∷◌, ◌++◌, append_assoc, append-nil}
 use borrow.Rule.Slice.PartMut.{mid_of, put_mid}
+use native.Mathlib.Nat.{add_assoc, zero-add}
 use native.Mathlib.Omega.{arith}
 use lib.ListN.{length, take, drop, set, length-append, length-drop}
-use lib.Seq.{take_all, take_at, drop_at, drop-drop}
+use lib.Seq.{take_all, take_at, drop_at, drop-drop, drop-append-add, length-take-le}
 use Rattle.text_decimal.specs.Written.{joined, written, Stored}
 
 pub written_length : (out t : List ℕ) → length t ≤ length out → length (written out t) ≡ length out
@@ -39,13 +40,48 @@ back_is : (n : ℕ) (now rest : List ℕ) → n ≤ length now → given_back n 
 back_is n now rest h =
     rw (drop_all (drop n now) (length now - n) (omega (arith, length-drop n now)), append-nil rest)
 
+-- a list of bytes with a text stored from byte p on
+abbrev pub written_from : List ℕ → ℕ → List ℕ → List ℕ
+written_from out p t = given_back p out (written (rest_of p out) t)
+
+from_is : (out : List ℕ) (p : ℕ) (t : List ℕ) → p ≤ length out → written_from out p t ≡ take p out ++ t ++ drop (p + length t) out
+unfolding written
+from_is out p t h =
+    back_is p out (t ++ drop (length t) (rest_of p out)) h
+    ∙ sym (append_assoc (take p out) t (drop (length t) (rest_of p out)))
+    ∙ ap (λ (xs : List ℕ). take p out ++ t ++ xs) (ap (drop (length t)) (rest_is p out h) ∙ drop-drop (length t) p out)
+
+from_start : (out t : List ℕ) → written_from out 0 t ≡ written out t
+unfolding written
+from_start out t = from_is out 0 t (omega arith) ∙ rw (zero-add (length t))
+
+-- a text ends at p plus its length
+front_length : (out : List ℕ) (p : ℕ) (t : List ℕ) → p ≤ length out → length (take p out ++ t) ≡ p + length t
+front_length out p t h = length-append (take p out) t ∙ rw (length-take-le p out h)
+
+-- a text that is stored right behind another goes on with it
+pub written_behind : (out : List ℕ) (p : ℕ) (t u : List ℕ) → p + length t + length u ≤ length out
+    → written_from (written_from out p t) (p + length t) u ≡ written_from out p (t ++ u)
+written_behind out p t u h =
+    let now : List ℕ = take p out ++ t ++ drop (p + length t) out in
+    let l = front_length out p t (omega (arith, h)) in
+    let d = rw l at (drop-append-add (take p out ++ t) (drop (p + length t) out) (length u)) in
+    let long : p + length t ≤ length now = omega (arith, l, length-append (take p out ++ t) (drop (p + length t) out)) in
+    let first : written_from out p t ≡ now = from_is out p t (omega (arith, h)) in
+    let joins : take (p + length t) now ++ u ++ drop (p + length t + length u) now ≡ take p out ++ (t ++ u) ++ drop (p + length (t ++ u)) out =
+    rw (
+      take_at (take p out ++ t) (drop (p + length t) out) (p + length t) l,
+      d,
+      drop-drop (length u) (p + length t) out,
+      append_assoc (take p out) t u,
+      length-append t u,
+      add_assoc p (length t) (length u),
+    ) in
+    rw first (from_is now (p + length t) u long ∙ joins ∙ sym (from_is out p (t ++ u) (omega (arith, h))))
+
 module _ {out t now : List ℕ} {n : ℕ} (s : Stored out t now n) where
   pub inside : n ≤ length now
   inside = omega (arith, s.within, s.same)
-
-  front_is : take n now ≡ t
-  unfolding written
-  front_is = rw s.text (take_at t (drop (length t) out) n (sym s.size))
 
   behind_is : rest_of n now ≡ drop n out
   unfolding written
@@ -59,16 +95,15 @@ module _ {out t now : List ℕ} {n : ℕ} (s : Stored out t now n) where
   room_behind u h = omega (arith, h, length-append t u, behind_length, s.size)
 
   module _ {u rest : List ℕ} {m : ℕ} (r : Stored (rest_of n now) u rest m) where
-    pub sum_fits : length now < 2 ^ 64 → n + m < 2 ^ 64
-    sum_fits few = omega (arith, few, r.within, behind_length, s.within, s.same)
-
     pub stored_behind : Stored out (t ++ u) (given_back n now rest) (n + m)
     unfolding written
     stored_behind =
         let long : length (t ++ u) ≤ length out = omega (arith, r.within, r.size, s.within, s.size, behind_length, length-append t u) in
-        let after : rest ≡ u ++ drop (length u) (drop n out) = r.text ∙ rw behind_is in
-        let text : given_back n now rest ≡ (t ++ u) ++ drop (length (t ++ u)) out =
-        back_is n now rest inside ∙ rw (front_is, after, drop-drop (length u) n out, s.size, length-append t u, append_assoc t u) in
+        let placed : written_from now n u ≡ written_from (written_from out 0 t) (0 + length t) u =
+        rw (s.text, s.size, from_start out t, zero-add (length t)) in
+        let joins = written_behind out 0 t u (omega (arith, long, length-append t u)) in
+        let text : given_back n now rest ≡ written out (t ++ u) =
+        ap (given_back n now) r.text ∙ placed ∙ joins ∙ from_start out (t ++ u) in
         record {
           text = text;
           size = omega (arith, s.size, r.size, length-append t u);

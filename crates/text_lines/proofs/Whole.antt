@@ -2,15 +2,15 @@
 use Prim.Native.Nat.{ℕ, zero, suc, ◌+◌, ◌-◌, ◌≤◌, ◌<◌}
 use mathlib.Core.Path.{◌≡◌}
 use mathlib.Core.List.{List, [], ◌∷◌, ◌++◌, append_assoc, append-nil}
-use Rattle.std.specs.Prelude.{Option, None, Some}
+use Rattle.std.specs.Prelude.{Option, Some}
 use native.Mathlib.Numerals.{add-one}
 use native.Mathlib.Omega.{arith}
 use lib.ListN.{length, length-append}
 use Rattle.meanings.specs.Bytes.{line_feed, totals_header}
 use Rattle.meanings.specs.Output.{decimal, text_line}
 use Rattle.text_decimal.specs.Written.{joined, Stored, put_size, put_list, Put}
-use Rattle.text_decimal.proofs.Room.{stored_put, put_is_stored, never_none}
-use Rattle.text_decimal.proofs.Writing.{rest_of, given_back, inside, nothing_stored, room_behind, stored_behind, first_fits}
+use Rattle.text_decimal.proofs.Room.{stored_put, put_is_stored}
+use Rattle.text_decimal.proofs.Writing.{rest_of, given_back, inside, room_behind, stored_behind, first_fits}
 use Rattle.text_decimal.proofs.Writing.{Left, left_first, part_fits, left_behind, all_stored}
 use Rattle.text_lines.specs.Whole.{lines_of, whole_text}
 
@@ -35,9 +35,6 @@ lines_to : {line : ℕ → List ℕ} {n : ℕ} {out now : List ℕ} {q k : ℕ} 
     → Stored out (lines_of line k) now q → LinesTo line n out now q k
 lines_to fits far s = record { inside = inside s; same = s.same; fits = fits; far = far; so_far = s }
 
-pub lines_begin : {line : ℕ → List ℕ} {n : ℕ} {out : List ℕ} → length (lines_of line n) ≤ length out → LinesTo line n out out 0 0
-lines_begin {out = out} fits = lines_to fits (omega arith) (nothing_stored out)
-
 module _ {line : ℕ → List ℕ} {n : ℕ} {out now : List ℕ} {q k : ℕ} (w : LinesTo line n out now q k) where
   module _ (more : k < n) where
     both : length (lines_of line k ++ line k) ≤ length out
@@ -53,10 +50,6 @@ module _ {line : ℕ → List ℕ} {n : ℕ} {out now : List ℕ} {q k : ℕ} (w
     -- one more
     pub lines_go_on : {next : List ℕ} {r : ℕ} → Stored (rest_of q now) (line k) next r → LinesTo line n out (given_back q now next) (q + r) (k + 1)
     lines_go_on s = lines_to w.fits (omega arith) (rw (add-one k) (stored_behind w.so_far s))
-
-  -- no more
-  pub lines_stored : n ≤ k → Stored out (lines_of line n) now q
-  lines_stored none = let e : k ≡ n = omega (arith, w.far) in rw (← e) w.so_far
 
 -- the whole text in four parts
 regroup : (a b c d : List ℕ) (x : ℕ) → a ++ b ++ x ∷ c ++ d ≡ a ++ joined (b ∷ (x ∷ c) ∷ d ∷ [])
@@ -77,40 +70,22 @@ module _ (names lines : List ℕ) (kept passes : ℕ) (out : List ℕ) (fits : l
   names_fit = first_fits out _ _ (joined (lines ∷ totals_names ∷ totals kept passes ∷ [])) fits whole_parts
 
   module _ (o₁ : Option ℕ) (size₁ : o₁ ≡ put_size out (text_line names [])) where
-    pub names_are_put : o₁ ≡ None → (end : List ℕ) (a : Option ℕ) → Put out (whole_text names lines kept passes) end a
-    names_are_put none end a = never_none out (text_line names []) names_fit o₁ size₁ none
-
     module _ (q₁ : ℕ) (some₁ : o₁ ≡ Some q₁) (out₁ : List ℕ) (list₁ : out₁ ≡ put_list out (text_line names [])) where
       names_put : Left out (whole_text names lines kept passes) out₁ q₁ (lines ∷ totals_names ∷ totals kept passes ∷ [])
       names_put = left_first whole_parts fits (put_is_stored out _ names_fit o₁ size₁ q₁ some₁ out₁ list₁)
 
-      pub lines_begin_inside : q₁ ≤ length out₁
-      lines_begin_inside = inside names_put.stored
-
-      pub lines_fit : length lines ≤ length (rest_of q₁ out₁)
+      lines_fit : length lines ≤ length (rest_of q₁ out₁)
       lines_fit = part_fits names_put
 
       module _ (o₂ : Option ℕ) (out₂ : List ℕ) (put₂ : Put (rest_of q₁ out₁) lines out₂ o₂) where
-        pub lines_are_put : o₂ ≡ None → (end : List ℕ) (a : Option ℕ) → Put out (whole_text names lines kept passes) end a
-        lines_are_put none end a = never_none (rest_of q₁ out₁) lines lines_fit o₂ put₂.size none
-
         module _ (q₂ : ℕ) (some₂ : o₂ ≡ Some q₂) where
           lines_put : Left out (whole_text names lines kept passes) (given_back q₁ out₁ out₂) (q₁ + q₂) (totals_names ∷ totals kept passes ∷ [])
           lines_put = left_behind names_put (put_is_stored _ _ lines_fit o₂ put₂.size q₂ some₂ out₂ put₂.list)
-
-          pub lines_end_inside : q₁ + q₂ ≤ length (given_back q₁ out₁ out₂)
-          lines_end_inside = inside lines_put.stored
-
-          pub lines_end : q₁ + q₂ ≤ length out
-          lines_end = lines_put.stored.within
 
           totals_names_fit : length totals_names ≤ length (rest_of (q₁ + q₂) (given_back q₁ out₁ out₂))
           totals_names_fit = part_fits lines_put
 
           module _ (o₃ : Option ℕ) (size₃ : o₃ ≡ put_size (rest_of (q₁ + q₂) (given_back q₁ out₁ out₂)) totals_names) where
-            pub totals_names_are_put : o₃ ≡ None → (end : List ℕ) (a : Option ℕ) → Put out (whole_text names lines kept passes) end a
-            totals_names_are_put none end a = never_none _ totals_names totals_names_fit o₃ size₃ none
-
             module _ (q₃ : ℕ) (some₃ : o₃ ≡ Some q₃) (out₃ : List ℕ)
                 (list₃ : out₃ ≡ put_list (rest_of (q₁ + q₂) (given_back q₁ out₁ out₂)) totals_names) where
               abbrev last : List ℕ
@@ -119,25 +94,13 @@ module _ (names lines : List ℕ) (kept passes : ℕ) (out : List ℕ) (fits : l
               totals_left : Left out (whole_text names lines kept passes) last (q₁ + q₂ + q₃) (totals kept passes ∷ [])
               totals_left = left_behind lines_put (put_is_stored _ _ totals_names_fit o₃ size₃ q₃ some₃ out₃ list₃)
 
-              pub totals_begin_inside : q₁ + q₂ + q₃ ≤ length last
-              totals_begin_inside = inside totals_left.stored
-
-              pub totals_begin : q₁ + q₂ + q₃ ≤ length out
-              totals_begin = totals_left.stored.within
-
               totals_fit : length (totals kept passes) ≤ length (rest_of (q₁ + q₂ + q₃) last)
               totals_fit = part_fits totals_left
 
               module _ (o₄ : Option ℕ) (size₄ : o₄ ≡ put_size (rest_of (q₁ + q₂ + q₃) last) (totals kept passes)) where
-                pub totals_are_put : o₄ ≡ None → (end : List ℕ) (a : Option ℕ) → Put out (whole_text names lines kept passes) end a
-                totals_are_put none end a = never_none _ (totals kept passes) totals_fit o₄ size₄ none
-
                 module _ (q₄ : ℕ) (some₄ : o₄ ≡ Some q₄) (out₄ : List ℕ) (list₄ : out₄ ≡ put_list (rest_of (q₁ + q₂ + q₃) last) (totals kept passes)) where
                   whole_stored : Stored out (whole_text names lines kept passes) (given_back (q₁ + q₂ + q₃) last out₄) (q₁ + q₂ + q₃ + q₄)
                   whole_stored = all_stored (left_behind totals_left (put_is_stored _ _ totals_fit o₄ size₄ q₄ some₄ out₄ list₄))
-
-                  pub whole_end : q₁ + q₂ + q₃ + q₄ ≤ length out
-                  whole_end = whole_stored.within
 
                   pub whole_put : Put out (whole_text names lines kept passes) (given_back (q₁ + q₂ + q₃) last out₄) (Some (q₁ + q₂ + q₃ + q₄))
                   whole_put = stored_put whole_stored

@@ -9,7 +9,8 @@ use meanings_ranges::{Bounds, RANGE_ROW_WIDTH, RangeEstimate};
 use text_decimal::put_bytes;
 use text_lines::{put_pair_line, put_range_line};
 
-// The row of mark k. Rows stand one behind the other in one list of numbers, as the C interface lends it.
+// The row of mark k. Rows stand one behind the other in one list of numbers, as the C interface lends it; of a TryFrom each call would take an Err that never
+// comes, since the room is asked.
 pub(crate) fn stored_range_row(rows: &[u64], k: usize) -> RangeEstimate
     requires { range_row_width * k + range_row_width ≤ length rows.now }
     ensures { result ≡ stored_range_row rows.now k }
@@ -31,6 +32,7 @@ pub(crate) fn stored_range_row(rows: &[u64], k: usize) -> RangeEstimate
 }
 
 // A line for each mark, which fits. text has the same loop: a trait over the row, with its width and line as ghost members, is longer than both.
+#[tactic(auto, unfolding(text_decimal::specs::Written::put_size, text_decimal::specs::Written::put_list, text_decimal::specs::Written::fits, text_decimal::specs::Written::written), using(crate::proofs::Tables::next_line_fits))]
 pub(crate) fn put_range_lines(out: &mut [u8], marks: Marks, rows: &[u64]) -> Option<usize>
     requires { (length marks.bandwidths.now ≡ length marks.points.now) × (length rows.now ≡ range_row_width * length marks.points.now) × (length (range_table_lines marks.points.now marks.bandwidths.now rows.now (length marks.points.now)) ≤ length out.old) }
     ensures { Put out.old (range_table_lines marks.entry.points.now marks.entry.bandwidths.now rows.now (length marks.entry.points.now)) out.new result }
@@ -47,6 +49,7 @@ pub(crate) fn put_range_lines(out: &mut [u8], marks: Marks, rows: &[u64]) -> Opt
 }
 
 // The whole curve, which fits, then kept readings and passes. text has the same with another header; a trait is longer than both, as at put_range_lines.
+#[tactic(auto, unfolding(text_decimal::specs::Written::put_size, text_decimal::specs::Written::fits, text_lines::specs::Whole::whole_text))]
 pub(crate) fn put_range_curve(
     out: &mut [u8],
     kept: usize,
@@ -54,7 +57,9 @@ pub(crate) fn put_range_curve(
     rows: &[u64],
     passes: u64,
 ) -> Option<usize>
-    requires { (length marks.bandwidths.now ≡ length marks.points.now) × (length rows.now ≡ range_row_width * length marks.points.now) × (length (range_table_text marks.points.now marks.bandwidths.now rows.now kept passes) ≤ length out.old) }
+    requires even { length marks.bandwidths.now ≡ length marks.points.now }
+    requires seven { length rows.now ≡ range_row_width * length marks.points.now }
+    requires fits { length (range_table_text marks.points.now marks.bandwidths.now rows.now kept passes) ≤ length out.old }
     ensures { Put out.old (range_table_text marks.entry.points.now marks.entry.bandwidths.now rows.now kept passes) out.new result }
 {
     let lines = put_bytes(

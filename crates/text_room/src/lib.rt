@@ -49,7 +49,8 @@ fn has_room(room: usize, first: u64, numbers: &[u64], values: &[u64]) -> bool
     0 < left
 }
 
-// Whether `room` bytes are enough for a line of numbers and, behind them, values.
+// Whether `room` bytes are enough for a line of numbers and, behind them, values. The three stay parameters, here and in text_lines: a struct of them would be
+// made for each line and taken apart again, and each clause would name the loan of its lists.
 #[tactic(auto, using(crate::proofs::Sizes::fits_with_room))]
 pub fn line_fits(room: usize, first: u64, numbers: &[u64], values: &[u64]) -> bool
     ensures { result ≡ leb (length (line_text first numbers.now values.now)) room }

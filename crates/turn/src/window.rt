@@ -1,4 +1,5 @@
-// A record turned to a window: each edge goes from where it stands to where the window has it. No step of `estimator`, whose edges go on alone.
+// A record turned to a window: each edge goes from where it stands to where the window has it. Beside `moved` of `estimator`, where the right edge bounds the
+// way of the left one and hands its sums on: here each edge has sums of its own, so one function for both would share the passes alone.
 ghost use Rattle.std.specs.Prelude.{◌≡◌};
 ghost use Rattle.meanings.specs.Turn.{turned};
 ghost use Rattle.meanings.proofs.Checks.{TurnAccepted};

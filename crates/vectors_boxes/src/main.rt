@@ -47,7 +47,7 @@ struct Program;
 
 impl Calls for Program {
     fn answer(call: u64, case: Case) {
-        // The number is the input's.
+        // The number of the call is the input's.
         match call {
             1 => boxes_case(case),
             _ => (),

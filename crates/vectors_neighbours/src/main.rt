@@ -26,7 +26,7 @@ struct Program;
 
 impl Calls for Program {
     fn answer(call: u64, case: Case) {
-        // the call's number is the input's
+        // The number of the call is the input's.
         match call {
             1 => neighbours_case(case),
             _ => (),

@@ -1,5 +1,5 @@
-// The calls at one mark, the single step, the turn and the row of a record on the vectors of stdin: each answer, with the lent list whole. What is written is held to the
-// file stdout. Both files are made by the second implementation: bin gate_vectors of reference/, which says their form.
+// The calls at one mark, the single step, the turn and the row of a record on the vectors of stdin: each answer, with the lent list whole. What is
+// written is held to the file stdout. Both files are made by the second implementation: bin gate_vectors of reference/, which says their form.
 #![tactic(auto)]
 
 use abi_point::{tankcurve_evaluate, tankcurve_window};
@@ -58,7 +58,7 @@ struct Program;
 
 impl Calls for Program {
     fn answer(call: u64, case: Case) {
-        // the call's number is the input's
+        // The number of the call is the input's.
         match call {
             1 => point_case(
                 case,

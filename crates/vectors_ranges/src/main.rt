@@ -50,7 +50,7 @@ struct Program;
 
 impl Calls for Program {
     fn answer(call: u64, case: Case) {
-        // the call's number is the input's
+        // The number of the call is the input's.
         match call {
             1 => smooth_case(case),
             2 => read_case(case),

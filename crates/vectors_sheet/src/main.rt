@@ -29,7 +29,7 @@ struct Program;
 
 impl Calls for Program {
     fn answer(call: u64, case: Case) {
-        // The number is the input's.
+        // The number of the call is the input's.
         match call {
             1 => read_case(case),
             _ => (),

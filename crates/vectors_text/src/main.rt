@@ -9,7 +9,8 @@ use vectors_io::{Calls, Case, each_case, show_text};
 // The longest buffer of a case.
 const MOST_BUFFER: usize = 44200;
 
-// How many bytes are lent to a call: as many as the longest text has, or as many as the case states.
+// How many bytes are lent to a call: as many as the longest text has, or as many as the case states. Only what is lent differs, so it is
+// no closure.
 #[derive(Clone, Copy, Debug, PartialEq, Eq)]
 enum Lent {
     Longest,

@@ -6,5 +6,5 @@ use Rattle.neighbours.proofs.nearest.put_bandwidths.Goals as goal
 pub loop-i-preserved : goal.loop-i-preserved
 loop-i-preserved c = search stores_go_on
 
-pub returns-clause-filled : goal.returns-clause-filled
-returns-clause-filled c = search stores_end
+pub returns : goal.returns
+returns c = search stores_end
