@@ -7,7 +7,7 @@ ghost use Rattle.meanings.specs.Estimate.{kernel};
 use meanings::Mark;
 
 // h² − d² for the reading's distance d from the mark; from the window's edge on 0. The square is that of the difference modulo 2^64, which needs no
-// comparison: the weight takes 6 compiled instructions, with abs_diff 13, and as (h − d)(h + d) with a test 15.
+// comparison. With abs_diff, and as (h − d)(h + d) with a test, the reading that decides takes 1.20 and 1.33 of the instructions (docs/FIGURES.md).
 #[tactic(auto, using(crate::proofs::Squares::square_fits, crate::proofs::Squares::weight_is_kernel))]
 pub fn sample_weight(minute: u16, mark: Mark) -> u64
     ensures { result ≡ kernel mark.point mark.bandwidth minute }
