@@ -22,15 +22,13 @@ fn pattern(double: f64) -> u64 {
 // A row's weight, the number, and the length of the lent list.
 fn doubles_case(mut case: Case) {
     let mut doubles = [7.0f64; 8];
-    let mut patterns = [0u64; 8];
     let weight = case.number();
     let one = case.number();
-    let doubles = case.lent(&mut doubles);
-    show_answer(tankcurve_doubles(weight, one, doubles));
-    for (to, double) in patterns.iter_mut().zip(doubles.iter()) {
-        *to = pattern(*double);
-    }
-    show_list(&patterns[..doubles.len()]);
+    let lent = case.lent(&mut doubles);
+    let n = lent.len();
+    show_answer(tankcurve_doubles(weight, one, lent));
+    let patterns = doubles.map(pattern);
+    show_list(&patterns[..n]);
 }
 
 // Nothing, one double or two: no array holds each.

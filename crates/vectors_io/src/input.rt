@@ -10,9 +10,6 @@ const IN: i32 = 0;
 // More cases than any input has: what ends the loop over them by proof.
 const MOST_CASES: u64 = 100000;
 
-// The most bytes of a case.
-const MOST_BYTES: usize = 40000;
-
 // The most elements of a list of readings or of marks in a case.
 pub const MOST_ELEMENTS: usize = 1100;
 
@@ -104,7 +101,7 @@ pub fn each_case<C: Calls>() -> u64
     ensures { result ≤ 100000 }
 {
     for n in 0..MOST_CASES {
-        let mut bytes = [0u8; MOST_BYTES];
+        let mut bytes = io::large_buffer();
         let Some(size) = next_case(&mut bytes) else {
             return n;
         };

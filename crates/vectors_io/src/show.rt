@@ -1,6 +1,7 @@
 // What a call gives: its answer, and a lent list as runs of equal elements. `print!` takes the runtime, which all functions down to here would have to
 // hand on.
 ghost use Rattle.std.specs.Prelude.{◌≡◌, ◌/◌, ◌%◌, Some, None, ◌==◌, if◌then◌else◌, length};
+ghost use Rattle.meanings.specs.Codes.{detail_unit};
 
 use meanings::DETAIL_UNIT;
 use num_traits::AsPrimitive;
@@ -9,7 +10,7 @@ const OUT: i32 = 1;
 
 // Writes an answer's number and detail. Gives the detail of an accepted call, which for a text is how many bytes are written.
 pub fn show_answer(answer: u64) -> Option<u64>
-    ensures { result ≡ (if answer % 256 == 0 then Some (answer / 256) else None) }
+    ensures { result ≡ (if answer % detail_unit == 0 then Some (answer / detail_unit) else None) }
 {
     let number = answer % DETAIL_UNIT;
     let detail = answer / DETAIL_UNIT;

@@ -11,7 +11,7 @@ const MOST_BUFFER: usize = 44200;
 
 // How many bytes are lent to a call: as many as the longest text has, or as many as the case states. Only what is lent differs, so it is
 // no closure.
-#[derive(Clone, Copy, Debug, PartialEq, Eq)]
+#[derive(Clone, Copy)]
 enum Lent {
     Longest,
     Stated,
