@@ -9,7 +9,7 @@ use Rattle.meanings.specs.declared.Refusal.{Refusal}
 use Rattle.std.specs.Prelude.{Result, Ok, Err}
 use Rattle.meanings.specs.declared.Counts.{Counts}
 use Rattle.meanings.specs.Limits.{full}
-use Rattle.meanings.specs.Reports.{Answer, refused}
+use Rattle.meanings.specs.Reports.{Answer, refused, fault_of}
 use Rattle.meanings.specs.Sheet.{read_sheet}
 use Rattle.meanings.specs.Calls.{read}
 use Rattle.meanings.proofs.Checks.{differ_same, differ_true}
@@ -21,7 +21,7 @@ use Rattle.sheet_front.specs.Stages.{front_read, FrontOutcome}
 use Rattle.sheet_front.proofs.Fronts.{front_of_call}
 use Rattle.sheet_samples.specs.Stages.{SamplesOutcome}
 use Rattle.sheet_samples.proofs.SampleLoop.{samples_of_call}
-use Rattle.sheet.specs.Stages.{FullLists, Scanned, ReadInto}
+use Rattle.sheet.specs.Stages.{FullLists, Scanned, ReadInto, ReadLent}
 
 -- the front of the sheet, read into lists of full length
 module _ {s zs hs : List ℕ} {m n : ℕ} (points : m ≡ 512) (bandwidths : n ≡ 512) where
@@ -90,5 +90,11 @@ module _ (s ts vs zs hs : List ℕ) where
         even_read f =
             rw (differ_same (length ts) 1024 a, differ_same (length vs) 1024 b, differ_same (length zs) 512 e, differ_same (length hs) 512 f)
 
--- what the call goes by
-pub ruleset reading_call = (minutes_uneven, values_uneven, points_uneven, bandwidths_uneven, even_read)
+-- what is left and answered then
+module _ {s ts vs zs hs : List ℕ} where
+  pub lent_uneven : {r : Refusal} → fault_of r ≡ record { number = 8; place = 0 } → Uneven s ts vs zs hs → ReadLent s ts vs zs hs (Err r) ts vs zs hs
+  lent_uneven e u = record { answer = rw (u, e); minutes = rw u; values = rw u; points = rw u; bandwidths = rw u }
+
+  pub lent_even : {r : Result Counts Refusal} {ts' vs' zs' hs' : List ℕ} → read full s ts vs zs hs ≡ read_sheet full s
+      → ReadInto s ts vs zs hs r ts' vs' zs' hs' → ReadLent s ts vs zs hs r ts' vs' zs' hs'
+  lent_even e w = record { answer = rw e w.answer; minutes = rw e w.minutes; values = rw e w.values; points = rw e w.points; bandwidths = rw e w.bandwidths }

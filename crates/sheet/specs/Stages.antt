@@ -7,7 +7,7 @@ use Rattle.meanings.specs.declared.Counts.{Counts}
 use Rattle.meanings.specs.Limits.{full}
 use Rattle.meanings.specs.Reports.{given, refused, fault_of}
 use Rattle.meanings.specs.Sheet.{Outcome, read_sheet}
-use Rattle.meanings.specs.Calls.{answer_of, counts, read_minutes, read_values, read_evaluation_points, read_bandwidths}
+use Rattle.meanings.specs.Calls.{answer_of, counts, read, read_minutes, read_values, read_evaluation_points, read_bandwidths}
 
 -- after the whole sheet, read into lists of full length
 abbrev pub sheet_read : Result Counts Refusal → List ℕ → List ℕ → List ℕ → List ℕ → Outcome
@@ -34,3 +34,11 @@ pub record ReadInto (s ts vs zs hs : List ℕ) (r : Result Counts Refusal) (ts' 
   pub values : vs' ≡ read_values (read_sheet full s) vs
   pub points : zs' ≡ read_evaluation_points (read_sheet full s) zs
   pub bandwidths : hs' ≡ read_bandwidths (read_sheet full s) hs
+
+-- the sheet read into lent lists of any lengths
+pub record ReadLent (s ts vs zs hs : List ℕ) (r : Result Counts Refusal) (ts' vs' zs' hs' : List ℕ) : Type 0 where
+  pub answer : answer_of r ≡ counts (read full s ts vs zs hs)
+  pub minutes : ts' ≡ read_minutes (read full s ts vs zs hs) ts
+  pub values : vs' ≡ read_values (read full s ts vs zs hs) vs
+  pub points : zs' ≡ read_evaluation_points (read full s ts vs zs hs) zs
+  pub bandwidths : hs' ≡ read_bandwidths (read full s ts vs zs hs) hs

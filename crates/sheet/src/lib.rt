@@ -4,7 +4,7 @@
 ghost use Rattle.std.specs.Prelude.{◌≡◌};
 ghost use Rattle.meanings.specs.Limits.{full};
 ghost use Rattle.meanings.specs.Calls.{answer_of, counts, read, read_minutes, read_values, read_evaluation_points, read_bandwidths};
-ghost use Rattle.sheet.specs.Stages.{FullLists, Scanned, ReadInto};
+ghost use Rattle.sheet.specs.Stages.{FullLists, Scanned, ReadInto, ReadLent};
 
 use meanings::{Counts, Refusal, Report};
 use sheet_front::read_front;
@@ -58,9 +58,26 @@ pub(crate) fn read_into(
     Ok(used)
 }
 
-// The reader, for lent lists of any lengths. Each stays a parameter of its own, as C lends it; one of another length than the sheet asks is refused as
-// it is taken for an array.
-#[tactic(auto, using(crate::proofs::Scans::reading_call))]
+// The reader, for lent lists of any lengths: one of another length than the sheet asks is refused as it is taken for an array. Its contract is one record,
+// since the check looks for each clause at each of the four refusals, beside long arrays.
+fn read_lent(
+    sheet: &[u8],
+    minutes: &mut [u16],
+    values: &mut [u16],
+    points: &mut [u16],
+    bandwidths: &mut [u32],
+) -> Result<Counts, Refusal>
+    ensures { ReadLent sheet.now minutes.old values.old points.old bandwidths.old result minutes.new values.new points.new bandwidths.new }
+{
+    let uneven = Report::LengthMismatch.at(0);
+    let minutes = minutes.as_mut_array().ok_or(uneven)?;
+    let values = values.as_mut_array().ok_or(uneven)?;
+    let points = points.as_mut_array().ok_or(uneven)?;
+    let bandwidths = bandwidths.as_mut_array().ok_or(uneven)?;
+    read_into(sheet, minutes, values, points, bandwidths)
+}
+
+// The same as equations with the meanings. Each list stays a parameter of its own, as C lends it.
 pub fn read_sheet(
     sheet: &[u8],
     minutes: &mut [u16],
@@ -74,10 +91,5 @@ pub fn read_sheet(
     ensures points_after { points.new ≡ read_evaluation_points (read full sheet.now minutes.old values.old points.old bandwidths.old) points.old }
     ensures bandwidths_after { bandwidths.new ≡ read_bandwidths (read full sheet.now minutes.old values.old points.old bandwidths.old) bandwidths.old }
 {
-    let uneven = Report::LengthMismatch.at(0);
-    let minutes = minutes.as_mut_array().ok_or(uneven)?;
-    let values = values.as_mut_array().ok_or(uneven)?;
-    let points = points.as_mut_array().ok_or(uneven)?;
-    let bandwidths = bandwidths.as_mut_array().ok_or(uneven)?;
-    read_into(sheet, minutes, values, points, bandwidths)
+    read_lent(sheet, minutes, values, points, bandwidths)
 }

@@ -8,8 +8,8 @@ use lib.ListN.{length, take, drop}
 use lib.Seq.{length-take-le}
 use Rattle.meanings.specs.declared.Refusal.{Refusal}
 use Rattle.meanings.specs.Limits.{full}
-use Rattle.meanings.specs.Reports.{refused}
-use Rattle.std.specs.Prelude.{Ok, Err}
+use Rattle.meanings.specs.Reports.{refused, fault_of}
+use Rattle.std.specs.Prelude.{Result, Ok, Err}
 use Rattle.meanings_ranges.specs.declared.RangeCounts.{RangeCounts}
 use Rattle.meanings_ranges.specs.RangeSheet.{read_either}
 use Rattle.meanings_ranges.specs.RangeCalls.{read_ranges}
@@ -17,7 +17,7 @@ use Rattle.list_fronts.specs.Copied.{copied}
 use Rattle.list_fronts.proofs.Copies.{copied_front, copied_part}
 use Rattle.sheet_scan.specs.Stages.{uneven_reader, EitherScanned, FullLists}
 use Rattle.sheet_scan.proofs.Scans.{minutes_off, lows_off, highs_off, points_off, bandwidths_off, all_even, same_read}
-use Rattle.sheet_ranges.specs.Stages.{ReadInto}
+use Rattle.sheet_ranges.specs.Stages.{ReadInto, ReadLent}
 
 -- a list copied whole to the front of another
 abbrev pub whole : List ℕ → List ℕ → List ℕ
@@ -100,5 +100,20 @@ module _ (s ts ls us zs hs : List ℕ) where
       → read_ranges full s ts ls us zs hs ≡ read_either full s
   even_read x y z w v = same_read s ts ls us zs hs (all_even (length ts) (length ls) (length us) (length zs) (length hs) x y z w v)
 
--- what the call goes by
-pub ruleset reading_call = (minutes_uneven, lows_uneven, highs_uneven, points_uneven, bandwidths_uneven, even_read)
+-- what is left and answered then
+module _ {s ts ls us zs hs : List ℕ} where
+  pub lent_uneven : {r : Refusal} → fault_of r ≡ record { number = 8; place = 0 } → Uneven s ts ls us zs hs
+      → ReadLent s ts ls us zs hs (Err r) ts ls us zs hs
+  lent_uneven e u = record { answer = rw (u, e); minutes = rw u; lows = rw u; highs = rw u; points = rw u; bandwidths = rw u }
+
+  pub lent_even : {r : Result RangeCounts Refusal} {ts' ls' us' zs' hs' : List ℕ} → read_ranges full s ts ls us zs hs ≡ read_either full s
+      → ReadInto s ts ls us zs hs r ts' ls' us' zs' hs' → ReadLent s ts ls us zs hs r ts' ls' us' zs' hs'
+  lent_even e w =
+      record {
+        answer = rw e w.answer;
+        minutes = rw e w.minutes;
+        lows = rw e w.lows;
+        highs = rw e w.highs;
+        points = rw e w.points;
+        bandwidths = rw e w.bandwidths;
+      }

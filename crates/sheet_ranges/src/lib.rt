@@ -6,7 +6,7 @@ ghost use Rattle.meanings.specs.Limits.{full};
 ghost use Rattle.meanings.specs.Calls.{answer_of};
 ghost use Rattle.meanings_ranges.specs.RangeCalls.{range_counts, range_front, read_ranges, minutes_of, lows_of};
 ghost use Rattle.meanings_ranges.specs.RangeCalls.{highs_of, points_of, bandwidths_of};
-ghost use Rattle.sheet_ranges.specs.Stages.{ReadInto};
+ghost use Rattle.sheet_ranges.specs.Stages.{ReadInto, ReadLent};
 
 use meanings::{Marks, Refusal, Report};
 use meanings_ranges::{RangeCounts, Ranges};
@@ -41,9 +41,28 @@ pub(crate) fn read_into(
     Ok(used)
 }
 
-// The reader, for lent lists of any lengths. Each stays a parameter of its own, as C lends it; one of another length than the sheet asks is refused as
-// it is taken for an array.
-#[tactic(auto, using(crate::proofs::Scans::reading_call))]
+// The reader, for lent lists of any lengths: one of another length than the sheet asks is refused as it is taken for an array. Its contract is one record,
+// since the check looks for each clause at each of the five refusals, beside long arrays.
+fn read_lent(
+    sheet: &[u8],
+    minutes: &mut [u16],
+    lows: &mut [u16],
+    highs: &mut [u16],
+    points: &mut [u16],
+    bandwidths: &mut [u32],
+) -> Result<RangeCounts, Refusal>
+    ensures { ReadLent sheet.now minutes.old lows.old highs.old points.old bandwidths.old result minutes.new lows.new highs.new points.new bandwidths.new }
+{
+    let uneven = Report::LengthMismatch.at(0);
+    let minutes = minutes.as_mut_array().ok_or(uneven)?;
+    let lows = lows.as_mut_array().ok_or(uneven)?;
+    let highs = highs.as_mut_array().ok_or(uneven)?;
+    let points = points.as_mut_array().ok_or(uneven)?;
+    let bandwidths = bandwidths.as_mut_array().ok_or(uneven)?;
+    read_into(sheet, minutes, lows, highs, points, bandwidths)
+}
+
+// The same as equations with the meanings. Each list stays a parameter of its own, as C lends it.
 pub fn read_ranges(
     sheet: &[u8],
     minutes: &mut [u16],
@@ -59,11 +78,5 @@ pub fn read_ranges(
     ensures points_after { points.new ≡ range_front (read_ranges full sheet.now minutes.old lows.old highs.old points.old bandwidths.old) points_of points.old }
     ensures bandwidths_after { bandwidths.new ≡ range_front (read_ranges full sheet.now minutes.old lows.old highs.old points.old bandwidths.old) bandwidths_of bandwidths.old }
 {
-    let uneven = Report::LengthMismatch.at(0);
-    let minutes = minutes.as_mut_array().ok_or(uneven)?;
-    let lows = lows.as_mut_array().ok_or(uneven)?;
-    let highs = highs.as_mut_array().ok_or(uneven)?;
-    let points = points.as_mut_array().ok_or(uneven)?;
-    let bandwidths = bandwidths.as_mut_array().ok_or(uneven)?;
-    read_into(sheet, minutes, lows, highs, points, bandwidths)
+    read_lent(sheet, minutes, lows, highs, points, bandwidths)
 }
