@@ -8,6 +8,7 @@ use Rattle.crossing.proofs.first_at_most.Statement as first_at_most_code
 use Rattle.abi_crossing.proofs.tankcurve_first_at_most.Statement as exported_first_at_most_code
 use Rattle.demands.specs.Calls.{EveryInputTaken}
 use Rattle.demands.specs.Demands.{Demands}
+use Rattle.demands.specs.Runs.{EveryRunEnds}
 use Rattle.demands.proofs.Crossing.{crossings}
 use Rattle.demands.proofs.Demand1.{evaluate_refused, window_refused, advance_refused, smooth_refused, fill_refused, read_refused}
 use Rattle.demands.proofs.Demand1.{text_refused, text_over_refused, refusal_text_refused, exported_evaluate_refused}
@@ -21,12 +22,16 @@ use Rattle.demands.proofs.LineEndings.{line_endings}
 use Rattle.demands.proofs.OtherCalls.{other_calls}
 use Rattle.demands.proofs.Preview.{preview_holds}
 use Rattle.demands.proofs.Program.{program_holds}
+use Rattle.demands.proofs.Runs.{program_runs}
 
-pub demands_by : EveryInputTaken → ((M : Type 1) → first_at_most_code.statement M) → ((M : Type 1) → exported_first_at_most_code.statement M) → Demands
-demands_by every_input first_at_most_ends exported_ends = record {
+pub demands_by : EveryInputTaken → EveryRunEnds
+    → ((M : Type 1) → first_at_most_code.statement M) → ((M : Type 1) → exported_first_at_most_code.statement M) → Demands
+demands_by every_input every_run_ends first_at_most_ends exported_ends = record {
   demand_1 = record {
     every_input = every_input;
     program_holds = program_holds;
+    every_run_ends = every_run_ends;
+    program_runs = program_runs;
     evaluate_refused = evaluate_refused;
     window_refused = window_refused;
     advance_refused = advance_refused;

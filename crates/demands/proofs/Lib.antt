@@ -14,3 +14,4 @@ pub mod Program
 pub mod RecordRows
 pub use Rattle.demands_conditions.proofs.Refusals
 pub mod Rows
+pub mod Runs

@@ -50,6 +50,7 @@ use Rattle.demands.specs.Conditions.{RefusedExactly, NoFault, FirstFault, FirstO
 use Rattle.demands.specs.Conditions.{smooth_conditions, fill_conditions, read_conditions, buffer_conditions, length_first}
 use Rattle.demands.specs.Conditions.{record_row_conditions, code_refusal}
 use Rattle.demands.specs.Crossing.{Crossings}
+use Rattle.demands.specs.Runs.{EveryRunEnds, ProgramRuns}
 use Rattle.demands.specs.LineEndings.{LineEndings}
 
 -- how many readings the event log of these steps, empty at first, inserts and evicts
@@ -85,8 +86,7 @@ pub record Refuses (s : List ℕ) (n p : ℕ) : Type 0 where
   -- what it writes is number and place
   pub text : either_program s ≡ refusal_text (record { number = n; place = p })
 
--- whatever bytes the program is given; `either_program s` is what it writes, which its function `answer` is proved to put into its buffer
--- (crates/tankcurve/src/main.rt)
+-- whatever bytes the program is given; `either_program s` is what it writes: ProgramRuns of Runs.antt says so of each run
 pub record ProgramHolds (s : List ℕ) : Type 0 where
   -- it draws a curve or refuses
   pub one_of_two : ((c : RangeContents) × Draws s c) ⊎ ((n : ℕ) × ((p : ℕ) × Refuses s n p))
@@ -129,8 +129,11 @@ pub record ProgramHolds (s : List ℕ) : Type 0 where
 pub record Demand1 : Type 2 where
   -- every input is taken, each call ends, and nothing is left for the caller to check
   pub every_input : EveryInputTaken
-  -- the program
+  -- the program: what it writes for the bytes s
   pub program_holds : (s : List ℕ) → ProgramHolds s
+  -- that it ends on every reader and writer, and from what a reader has to what a writer gains
+  pub every_run_ends : EveryRunEnds
+  pub program_runs : ProgramRuns
   -- the question at one mark
   pub evaluate_refused : (ts vs : List ℕ) (z h : ℕ) (a : Result Estimate Refusal) → EvaluateCall ts vs z h a
       → RefusedExactly (refusal (answer_of a)) (FirstFault (evaluate_conditions ts vs h))

@@ -3,7 +3,7 @@ use Rattle.crossing.proofs.first_at_most.Met as first_at_most_met
 use Rattle.abi_crossing.proofs.tankcurve_first_at_most.Met as exported_met
 use Rattle.demands.specs.Demands.{Demands}
 use Rattle.demands.proofs.Demands.{demands_by}
-use Rattle.demands_hold.proofs.EveryInput.{every_input}
+use Rattle.demands_hold.proofs.EveryInput.{every_input, every_run_ends}
 
 pub demands : Demands
-demands = demands_by every_input (λ M. first_at_most_met.met) (λ M. exported_met.met)
+demands = demands_by every_input every_run_ends (λ M. first_at_most_met.met) (λ M. exported_met.met)

@@ -21,7 +21,10 @@ use Rattle.abi_sheet.proofs.tankcurve_read.Met as exported_read_met
 use Rattle.abi_text.proofs.tankcurve_text.Met as exported_text_met
 use Rattle.abi_text.proofs.tankcurve_refusal_text.Met as exported_refusal_text_met
 use Rattle.abi_version.proofs.tankcurve_version.Met as exported_version_met
+use Rattle.sheet_to_curve.proofs.run.Met as run_met
+use Rattle.sheet_to_curve.proofs.text_into.Met as text_into_met
 use Rattle.demands.specs.Calls.{EveryInputTaken}
+use Rattle.demands.specs.Runs.{EveryRunEnds}
 
 pub every_input : EveryInputTaken
 every_input = record {
@@ -69,4 +72,13 @@ every_input = record {
   exported_refusal_text_asks_nothing = λ κs a. tt;
   exported_version_ends = exported_version_met.met;
   exported_version_asks_nothing = λ κs a. tt;
+}
+
+-- and so does the program, on every reader and writer
+pub every_run_ends : EveryRunEnds
+every_run_ends = record {
+  run_ends = run_met.met;
+  run_asks_nothing = λ R W κs a reader writer. (reader, writer);
+  text_into_ends = text_into_met.met;
+  text_into_asks_nothing = λ κs a. tt;
 }
