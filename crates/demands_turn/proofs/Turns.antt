@@ -164,11 +164,13 @@ pub turns_hold : Turns
 turns_hold = record {
   every_turn = record {
     lent_turn_ends = lent_turn_met.met;
+    lent_turn_asks_nothing = λ κs a. tt;
     turn_own_ends = turn_own_met.met;
     turn_own_asks_nothing = λ κs a. tt;
     exported_turn_ends = exported_turn_met.met;
     exported_turn_asks_nothing = λ κs a. tt;
   };
+  lent_turn_alike = λ r ts vs z h a r' t c d. (c.ensured.0 ∙ sym d.ensured.0, c.ensured.1 ∙ sym d.ensured.1);
   turn_refused = λ r ts vs z h t c. refused_or_stays r ts vs z h t c;
   exported_turn_refused = λ xs ts vs z h c xs' k.
       let t = sized record_length xs (turn_answer ts vs (record_of xs) z h) in

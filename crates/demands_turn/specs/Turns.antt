@@ -1,5 +1,5 @@
--- What is promised of the turn, of the calls as a caller has them: of the call by value, which lends a record of its own to the call on a lent one,
--- and of the call for C and Rust. SPECIFICATION, "The turn".
+-- What is promised of the turn, of the calls as a caller has them: of the call on a lent record, of the call by value, which lends a record of its own
+-- to the first, and of the call for C and Rust. SPECIFICATION, "The turn".
 use Rattle.std.specs.Prelude.{ℕ, ◌+◌, ◌≡◌, List, [], ◌∷◌, length}
 use Rattle.std.specs.Prelude.{Result, Ok}
 use Rattle.meanings.specs.declared.Refusal.{Refusal}
@@ -21,6 +21,9 @@ use Rattle.meanings.specs.Turn.{Motion, step, turn, after_motions}
 use Rattle.laws_turn.specs.Claims.{Direct, AlikeButPasses, OnWindow, CountedOnce}
 use Rattle.abi_answers.specs.Answers.{record_length, record_of}
 use Rattle.turn.proofs.turn.Statement as lent_turn_code
+use Rattle.turn.proofs.turn.Reads as lent_turn
+use Rattle.turn.proofs.turn.Kinds as lent_turn_kinds
+use denote.Ref.{MutBor}
 use Rattle.turn.proofs.turn_own.Reads as turn_own
 use Rattle.turn.proofs.turn_own.Kinds as turn_own_kinds
 use Rattle.turn.proofs.turn_own.Statement as turn_own_code
@@ -40,6 +43,20 @@ pub record TurnCall (r : RunningSums) (ts vs : List ℕ) (z h : ℕ) (t : Turnin
   pub ensured :
       turn_own.Post lifetimes (r, (readings minutes_at values_at ts vs, (mark z h, tt))) t
       (r, (readings minutes_at values_at ts vs, (mark z h, tt)))
+
+-- a call of the turn on a lent record, which is r at entry and r' at exit
+abbrev pub lent_record : Place → RunningSums → MutBor RunningSums
+lent_record x r = record { ref_ptr = x.ref_ptr; ghost_name = x.ghost_name; now = r }
+
+pub record LentTurnCall (r : RunningSums) (ts vs : List ℕ) (z h : ℕ) (a : Result Unit Refusal)
+    (r' : RunningSums) : Type 0 where
+  pub lifetimes : Lfts 2
+  pub running_at : Place
+  pub minutes_at : Place
+  pub values_at : Place
+  pub ensured :
+      lent_turn.Post lifetimes (lent_record running_at r, (readings minutes_at values_at ts vs, (mark z h, tt))) a
+      (lent_record running_at r', (readings minutes_at values_at ts vs, (mark z h, tt)))
 
 -- a call for C and Rust, on a lent list xs of numbers that is xs' at exit
 pub record ExportedTurn (xs ts vs : List ℕ) (z h c : ℕ) (xs' : List ℕ) : Type 0 where
@@ -71,9 +88,10 @@ pub data ExportedMotions (ts vs : List ℕ) : List ℕ → List Motion → List 
   one_turn : {xs xs' xs'' : List ℕ} {ms : List Motion} (m : Move) (c : ℕ) → ExportedTurn xs ts vs m.point m.bandwidth c xs'
       → ExportedMotions ts vs xs' ms xs'' → ExportedMotions ts vs xs (turn m ∷ ms) xs''
 
--- every input is taken, and the calls come to an end; the first is the call on a lent record, whose contract is the others' in its own words
+-- every input is taken, and the calls come to an end
 pub record EveryTurnTaken : Type 2 where
   pub lent_turn_ends : {M : Type 1} → lent_turn_code.statement M
+  pub lent_turn_asks_nothing : (κs : Lfts 2) (a : Dens κs lent_turn_kinds.ps) → lent_turn.Asked κs a
   pub turn_own_ends : {M : Type 1} → turn_own_code.statement M
   pub turn_own_asks_nothing : (κs : Lfts 1) (a : Dens κs turn_own_kinds.ps) → turn_own.Asked κs a
   pub exported_turn_ends : {M : Type 1} → exported_turn_code.statement M
@@ -81,6 +99,10 @@ pub record EveryTurnTaken : Type 2 where
 
 pub record Turns : Type 2 where
   pub every_turn : EveryTurnTaken
+  -- a call on a lent record tells and leaves what the call by value does
+  pub lent_turn_alike : (r : RunningSums) (ts vs : List ℕ) (z h : ℕ) (a : Result Unit Refusal) (r' : RunningSums)
+      (t : Turning) → LentTurnCall r ts vs z h a r' → TurnCall r ts vs z h t
+      → (verdict_fault a ≡ verdict_fault t.verdict) × (r' ≡ t.running)
   -- refused exactly for the first report whose condition holds; then the record stays
   pub turn_refused : (r : RunningSums) (ts vs : List ℕ) (z h : ℕ) (t : Turning) → TurnCall r ts vs z h t
       → RefusedAndStays (verdict_fault t.verdict) (FirstFault (turn_conditions ts vs r.left r.right h)) (t.running ≡ r)
