@@ -730,7 +730,6 @@ const WEIGHTS: [u64; 721] = [
 ];
 
 // The whole table, for a caller to lend.
-#[tactic(auto, using(crate::proofs::Table::table_holds))]
 pub fn biweight_weights() -> [u64; 721]
     ensures { IsTable result }
 {
