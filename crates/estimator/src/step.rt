@@ -1,6 +1,5 @@
-// One step of a running record: the right edge moves on, then the left one, up to the new right.
-// Beside fused_step of `stepping_fused`: the compiler takes a step of that length into a loop only where the loop calls it once, so of two records side by
-// side one takes this step, 211,372 instructions for 269,137 (docs/FIGURES.md).
+// One step of a running record: the right edge moves on, then the left one, up to the new right. `fused_step` of `stepping_fused` gives the same in one look
+// at each reading, for the calls that make a step at each mark.
 ghost use Rattle.std.specs.Prelude.{◌≡◌};
 ghost use Rattle.meanings.specs.Running.{moved as moved_meaning};
 ghost use Rattle.meanings.proofs.Checks.{AdvanceAccepted};

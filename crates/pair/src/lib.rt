@@ -15,7 +15,7 @@ use estimator::of_16_bits;
 use meanings::{Mark, Marks, Readings, Refusal, RunningSums};
 use meanings_pair::{Bounded, Parting};
 use ranking::{split_at, unlike};
-use stepping::{step_beside, step_to};
+use stepping::step_to;
 
 // The search in accepted lists.
 fn parted(first: Readings, second: Readings, marks: Marks) -> Option<Bounded>
@@ -34,7 +34,7 @@ fn parted(first: Readings, second: Readings, marks: Marks) -> Option<Bounded>
             bandwidth: marks.bandwidths[k],
         };
         let one = step_to(running1, first, mark);
-        let two = step_beside(running2, second, mark);
+        let two = step_to(running2, second, mark);
         if unlike(one.row, two.row) {
             return Some(split_at(k, one.row, two.row));
         }

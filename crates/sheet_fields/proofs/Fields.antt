@@ -1,11 +1,10 @@
--- The number before the next comma: a part with a byte that is no digit is no number, nor is one that goes on after digits that say 10,000 or
--- more, since they are five at least; one that ends after its digits is the number that they say, if it has a digit and no leading zero. Digits
--- without a leading zero that say less than 100,000 are at most five.
-use Rattle.std.proofs.Common.{◌≡◌, ℕ, suc, ◌+◌, ◌-◌, ◌*◌, ◌^◌, ◌<◌, ◌≤◌, Bool, true, false, ◌&&◌, ltb, leb, ◌⊎◌, List, [], ◌∷◌, ◌++◌, length}
-use Rattle.std.proofs.Common.{get_or, drop, sym, refl, ap, ◌∙◌, inl, inr, append_assoc, append-nil, mul-le-mul_right, mul_assoc, eq-or-lt_of_le}
-use Rattle.std.proofs.Common.{add-one, arith, length-append, length-drop, drop_of_length-le, drop-cons, ltb-false, ltb-true, eq-eqb, ne_eqb, le-leb}
-use Rattle.std.proofs.Common.{leb-false, leb-true, Some, None}
-use native.Mathlib.Nat.{pow-succ', pow-le-pow_right}
+-- The number before the next comma. A part with a byte that is no digit is no number, nor is one of more than five bytes. One of one to five digits
+-- without a leading zero is the number that they say; five digits say less than 2^32, so the value modulo 2^32 is what they say.
+use Rattle.std.proofs.Common.{◌≡◌, ℕ, suc, ◌+◌, ◌-◌, ◌*◌, ◌%◌, ◌^◌, ◌<◌, ◌≤◌, Bool, true, false, ◌&&◌, leb, List, [], ◌∷◌, ◌++◌, length}
+use Rattle.std.proofs.Common.{get_or, drop, sym, refl, ap, ◌∙◌, inl, inr, append_assoc, append-nil}
+use Rattle.std.proofs.Common.{add-one, arith, length-append, length-drop, drop_of_length-le, drop-cons, eq-eqb, ne_eqb, le-leb}
+use Rattle.std.proofs.Common.{Some, None}
+use native.Mathlib.Nat.{pow-le-pow_right}
 use borrow.Author.Tests.{lt-leb}
 use Rattle.std.specs.Char.{IsNotAsciiDigit}
 use Rattle.meanings.specs.Bytes.{comma, zero_digit, nine_digit}
@@ -64,50 +63,13 @@ first_part_goes_on : (d r : List ℕ) → Free comma d → first_part (d ++ r) �
 first_part_goes_on [] r f = refl
 first_part_goes_on (b ∷ d) r f = rw (f.0, first_part_goes_on d r f.1)
 
--- digits say at least what the first of them says, moved to the left
-digits_value_at_least : (n : ℕ) (bs : List ℕ) → n * 10 ^ length bs ≤ digits_value n bs
-digits_value_at_least n [] = omega arith
-digits_value_at_least n (b ∷ bs) =
-    let k = digits_value_at_least (n * 10 + (b - zero_digit)) bs in
-    let m : (n * 10) * 10 ^ length bs ≤ (n * 10 + (b - zero_digit)) * 10 ^ length bs = mul-le-mul_right (10 ^ length bs) (omega arith) in
-    rw (pow-succ' 10 (length bs), ← mul_assoc n 10 (10 ^ length bs)) (omega arith)
-
--- d, digits that say less than 100,000, is the front of a text that begins with x
-plain_digits_few : (d r u : List ℕ) (x : ℕ) → x ∷ u ≡ d ++ r → digits d ≡ true → digits_value 0 d < 100000 → (1 < length d → x ≡ zero_digit → ⊥)
-    → length d ≤ 5
-plain_digits_few [] r u x e f l n = omega arith
-plain_digits_few (b ∷ d) r u x e f l n = by (leb (length d) 4) refl
-  where
-    one_more : (b ≡ zero_digit → ⊥) → zero_digit ≤ b → 1 ≤ b - zero_digit
-    one_more n low = by_order (eq-or-lt_of_le low)
-      where
-        by_order : (zero_digit ≡ b) ⊎ (zero_digit < b) → 1 ≤ b - zero_digit
-        by_order (inl q) = absurd (n (sym q))
-        by_order (inr q) = omega arith
-
-    by : (t : Bool) → leb (length d) 4 ≡ t → suc (length d) ≤ 5
-    by true q = let k = leb-true (length d) 4 q in omega arith
-    by false q =
-        let long = leb-false (length d) 4 q in
-        let h : x ≡ b = cc in
-        let o = and_true_both (digit b) (digits d) f in
-        let low = leb-true zero_digit b (and_true_both (leb zero_digit b) (leb b nine_digit) o.0).0 in
-        let positive : b ≡ zero_digit → ⊥ = λ z. n (omega arith) (h ∙ z) in
-        let five : 5 ≤ length d = omega arith in
-        let power : 10 ^ 5 ≤ 10 ^ length d = pow-le-pow_right (omega arith) five in
-        let one = one_more positive low in
-        let least : 1 * 10 ^ length d ≤ (0 * 10 + (b - zero_digit)) * 10 ^ length d = mul-le-mul_right (10 ^ length d) (omega arith) in
-        let says = digits_value_at_least (0 * 10 + (b - zero_digit)) d in
-        absurd (omega arith)
-
--- the bytes from p up to q are digits, which say v, less than 100,000
+-- the bytes from p up to q are digits, which say v modulo 2^32
 pub record Passed (t : List ℕ) (p q v : ℕ) : Type 0 where
   pub front : List ℕ
   pub seen : drop p t ≡ front ++ drop q t
   pub front_digits : digits front ≡ true
-  pub front_says : digits_value 0 front ≡ v
+  pub front_says : digits_value 0 front % 2 ^ 32 ≡ v
   pub front_length : q ≡ p + length front
-  pub small : v < 100000
 
 module _ {t : List ℕ} {p q v : ℕ} (s : Passed t p q v) where
   passed_field : field_at t p ≡ number_of p (s.front ++ first_part (drop q t))
@@ -122,15 +84,14 @@ module _ {t : List ℕ} {p q v : ℕ} (s : Passed t p q v) where
 
 -- one byte more, which is no comma
 module _ {t : List ℕ} {p q v : ℕ} (s : Passed t p q v) (l : q < length t) where
-  pub passed_goes_on : {d : ℕ} → d ≡ get_or t q 0 - zero_digit → zero_digit ≤ get_or t q 0 → get_or t q 0 ≤ nine_digit → v ≤ 9999
-      → Passed t p (q + 1) (v * 10 + d)
-  passed_goes_on e low high few = record {
+  pub passed_goes_on : {d m w : ℕ} → d ≡ get_or t q 0 - zero_digit → zero_digit ≤ get_or t q 0 → get_or t q 0 ≤ nine_digit
+      → m ≡ (v * 10) % 2 ^ 32 → w ≡ (m + d) % 2 ^ 32 → Passed t p (q + 1) w
+  passed_goes_on e low high em ew = record {
     front = s.front ++ get_or t q 0 ∷ [];
     seen = s.seen ∙ rw (append_assoc, add-one, drop-cons t q 0 l);
     front_digits = digits_more s.front (get_or t q 0) s.front_digits (digit_in_range (get_or t q 0) low high);
     front_says = omega (arith, digits_value_append 0 s.front (get_or t q 0), s.front_says);
     front_length = simp length-append (omega (arith, s.front_length));
-    small = omega arith;
   }
 
   part_goes_on : ¬ (get_or t q 0 ≡ comma) → first_part (drop q t) ≡ get_or t q 0 ∷ first_part (drop (suc q) t)
@@ -145,25 +106,6 @@ module _ {t : List ℕ} {p q v : ℕ} (s : Passed t p q v) (l : q < length t) wh
   pub no_digit_here : ¬ (get_or t q 0 ≡ comma) → IsNotAsciiDigit (get_or t q 0) → None ≡ field_at t p
   no_digit_here n (inl low) = no_digit_no_number n (below_is_no_digit (get_or t q 0) low)
   no_digit_here n (inr high) = no_digit_no_number n (above_is_no_digit (get_or t q 0) high)
-
-  -- digits that say 10,000 or more are five at least, and here comes another byte
-  pub sixth_byte_no_number : ¬ (get_or t q 0 ≡ comma) → 9999 < v → None ≡ field_at t p
-  sixth_byte_no_number n many =
-      sym
-      (passed_field s
-      ∙ rw (part_goes_on n, over_five_no_number (s.front ++ get_or t q 0 ∷ first_part (drop (suc q) t)) (simp length-append five)))
-    where
-      five : 5 < length s.front + suc (length (first_part (drop (suc q) t)))
-      five = by (ltb (length s.front) 5) refl
-        where
-          by : (b : Bool) → ltb (length s.front) 5 ≡ b → 5 < length s.front + suc (length (first_part (drop (suc q) t)))
-          by true short =
-              let k = ltb-true (length s.front) 5 short in
-              let four : length s.front ≤ 4 = omega arith in
-              let few : 10 ^ length s.front ≤ 10 ^ 4 = pow-le-pow_right (omega arith) four in
-              let below = digits_value_below 0 s.front s.front_digits in
-              absurd (omega (arith, s.front_says))
-          by false long = let k = ltb-false (length s.front) 5 long in omega arith
 
 pub behind_no_number : (t : List ℕ) (p : ℕ) → length t ≤ p → None ≡ field_at t p
 unfolding field_at
@@ -203,18 +145,25 @@ module _ {t : List ℕ} {p e v : ℕ} (s : PartEnd t p e v) (n : p < e) where
       let long : 1 < length f.front = omega (arith, f.front_length) in
       sym (passed_ends f (s.ends n) ∙ rw (leading_zero_no_number f.front (drop e t) (drop (suc p) t) (get_or t p 0) (passed_first f (omega arith)) long z))
 
-  pub plain_number : (1 < e - p → ¬ (get_or t p 0 ≡ zero_digit)) → Some (record { value = v; end = e }) ≡ field_at t p
-  plain_number plain =
+  pub long_no_field : 5 < e - p → None ≡ field_at t p
+  long_no_field l =
+      let f = s.passed n in
+      sym (passed_ends f (s.ends n) ∙ rw (over_five_no_number f.front (omega (arith, f.front_length))))
+
+  pub plain_number : ¬ (5 < e - p) → (1 < e - p → ¬ (get_or t p 0 ≡ zero_digit)) → Some (record { value = v; end = e }) ≡ field_at t p
+  plain_number short plain =
       let f = s.passed n in
       let first = passed_first f (omega arith) in
       let some_byte : 1 ≤ length f.front = omega (arith, f.front_length) in
-      let says : digits_value 0 f.front < 100000 = omega (arith, f.front_says, f.small) in
+      let few : length f.front ≤ 5 = omega (arith, f.front_length) in
+      let power : 10 ^ length f.front ≤ 10 ^ 5 = pow-le-pow_right (omega arith) few in
+      let below = digits_value_below 0 f.front f.front_digits in
+      let says : digits_value 0 f.front ≡ v = omega (arith, f.front_says) in
       let front_plain : 1 < length f.front → ¬ (get_or t p 0 ≡ zero_digit) = λ l. plain (omega (arith, f.front_length)) in
-      let few = plain_digits_few f.front (drop e t) (drop (suc p) t) (get_or t p 0) first f.front_digits says front_plain in
       sym
       (passed_ends f (s.ends n)
       ∙ rw (
         plain_digits_number f.front (drop e t) (drop (suc p) t) (get_or t p 0) first f.front_digits some_byte few front_plain,
-        f.front_says,
+        says,
         ← f.front_length,
       ))

@@ -19,6 +19,7 @@ const ZERO: u8 = b'0';
 
 // The number that begins at byte `from` of a text and goes up to the next comma or the text's end: 1 to 5 digits, no leading zero except
 // 0 itself. `parse` takes a plus sign and leading zeros too, so that the tests of this form would stand beside it.
+#[inline(always)]
 #[tactic(auto, using(crate::proofs::Fields::passed_goes_on))]
 pub fn number_at(text: &[u8], from: usize) -> Option<Field>
     ensures { result ≡ field_at text.now from }
@@ -27,20 +28,19 @@ pub fn number_at(text: &[u8], from: usize) -> Option<Field>
     let mut value = 0u32;
     for at in from..text.len() {
         let b = text[at];
-        if b == COMMA {
+        if !b.is_ascii_digit() {
+            if b != COMMA {
+                return None;
+            }
             end = at;
             break;
         }
-        if !b.is_ascii_digit() {
-            return None;
-        }
-        // Digits that say 10,000 or more are five at least.
-        if 9999 < value {
-            return None;
-        }
-        value = value * 10 + u32::from(b - b'0');
+        value = value.wrapping_mul(10).wrapping_add(u32::from(b - b'0'));
     }
     if end <= from {
+        return None;
+    }
+    if 5 < end - from {
         return None;
     }
     if 1 < end - from && text[from] == ZERO {
@@ -50,6 +50,7 @@ pub fn number_at(text: &[u8], from: usize) -> Option<Field>
 }
 
 // The numbers of a text of N numbers with commas between.
+#[inline(always)]
 #[tactic(auto, using(crate::proofs::Parts::none_read, crate::proofs::Parts::part_is_no_number, crate::proofs::Parts::number_holds, crate::proofs::Parts::part_read, crate::proofs::Parts::parts_left_over, crate::proofs::Parts::all_read))]
 pub fn numbers<const N: usize>(text: &[u8]) -> Option<[u32; N]>
     ensures { result ≡ numbers_of N (parts text.now) }

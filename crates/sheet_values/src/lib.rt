@@ -24,6 +24,7 @@ pub struct Progress {
 }
 
 // The mark of a line's text; its half width has no range here.
+#[inline(always)]
 pub fn point_line(text: &[u8]) -> Option<Mark>
     ensures { point_values result ≡ point_line text.now }
 {
@@ -33,6 +34,7 @@ pub fn point_line(text: &[u8]) -> Option<Mark>
 }
 
 // The values of a reading line's text.
+#[inline(always)]
 pub fn sample_line(text: &[u8]) -> Option<SampleLine>
     ensures { sample_values result ≡ sample_line text.now }
 {
@@ -41,6 +43,7 @@ pub fn sample_line(text: &[u8]) -> Option<SampleLine>
 }
 
 // A reading line's values, if each is in its range. Both callers answer None where there is none: each would throw away the error of a TryFrom.
+#[inline(always)]
 pub fn ranged_sample(minute: u32, injection: u32, value: u32) -> Option<SampleLine>
     ensures { sample_values result ≡ ranged_sample (Some minute) (Some injection) (Some value) }
 {

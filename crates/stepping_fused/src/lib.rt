@@ -58,6 +58,7 @@ fn fused_move(running: RunningSums, readings: Readings, mark: Mark) -> RunningSu
 }
 
 // The record after a step, accepted or refused.
+#[inline(always)]
 #[tactic(auto, unfolding(meanings::specs::Running::advance))]
 pub fn fused_step(running: RunningSums, readings: Readings, mark: Mark) -> RunningSums
     ensures { result ≡ after_step readings.entry.minutes.now readings.entry.values.now running (record { point = mark.point; bandwidth = mark.bandwidth }) }

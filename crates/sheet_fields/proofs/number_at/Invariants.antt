@@ -1,5 +1,5 @@
--- At each turn the bytes passed are digits, which say a value below 100,000. A byte that is neither digit nor comma, or one after a value of
--- five digits, shows that there is no number; at the comma or the end the digits are the whole part.
+-- At each turn the bytes passed are digits, which say the value modulo 2^32. A byte that is neither digit nor comma shows that there is no number; at
+-- the comma or the end the digits are the whole part.
 use Rattle.std.proofs.Common.{◌≡◌, length}
 use Rattle.sheet_fields.proofs.Fields.{Passed}
 use Rattle.sheet_fields.proofs.number_at.Given as goal
