@@ -1,4 +1,4 @@
-// One step of a running record: the right edge moves on, then the left one, up to the new right. `fused_step` of `stepping_fused` gives the same in one look
+// One step of a running record: the right edge moves on, then the left one, up to the new right. `fused_step` gives the same in one look
 // at each reading, for the calls that make a step at each mark.
 ghost use Rattle.std.specs.Prelude.{◌≡◌};
 ghost use Rattle.meanings.specs.Running.{moved as moved_meaning};
