@@ -8,7 +8,7 @@ import tankcurve
 from tankcurve import MISSING, NO_POSITION, Refused, Report, Tank
 from tankcurve._header import CALLS
 
-from vectors import CRATES, PROGRAMS, cases, code_of
+from vectors import VECTORS, calls, cases, code_of
 
 
 def numbers_of(row):
@@ -141,23 +141,23 @@ class Vectors(unittest.TestCase):
 
     def test_every_case(self):
         self.reports = set()
-        calls = set()
-        for program in sorted(PROGRAMS):
-            for k, case in enumerate(cases(program)):
-                with self.subTest(program=program, case=k, call=case.form):
-                    if case.form == "window run":
-                        self.window_run(case)
-                    elif case.form == "row cells":
-                        self.row_cells(case)
-                    else:
-                        calls.add(case.call)
-                        self.holds(case, k)
-        self.assertEqual(calls, set(CALLS) - {"version"}, "calls without a vector")
+        forms = set()
+        for k, case in enumerate(cases()):
+            forms.add(case.form)
+            with self.subTest(case=k, call=case.form):
+                if case.form == "window run":
+                    self.window_run(case)
+                elif case.form == "row cells":
+                    self.row_cells(case)
+                else:
+                    self.holds(case, k)
+        self.assertEqual(forms, set(calls().values()), "calls of the table without a vector")
+        self.assertLessEqual(set(CALLS) - {"version"}, forms, "calls without a vector")
         self.assertEqual(self.reports, set(Report) - {Report.ACCEPTED}, "reports that no vector earns")
 
     def test_every_program_of_vectors(self):
-        found = {path.parent.name for path in CRATES.glob("vectors_*/stdin")}
-        self.assertLessEqual(found, set(PROGRAMS), "programs of vectors that are not run")
+        found = {path.parent.name for path in VECTORS.parent.glob("vectors*/stdin")}
+        self.assertEqual(found, {VECTORS.name}, "programs of vectors that are not run")
 
 
 if __name__ == "__main__":

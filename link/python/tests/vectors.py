@@ -1,4 +1,4 @@
-"""The vectors of the second implementation: the cases of crates/vectors_*/stdin, and what each call has to give by stdout beside it.
+"""The vectors of the second implementation: the cases of crates/vectors/stdin, and what each call has to give by stdout beside it.
 
 A case is its call's number and then what the call takes, in the header's order: a list with its length in front of it, of a lent list the length alone, all
 elements being 7 (a record is lent as it stands), and a sheet as the rest. Of each call stdout has number and detail, and each lent list whole.
@@ -11,22 +11,16 @@ from pathlib import Path
 from tankcurve import MAX_OUTPUT
 from tankcurve._header import CALLS
 
-CRATES = Path(__file__).resolve().parents[3] / "crates"
+ROOT = Path(__file__).resolve().parents[3]
+VECTORS = ROOT / "crates" / "vectors"
 
-# The calls of each program, by their numbers. A name with a tail is a form of a call that is told apart below.
-PROGRAMS = {
-    "vectors_point": {1: "evaluate", 2: "window", 3: "advance", 4: "row", 5: "turn"},
-    "vectors_sweep": {1: "smooth", 2: "fill", 3: "preview"},
-    "vectors_sheet": {1: "read"},
-    "vectors_text": {1: "text", 2: "text lent", 3: "refusal_text", 4: "refusal_text lent"},
-    "vectors_limit": {1: "first_at_most", 2: "decisive"},
-    "vectors_pair": {1: "compare", 2: "window run"},
-    "vectors_neighbours": {1: "neighbours"},
-    "vectors_biweight": {1: "biweight"},
-    "vectors_doubles": {1: "doubles", 2: "row cells"},
-    "vectors_ranges": {1: "smooth_ranges", 2: "read_ranges"},
-    "vectors_boxes": {1: "boxes"},
-}
+
+def calls():
+    """The calls by their numbers, from the table of the second implementation. A second word is a form of a call that is told apart below."""
+    lines = (ROOT / "reference" / "calls.txt").read_text().splitlines()
+    numbered = [line.split(" ", 1) for line in lines if not line.startswith("#")]
+    return {int(number): form for number, form in numbered}
+
 
 CODES = {"uint8_t": "B", "uint16_t": "H", "uint32_t": "I", "uint64_t": "Q", "size_t": "Q", "double": "d"}
 
@@ -147,15 +141,16 @@ def part(shown):
     return elements
 
 
-def cases(program):
-    """Every case of a program."""
-    given, shown = (CRATES / program / "stdin").read_bytes(), Output((CRATES / program / "stdout").read_bytes())
+def cases():
+    """Every case."""
+    numbered = calls()
+    given, shown = (VECTORS / "stdin").read_bytes(), Output((VECTORS / "stdout").read_bytes())
     at = 0
     while at < len(given):
         size = int(given[at : at + 5])
         one = Input(given[at + 6 : at + 6 + size])
         at += 6 + size
-        case = take(PROGRAMS[program][one.number()], one)
+        case = take(numbered[one.number()], one)
         expect(case, shown)
         yield case
     assert shown.at == len(shown.contents)

@@ -2,22 +2,21 @@
 
 use crate::calls::{length as lent, listed, sized, MOST_ELEMENTS, MOST_NUMBERS};
 use crate::draws::{length, sample_count, LISTS};
-use crate::files::{Answer, Cases, Program};
+use crate::files::{Answer, Cases};
 use reference::generators::lists::some_point;
 use reference::generators::random::Random;
 use reference::{biweight, MISSING, ROW_WIDTH};
 
 impl Cases {
     pub fn biweight(&mut self, minutes: &[u16], values: &[u16], mark: u16, row: usize) -> Answer {
-        let mut numbers = vec![1];
-        numbers.extend(listed(minutes, MOST_ELEMENTS));
+        let mut numbers = listed(minutes, MOST_ELEMENTS);
         numbers.extend(listed(values, MOST_ELEMENTS));
         numbers.extend([mark.into(), lent(row, MOST_NUMBERS)]);
-        self.case(Program::Biweight, &numbers, b"");
+        self.case("biweight", &numbers, b"");
         let result = sized(row, ROW_WIDTH).and_then(|()| biweight(minutes, values, mark));
         let list = result.map_or(vec![7; row], |five| five.to_vec());
         let answer = result.map(|_| 0);
-        self.answer(Program::Biweight, "biweight", answer, b"", vec![list])
+        self.answer("biweight", answer, b"", vec![list])
     }
 }
 
@@ -143,7 +142,7 @@ fn near_edge(random: &mut Random, minutes: &[u16]) -> u16 {
 }
 
 pub fn random_cases(cases: &mut Cases) {
-    // Draws of their own, so that those of the other programs stay.
+    // Draws of their own, so that those of the other calls stay.
     let random = &mut Random(28);
     for _ in 0..120 {
         let count = sample_count(random);

@@ -1,12 +1,12 @@
 //! Minute and temperature together.
 
 use crate::calls::{length as lent, listed, wide, MOST_ELEMENTS};
-use crate::files::{Answer, Cases, Program};
+use crate::files::{Answer, Cases};
 use reference::boxes::CELLS;
 use reference::generators::boxes::Question;
 use reference::generators::random::Random;
 
-/// The most marks, numbers of boxes and cells: those of vectors_boxes.
+/// The most marks, numbers of boxes and cells: those of the program.
 const MOST_MARKS: usize = 40;
 const MOST_BOXES: usize = 2400;
 const MOST_CELLS: usize = 4300;
@@ -19,8 +19,7 @@ type TemperatureMark = (u8, u32);
 impl Cases {
     /// The call, with lists of sevens of the stated lengths.
     fn boxes(&mut self, question: &Question) -> Answer {
-        let mut numbers = vec![1];
-        numbers.extend(listed(&question.minutes, MOST_ELEMENTS));
+        let mut numbers = listed(&question.minutes, MOST_ELEMENTS);
         numbers.extend(listed(&question.temperatures, MOST_ELEMENTS));
         numbers.extend(listed(&question.values, MOST_ELEMENTS));
         numbers.extend(listed(&question.minute_marks, MOST_MARKS));
@@ -30,10 +29,10 @@ impl Cases {
         numbers.push(lent(question.boxes, MOST_BOXES));
         numbers.push(lent(question.counts, MOST_CELLS));
         numbers.push(lent(question.sums, MOST_CELLS));
-        self.case(Program::Boxes, &numbers, b"");
+        self.case("boxes", &numbers, b"");
         let (result, boxes, counts, sums) = question.answered(7);
         let lists = vec![boxes, wide(&counts), wide(&sums)];
-        self.answer(Program::Boxes, "boxes", result.map(|()| 0), b"", lists)
+        self.answer("boxes", result.map(|()| 0), b"", lists)
     }
 
     fn asked(
@@ -220,7 +219,7 @@ fn lengths(cases: &mut Cases) {
     }
 }
 
-/// Drawn apart from the cases of the other programs.
+/// Drawn apart from the cases of the other calls.
 pub fn random_cases(cases: &mut Cases) {
     let random = &mut Random(19);
     for _ in 0..120 {

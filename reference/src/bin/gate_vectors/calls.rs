@@ -1,6 +1,6 @@
 //! A case of each call, and its answer by the second implementation.
 
-use crate::files::{Answer, Cases, Program};
+use crate::files::{Answer, Cases};
 use reference::exported::{BOUNDS, COUNTS, PARTING, READER, RECORD};
 use reference::pair::{compare, compared_run, Readings, Tank};
 use reference::{
@@ -8,7 +8,7 @@ use reference::{
     Record, Refusal, MOST_OUTPUT, ROW_WIDTH,
 };
 
-/// The most minutes, values, points or bandwidths: vectors_io's MOST_ELEMENTS.
+/// The most minutes, values, points or bandwidths: the program's MOST_ELEMENTS.
 pub const MOST_ELEMENTS: usize = 1100;
 
 /// The most rows.
@@ -73,15 +73,13 @@ fn record_of(numbers: &[u64]) -> Record {
 
 /// The numbers of a case at one mark.
 fn at_one_mark(
-    call: u64,
     minutes: &[u16],
     values: &[u16],
     point: u16,
     bandwidth: u32,
     lent: usize,
 ) -> Vec<u64> {
-    let mut numbers = vec![call];
-    numbers.extend(listed(minutes, MOST_ELEMENTS));
+    let mut numbers = listed(minutes, MOST_ELEMENTS);
     numbers.extend(listed(values, MOST_ELEMENTS));
     numbers.extend([point.into(), bandwidth.into(), length(lent, MOST_NUMBERS)]);
     numbers
@@ -96,18 +94,12 @@ impl Cases {
         bandwidth: u32,
         row: usize,
     ) -> Answer {
-        let numbers = at_one_mark(1, minutes, values, point, bandwidth, row);
-        self.case(Program::Point, &numbers, b"");
+        let numbers = at_one_mark(minutes, values, point, bandwidth, row);
+        self.case("evaluate", &numbers, b"");
         let result =
             sized(row, ROW_WIDTH).and_then(|()| one_mark(minutes, values, point, bandwidth));
         let list = result.map_or(vec![7; row], |numbers| numbers.to_vec());
-        self.answer(
-            Program::Point,
-            "evaluate",
-            result.map(|_| 0),
-            b"",
-            vec![list],
-        )
+        self.answer("evaluate", result.map(|_| 0), b"", vec![list])
     }
 
     pub fn window(
@@ -118,13 +110,13 @@ impl Cases {
         bandwidth: u32,
         bounds: usize,
     ) -> Answer {
-        let numbers = at_one_mark(2, minutes, values, point, bandwidth, bounds);
-        self.case(Program::Point, &numbers, b"");
+        let numbers = at_one_mark(minutes, values, point, bandwidth, bounds);
+        self.case("window", &numbers, b"");
         let result =
             sized(bounds, BOUNDS).and_then(|()| one_mark(minutes, values, point, bandwidth));
         let (left, right) = one_mark_run(minutes, values, point, bandwidth);
         let list = result.map_or(vec![7; bounds], |_| vec![left as u64, right as u64]);
-        self.answer(Program::Point, "window", result.map(|_| 0), b"", vec![list])
+        self.answer("window", result.map(|_| 0), b"", vec![list])
     }
 
     /// Both calls at one mark; gives the row's answer.
@@ -136,38 +128,35 @@ impl Cases {
     /// The step, or the turn, of a record of which `record` has the numbers.
     fn moved(
         &mut self,
-        call: (u64, &'static str, Moving),
+        (call, moving): (&'static str, Moving),
         record: &[u64],
         minutes: &[u16],
         values: &[u16],
         point: u16,
         bandwidth: u32,
     ) -> Answer {
-        let (number, name, moving) = call;
-        let mut numbers = vec![number];
-        numbers.extend(listed(record, MOST_RECORD));
+        let mut numbers = listed(record, MOST_RECORD);
         numbers.extend(listed(minutes, MOST_ELEMENTS));
         numbers.extend(listed(values, MOST_ELEMENTS));
         numbers.extend([u64::from(point), u64::from(bandwidth)]);
-        self.case(Program::Point, &numbers, b"");
+        self.case(call, &numbers, b"");
         let result = sized(record.len(), RECORD)
             .and_then(|()| moving(record_of(record), minutes, values, point, bandwidth));
         let list = match result {
             Ok(after) => [&[after.left, after.right], &after.sums[..], &[after.passes]].concat(),
             Err(_) => record.to_vec(),
         };
-        self.answer(Program::Point, name, result.map(|_| 0), b"", vec![list])
+        self.answer(call, result.map(|_| 0), b"", vec![list])
     }
 
     /// The run of one mark's window, as the part that is handed back.
     pub fn window_part(&mut self, minutes: &[u16], values: &[u16], point: u16, bandwidth: u32) {
-        let mut numbers = vec![2];
-        numbers.extend(listed(minutes, MOST_ELEMENTS));
+        let mut numbers = listed(minutes, MOST_ELEMENTS);
         numbers.extend(listed(values, MOST_ELEMENTS));
         numbers.extend([u64::from(point), u64::from(bandwidth)]);
-        self.case(Program::Pair, &numbers, b"");
+        self.case("window run", &numbers, b"");
         let (left, right) = one_mark_run(minutes, values, point, bandwidth);
-        self.part(Program::Pair, &values[left..right]);
+        self.part(&values[left..right]);
     }
 
     /// Two tanks, and the run that is handed back.
@@ -179,13 +168,13 @@ impl Cases {
         bandwidths: &[u32],
         out: usize,
     ) -> Answer {
-        let mut numbers = vec![1];
+        let mut numbers = vec![];
         for list in [first.0, first.1, second.0, second.1, points] {
             numbers.extend(listed(list, MOST_ELEMENTS));
         }
         numbers.extend(listed(bandwidths, MOST_ELEMENTS));
         numbers.push(length(out, MOST_NUMBERS));
-        self.case(Program::Pair, &numbers, b"");
+        self.case("compare", &numbers, b"");
         let result = sized(out, PARTING).and_then(|()| compare(first, second, points, bandwidths));
         let (detail, list) = match result {
             Ok(Some(parting)) => {
@@ -199,13 +188,13 @@ impl Cases {
             Ok(None) | Err(_) => (0, vec![7; out]),
         };
         let result = result.map(|_| detail);
-        let answer = self.answer(Program::Pair, "compare", result, b"", vec![list]);
+        let answer = self.answer("compare", result, b"", vec![list]);
         let (tank, left, right) = compared_run(first, second, points, bandwidths);
         let values = match tank {
             Tank::First => first.1,
             Tank::Second => second.1,
         };
-        self.part(Program::Pair, &values[left..right]);
+        self.part(&values[left..right]);
         answer
     }
 
@@ -217,14 +206,7 @@ impl Cases {
         point: u16,
         bandwidth: u32,
     ) -> Answer {
-        self.moved(
-            (3, "advance", step),
-            record,
-            minutes,
-            values,
-            point,
-            bandwidth,
-        )
+        self.moved(("advance", step), record, minutes, values, point, bandwidth)
     }
 
     pub fn turn(
@@ -235,24 +217,23 @@ impl Cases {
         point: u16,
         bandwidth: u32,
     ) -> Answer {
-        self.moved((5, "turn", turn), record, minutes, values, point, bandwidth)
+        self.moved(("turn", turn), record, minutes, values, point, bandwidth)
     }
 
     /// The row of a record, of which `record` has the numbers.
     pub fn record_row(&mut self, record: &[u64], point: u16, bandwidth: u32, row: usize) -> Answer {
-        let mut numbers = vec![4];
-        numbers.extend(listed(record, MOST_RECORD));
+        let mut numbers = listed(record, MOST_RECORD);
         numbers.extend([
             u64::from(point),
             u64::from(bandwidth),
             length(row, MOST_NUMBERS),
         ]);
-        self.case(Program::Point, &numbers, b"");
+        self.case("row", &numbers, b"");
         let result = sized(record.len(), RECORD)
             .and_then(|()| sized(row, ROW_WIDTH))
             .map(|()| record_row(record_of(record), point, bandwidth));
         let list = result.map_or(vec![7; row], |five| five.to_vec());
-        self.answer(Program::Point, "row", result.map(|_| 0), b"", vec![list])
+        self.answer("row", result.map(|_| 0), b"", vec![list])
     }
 
     /// Steps that each take the record the one before returned or left; gives
@@ -272,25 +253,23 @@ impl Cases {
         record
     }
 
-    /// The sweep, call 1, or the preview, call 3.
+    /// The sweep, or the preview.
     fn curve(
         &mut self,
-        (number, name): (u64, &'static str),
-        call: Sweep,
+        (call, sweep): (&'static str, Sweep),
         (minutes, values): (&[u16], &[u16]),
         (points, bandwidths): (&[u16], &[u32]),
         rows: usize,
     ) -> Answer {
-        let mut numbers = vec![number];
-        numbers.extend(listed(minutes, MOST_ELEMENTS));
+        let mut numbers = listed(minutes, MOST_ELEMENTS);
         numbers.extend(listed(values, MOST_ELEMENTS));
         numbers.extend(listed(points, MOST_ELEMENTS));
         numbers.extend(listed(bandwidths, MOST_ELEMENTS));
         numbers.push(length(rows, MOST_ROWS));
-        self.case(Program::Sweep, &numbers, b"");
+        self.case(call, &numbers, b"");
         let mut list = vec![7; rows];
-        let result = call(minutes, values, points, bandwidths, &mut list);
-        self.answer(Program::Sweep, name, result, b"", vec![list])
+        let result = sweep(minutes, values, points, bandwidths, &mut list);
+        self.answer(call, result, b"", vec![list])
     }
 
     pub fn smooth(
@@ -302,7 +281,7 @@ impl Cases {
         rows: usize,
     ) -> Answer {
         let (samples, grid) = ((minutes, values), (points, bandwidths));
-        self.curve((1, "smooth"), sweep, samples, grid, rows)
+        self.curve(("smooth", sweep), samples, grid, rows)
     }
 
     pub fn preview(
@@ -314,7 +293,7 @@ impl Cases {
         rows: usize,
     ) -> Answer {
         let (samples, grid) = ((minutes, values), (points, bandwidths));
-        self.curve((3, "preview"), preview, samples, grid, rows)
+        self.curve(("preview", preview), samples, grid, rows)
     }
 
     pub fn fill(
@@ -326,26 +305,25 @@ impl Cases {
         bandwidths: usize,
     ) -> Answer {
         let numbers = [
-            2,
             first.into(),
             spacing.into(),
             preset.into(),
             length(points, MOST_ELEMENTS),
             length(bandwidths, MOST_ELEMENTS),
         ];
-        self.case(Program::Sweep, &numbers, b"");
+        self.case("fill", &numbers, b"");
         let mut point_list = vec![7; points];
         let mut bandwidth_list = vec![7; bandwidths];
         let result = fill(first, spacing, preset, &mut point_list, &mut bandwidth_list);
         let lists = vec![wide(&point_list), wide(&bandwidth_list)];
-        self.answer(Program::Sweep, "fill", result.map(|()| 0), b"", lists)
+        self.answer("fill", result.map(|()| 0), b"", lists)
     }
 
     pub fn read(&mut self, sheet: &[u8], lengths: [usize; 5]) -> Answer {
-        let mut numbers = vec![1];
+        let mut numbers = vec![];
         numbers.extend(lengths[..4].iter().map(|&n| length(n, MOST_ELEMENTS)));
         numbers.push(length(lengths[4], MOST_NUMBERS));
-        self.case(Program::Sheet, &numbers, sheet);
+        self.case("read", &numbers, sheet);
         let mut minutes = vec![7; lengths[0]];
         let mut values = vec![7; lengths[1]];
         let mut points = vec![7; lengths[2]];
@@ -369,13 +347,13 @@ impl Cases {
             wide(&bandwidths),
             counts,
         ];
-        self.answer(Program::Sheet, "read", result.map(|_| 0), b"", lists)
+        self.answer("read", result.map(|_| 0), b"", lists)
     }
 
     pub fn text(&mut self, sheet: &[u8], out: usize) -> Answer {
         match out {
-            MOST_OUTPUT => self.case(Program::Text, &[1], sheet),
-            _ => self.case(Program::Text, &[2, length(out, MOST_OUT)], sheet),
+            MOST_OUTPUT => self.case("text", &[], sheet),
+            _ => self.case("text lent", &[length(out, MOST_OUT)], sheet),
         }
         let mut list = vec![7; out];
         let result = text(sheet, &mut list);
@@ -384,10 +362,10 @@ impl Cases {
 
     pub fn refusal_text(&mut self, number: u64, place: u64, out: usize) -> Answer {
         match out {
-            MOST_OUTPUT => self.case(Program::Text, &[3, number, place], b""),
+            MOST_OUTPUT => self.case("refusal_text", &[number, place], b""),
             _ => {
-                let numbers = [4, number, place, length(out, MOST_OUT)];
-                self.case(Program::Text, &numbers, b"");
+                let numbers = [number, place, length(out, MOST_OUT)];
+                self.case("refusal_text lent", &numbers, b"");
             }
         }
         let mut list = vec![7; out];
@@ -404,7 +382,7 @@ impl Cases {
     ) -> Answer {
         let (front, rest) = out.split_at(result.unwrap_or(0));
         let result = result.map(|n| n as u64);
-        self.answer(Program::Text, call, result, front, vec![wide(rest)])
+        self.answer(call, result, front, vec![wide(rest)])
     }
 
     /// A sheet read, and its text; gives the reader's answer. The text is

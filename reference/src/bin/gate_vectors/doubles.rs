@@ -2,28 +2,27 @@
 
 use crate::calls::{length as lent, sized, MOST_NUMBERS};
 use crate::draws::length;
-use crate::files::{Answer, Cases, Program};
+use crate::files::{Answer, Cases};
 use reference::exported::DOUBLES;
 use reference::generators::random::Random;
 use reference::{cell, one_mark, pattern, row_cells, ROW_WIDTH};
 
 impl Cases {
     pub fn doubles(&mut self, weight: u64, number: u64, doubles: usize) -> Answer {
-        let numbers = [1, weight, number, lent(doubles, MOST_NUMBERS)];
-        self.case(Program::Doubles, &numbers, b"");
+        let numbers = [weight, number, lent(doubles, MOST_NUMBERS)];
+        self.case("doubles", &numbers, b"");
         let result = sized(doubles, DOUBLES).map(|()| cell(weight, number).patterns());
         let mut list = vec![pattern(7); doubles];
         let front = result.clone().unwrap_or_default();
         list[..front.len()].copy_from_slice(&front);
         let used = result.map(|patterns| patterns.len() as u64);
-        self.answer(Program::Doubles, "doubles", used, b"", vec![list])
+        self.answer("doubles", used, b"", vec![list])
     }
 
     pub fn row_cells(&mut self, row: [u64; ROW_WIDTH]) -> Answer {
-        let numbers = [&[2], &row[..]].concat();
-        self.case(Program::Doubles, &numbers, b"");
+        self.case("row cells", &row, b"");
         let lists = row_cells(&row).map(|cell| cell.patterns()).to_vec();
-        self.answer(Program::Doubles, "row_cells", Ok(0), b"", lists)
+        self.answer("row cells", Ok(0), b"", lists)
     }
 }
 

@@ -1,4 +1,4 @@
-//! The programs' files, and what is counted of the cases.
+//! The program's files, the numbers of the calls, and what is counted of the cases.
 
 use reference::exported::DETAIL_UNIT;
 use reference::Refusal;
@@ -7,45 +7,34 @@ use std::fs;
 use std::io;
 use std::path::Path;
 
-/// The most bytes of standard input of a program. It is our own limit, that of
-/// a file that can still be looked at.
-const MOST_STDIN: usize = 500_000;
+/// The most bytes of standard input. It is our own limit, that of a file that
+/// can still be looked at.
+const MOST_STDIN: usize = 2_000_000;
 
-/// The most bytes of a case: vectors_io's MOST_BYTES.
+/// The most bytes of a case: they fit into the program's buffer.
 const MOST_BYTES: usize = 40_000;
 
-/// The most cases of a program: vectors_io's MOST_CASES.
+/// The most cases: the program's MOST_CASES.
 const MOST_CASES: usize = 100_000;
 
-/// The programs.
-#[derive(Clone, Copy)]
-pub enum Program {
-    Point,
-    Sweep,
-    Sheet,
-    Text,
-    Limit,
-    Neighbours,
-    Pair,
-    Biweight,
-    Doubles,
-    Ranges,
-    Boxes,
+/// The calls by their numbers. Python's tests read the same table, and
+/// `tests/compare` holds the program's match to it.
+const TABLE: &str = include_str!("../../../calls.txt");
+
+/// Each number of the table, with the call.
+fn table() -> impl Iterator<Item = (u64, &'static str)> {
+    let lines = TABLE.lines().filter(|line| !line.starts_with('#'));
+    lines.map(|line| {
+        let (number, call) = line.split_once(' ').expect("a number and a call");
+        (number.parse().expect("a number"), call)
+    })
 }
 
-const PROGRAMS: [(Program, &str); 11] = [
-    (Program::Point, "vectors_point"),
-    (Program::Sweep, "vectors_sweep"),
-    (Program::Sheet, "vectors_sheet"),
-    (Program::Text, "vectors_text"),
-    (Program::Limit, "vectors_limit"),
-    (Program::Neighbours, "vectors_neighbours"),
-    (Program::Pair, "vectors_pair"),
-    (Program::Biweight, "vectors_biweight"),
-    (Program::Doubles, "vectors_doubles"),
-    (Program::Ranges, "vectors_ranges"),
-    (Program::Boxes, "vectors_boxes"),
-];
+/// The number of a call.
+fn number_of(call: &str) -> u64 {
+    let found = table().find(|&(_, name)| name == call);
+    found.unwrap_or_else(|| panic!("{call} has no number")).0
+}
 
 /// Each call, and what it can answer.
 const REPORTS: [(&str, &[u64]); 21] = [
@@ -66,7 +55,7 @@ const REPORTS: [(&str, &[u64]); 21] = [
     ("compare", &[8, 6, 7, 4, 5, 9, 10, 16, 0]),
     ("biweight", &[8, 6, 4, 0]),
     ("doubles", &[8, 0]),
-    ("row_cells", &[0]),
+    ("row cells", &[0]),
     ("smooth_ranges", &[8, 6, 7, 4, 15, 5, 9, 10, 0]),
     ("read_ranges", &[8, 1, 2, 3, 4, 15, 5, 9, 10, 6, 7, 0]),
     ("boxes", &[8, 6, 7, 5, 17, 9, 0]),
@@ -114,39 +103,33 @@ fn runs(list: &[u64]) -> String {
     line + "\n"
 }
 
-/// A program's files.
-#[derive(Default)]
-struct Files {
-    cases: usize,
-    stdin: Vec<u8>,
-    stdout: Vec<u8>,
-}
-
-/// The cases so far, and what was told how often.
+/// The cases so far, what the program has to write, and what was told how often.
 #[derive(Default)]
 pub struct Cases {
-    files: [Files; PROGRAMS.len()],
+    stdin: Vec<u8>,
+    stdout: Vec<u8>,
+    /// How many cases each call has.
+    made: BTreeMap<&'static str, usize>,
     /// How often each call gave each number.
     told: BTreeMap<(&'static str, u64), usize>,
 }
 
 impl Cases {
-    /// A case with these numbers and, behind them, these bytes.
-    pub fn case(&mut self, program: Program, numbers: &[u64], bytes: &[u8]) {
-        let words: Vec<String> = numbers.iter().map(u64::to_string).collect();
+    /// A case of a call with these numbers and, behind them, these bytes.
+    pub fn case(&mut self, call: &'static str, numbers: &[u64], bytes: &[u8]) {
+        let mut words = vec![number_of(call).to_string()];
+        words.extend(numbers.iter().map(u64::to_string));
         let case = [words.join(" ").as_bytes(), b"\n", bytes].concat();
         assert!(case.len() <= MOST_BYTES, "{} bytes of a case", case.len());
-        let files = &mut self.files[program as usize];
-        files.stdin.extend(format!("{:05}\n", case.len()).bytes());
-        files.stdin.extend(case);
-        files.cases += 1;
+        self.stdin.extend(format!("{:05}\n", case.len()).bytes());
+        self.stdin.extend(case);
+        *self.made.entry(call).or_default() += 1;
     }
 
     /// What the case before gives: an answer, the text that stands in front of
     /// a buffer, and the lent lists.
     pub fn answer(
         &mut self,
-        program: Program,
         call: &'static str,
         result: Result<u64, Refusal>,
         text: &[u8],
@@ -156,11 +139,11 @@ impl Cases {
             Ok(detail) => (0, detail),
             Err(refusal) => (u64::from(refusal.number), refusal.place),
         };
-        let stdout = &mut self.files[program as usize].stdout;
-        stdout.extend(format!("{number} {detail}\n").into_bytes());
-        stdout.extend(text);
+        self.stdout
+            .extend(format!("{number} {detail}\n").into_bytes());
+        self.stdout.extend(text);
         for list in &lists {
-            stdout.extend(runs(list).into_bytes());
+            self.stdout.extend(runs(list).into_bytes());
         }
         *self.told.entry((call, number)).or_default() += 1;
         Answer {
@@ -171,16 +154,18 @@ impl Cases {
     }
 
     /// What the case before gives besides: a part of a list that is handed back.
-    pub fn part(&mut self, program: Program, part: &[u16]) {
+    pub fn part(&mut self, part: &[u16]) {
         let length = part.len() as u64;
-        let stdout = &mut self.files[program as usize].stdout;
-        stdout.extend(format!("{} {}\n", length % DETAIL_UNIT, length / DETAIL_UNIT).into_bytes());
+        let (number, detail) = (length % DETAIL_UNIT, length / DETAIL_UNIT);
+        self.stdout
+            .extend(format!("{number} {detail}\n").into_bytes());
         let list: Vec<u64> = part.iter().map(|&value| value.into()).collect();
-        stdout.extend(runs(&list).into_bytes());
+        self.stdout.extend(runs(&list).into_bytes());
     }
 
-    /// Each report of each call occurs at least twice and no other one, and
-    /// each input is short enough.
+    /// Each report of each call occurs at least twice and no other one, the
+    /// table has the numbers from 1 on, each with cases, and the input is short
+    /// enough.
     pub fn check(&self) {
         for (call, reports) in REPORTS {
             for &number in reports {
@@ -190,22 +175,24 @@ impl Cases {
             let seen = self.told.keys().filter(|key| key.0 == call).count();
             assert_eq!(seen, reports.len(), "{call} gives another number");
         }
-        for (program, name) in PROGRAMS {
-            let Files { cases, stdin, .. } = &self.files[program as usize];
-            let size = stdin.len();
-            println!("{name}: {cases} cases, {size} bytes of stdin");
-            assert!(size <= MOST_STDIN, "{name}: {size} bytes of stdin");
-            assert!(*cases <= MOST_CASES, "{name}: {cases} cases");
+        for (wanted, (number, call)) in (1..).zip(table()) {
+            assert_eq!(number, wanted, "the number of {call}");
+            let cases = self.made.get(call).copied().unwrap_or(0);
+            println!("{number} {call}: {cases} cases");
+            assert!(cases >= 2, "{call}: {cases} cases");
         }
+        assert_eq!(table().count(), self.made.len(), "a call is there twice");
+        let cases: usize = self.made.values().sum();
+        let size = self.stdin.len();
+        println!("{cases} cases, {size} bytes of stdin");
+        assert!(size <= MOST_STDIN, "{size} bytes of stdin");
+        assert!(cases <= MOST_CASES, "{cases} cases");
     }
 
     pub fn write(&self, folder: &Path) -> io::Result<()> {
-        for (program, name) in PROGRAMS {
-            let own = folder.join(name);
-            fs::create_dir_all(&own)?;
-            fs::write(own.join("stdin"), &self.files[program as usize].stdin)?;
-            fs::write(own.join("stdout"), &self.files[program as usize].stdout)?;
-        }
-        Ok(())
+        let own = folder.join("vectors");
+        fs::create_dir_all(&own)?;
+        fs::write(own.join("stdin"), &self.stdin)?;
+        fs::write(own.join("stdout"), &self.stdout)
     }
 }

@@ -2,7 +2,7 @@
 
 use crate::calls::{length as lent, listed, sized, MOST_ELEMENTS, MOST_NUMBERS};
 use crate::draws::{length, sample_count, LISTS};
-use crate::files::{Answer, Cases, Program};
+use crate::files::{Answer, Cases};
 use reference::exported::{ANSWER, NO_POSITION};
 use reference::generators::lists::some_point;
 use reference::generators::random::Random;
@@ -22,34 +22,32 @@ type OneMark<'a> = (&'a [u16], &'a [u16], u16, u32);
 impl Cases {
     pub fn first_at_most(&mut self, lists: Lists, limit: u16, answer: usize) -> Answer {
         let (minutes, values, points, bandwidths) = lists;
-        let mut numbers = vec![1];
-        numbers.extend(listed(minutes, MOST_ELEMENTS));
+        let mut numbers = listed(minutes, MOST_ELEMENTS);
         numbers.extend(listed(values, MOST_ELEMENTS));
         numbers.extend(listed(points, MOST_ELEMENTS));
         numbers.extend(listed(bandwidths, MOST_ELEMENTS));
         numbers.extend([limit.into(), lent(answer, MOST_NUMBERS)]);
-        self.case(Program::Limit, &numbers, b"");
+        self.case("first_at_most", &numbers, b"");
         let result = sized(answer, ANSWER)
             .and_then(|()| first_at_most(minutes, values, points, bandwidths, limit));
         let list = result.map_or(vec![7; answer], |(found, _)| position(found));
         let passes = result.map(|(_, passes)| passes);
-        self.answer(Program::Limit, "first_at_most", passes, b"", vec![list])
+        self.answer("first_at_most", passes, b"", vec![list])
     }
 
     pub fn decisive(&mut self, mark: OneMark, limit: u16, answer: usize) -> Answer {
         let (minutes, values, point, bandwidth) = mark;
-        let mut numbers = vec![2];
-        numbers.extend(listed(minutes, MOST_ELEMENTS));
+        let mut numbers = listed(minutes, MOST_ELEMENTS);
         numbers.extend(listed(values, MOST_ELEMENTS));
         let single = [u64::from(point), u64::from(bandwidth), u64::from(limit)];
         numbers.extend(single);
         numbers.push(lent(answer, MOST_NUMBERS));
-        self.case(Program::Limit, &numbers, b"");
+        self.case("decisive", &numbers, b"");
         let result =
             sized(answer, ANSWER).and_then(|()| decisive(minutes, values, point, bandwidth, limit));
         let list = result.map_or(vec![7; answer], position);
         let detail = result.map(|_| 0);
-        self.answer(Program::Limit, "decisive", detail, b"", vec![list])
+        self.answer("decisive", detail, b"", vec![list])
     }
 }
 

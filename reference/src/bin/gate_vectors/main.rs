@@ -1,62 +1,50 @@
-//! The cases of the gate's programs `vectors_point`, `vectors_sweep`,
-//! `vectors_sheet`, `vectors_text`, `vectors_limit`, `vectors_neighbours`, `vectors_pair`,
-//! `vectors_biweight`, `vectors_doubles`, `vectors_ranges` and `vectors_boxes`, and what each has to write for them.
+//! The cases of the gate's program `vectors`, and what it has to write for them.
 //!
-//! `gate_vectors crates` writes stdin and stdout of each program into its
+//! `gate_vectors crates` writes stdin and stdout of the program into its
 //! folder below `crates`, always the same. The answers are the second
 //! implementation's.
 //!
 //! # Calls
 //!
 //! Numbers and slices only. The words on the right are those of
-//! docs/SPECIFICATION.md; lent lists are starred.
+//! docs/SPECIFICATION.md; lent lists are starred. The numbers of the calls are
+//! those of `reference/calls.txt`.
 //!
 //! ```text
-//! vectors_point
-//! 1 evaluate(minutes, values, point, bandwidth, row*)      the question at one mark: its row
-//! 2 window(minutes, values, point, bandwidth, bounds*)     the same question: its run
-//! 3 advance(record*, minutes, values, point, bandwidth)    the single step
-//! 4 row(record, point, bandwidth, row*)                    the row of a record
-//! 5 turn(record*, minutes, values, point, bandwidth)       the turn
+//! evaluate(minutes, values, point, bandwidth, row*)        the question at one mark: its row
+//! window(minutes, values, point, bandwidth, bounds*)       the same question: its run
+//! advance(record*, minutes, values, point, bandwidth)      the single step
+//! turn(record*, minutes, values, point, bandwidth)         the turn
+//! row(record, point, bandwidth, row*)                      the row of a record
 //!
-//! vectors_sweep
-//! 1 smooth(minutes, values, points, bandwidths, rows*)     the sweep
-//! 2 fill(first, spacing, preset, points*, bandwidths*)     the mark filler
-//! 3 preview(minutes, values, points, bandwidths, rows*)    the preview
+//! smooth(minutes, values, points, bandwidths, rows*)       the sweep
+//! preview(minutes, values, points, bandwidths, rows*)      the preview
+//! fill(first, spacing, preset, points*, bandwidths*)       the mark filler
 //!
-//! vectors_sheet
-//! 1 read(sheet, minutes*, values*, points*, bandwidths*, counts*)   the reader
+//! read(sheet, minutes*, values*, points*, bandwidths*, counts*)   the reader
 //!
-//! vectors_text
-//! 1 text(sheet, out*)                                      the curve that the program writes
-//! 2 the same, with a buffer of another length
-//! 3 refusal_text(number, place, out*)                      the refusal that the program writes
-//! 4 the same, with a buffer of another length
+//! text(sheet, out*)                                        the curve that the program writes
+//! text lent                                                the same, with a buffer of another length
+//! refusal_text(number, place, out*)                        the refusal that the program writes
+//! refusal_text lent                                        the same, with a buffer of another length
 //!
-//! vectors_limit
-//! 1 first_at_most(minutes, values, points, bandwidths, limit, position*)   the first mark at or below a limit
-//! 2 decisive(minutes, values, point, bandwidth, limit, position*)          the reading that decides
+//! first_at_most(minutes, values, points, bandwidths, limit, position*)   the first mark at or below a limit
+//! decisive(minutes, values, point, bandwidth, limit, position*)          the reading that decides
 //!
-//! vectors_neighbours
-//! 1 neighbours(minutes, values, points, k, bandwidths*, rows*)   half widths by neighbours
+//! compare(minutes, values, minutes, values, points, bandwidths, out*)    two tanks, and the run handed back
+//! window run(minutes, values, point, bandwidth)            the run handed back
 //!
-//! vectors_pair
-//! 1 compare(minutes, values, minutes, values, points, bandwidths, out*)   two tanks, and the run handed back
-//! 2 window(minutes, values, point, bandwidth)              the run handed back
+//! neighbours(minutes, values, points, k, bandwidths*, rows*)   half widths by neighbours
 //!
-//! vectors_biweight
-//! 1 biweight(minutes, values, point, row*)                 the biweight row at one mark
+//! biweight(minutes, values, point, row*)                   the biweight row at one mark
 //!
-//! vectors_doubles
-//! 1 doubles(weight, number, doubles*)                      a weight or a sum as doubles
-//! 2 row_cells(row)                                         both of a row, by the call that takes a row
+//! doubles(weight, number, doubles*)                        a weight or a sum as doubles
+//! row cells(row)                                           both of a row, by the call that takes a row
 //!
-//! vectors_ranges
-//! 1 smooth_ranges(minutes, lows, highs, points, bandwidths, rows*)                         the sweep over ranges
-//! 2 read_ranges(sheet, minutes*, lows*, highs*, points*, bandwidths*, counts*)             the reader of both kinds
+//! smooth_ranges(minutes, lows, highs, points, bandwidths, rows*)                         the sweep over ranges
+//! read_ranges(sheet, minutes*, lows*, highs*, points*, bandwidths*, counts*)             the reader of both kinds
 //!
-//! vectors_boxes
-//! 1 boxes(minutes, temperatures, values, points, bandwidths, points, bandwidths, boxes*, counts*, sums*)   minute and temperature together
+//! boxes(minutes, temperatures, values, points, bandwidths, points, bandwidths, boxes*, counts*, sums*)   minute and temperature together
 //! ```
 //!
 //! An answer is a number and a detail. Number 0 is accepted, with the passes
@@ -73,40 +61,40 @@
 //!
 //! Each case is headed by its size in bytes, as five digits and a line feed. A
 //! case is decimal numbers, each followed by exactly one byte, a space or a
-//! line feed: its call, and then what the call takes. A list is its length and
+//! line feed: its call's number, and then what the call takes. A list is its length and
 //! then its numbers:
 //!
 //! ```text
-//! vectors_point   1 MINUTES VALUES point bandwidth length-of-row
-//!                 2 MINUTES VALUES point bandwidth length-of-bounds
-//!                 3 RECORD MINUTES VALUES point bandwidth
-//!                 4 RECORD point bandwidth length-of-row
-//!                 5 RECORD MINUTES VALUES point bandwidth
-//! vectors_sweep   1 MINUTES VALUES POINTS BANDWIDTHS length-of-rows
-//!                 2 first spacing preset length-of-points length-of-bandwidths
-//!                 3 MINUTES VALUES POINTS BANDWIDTHS length-of-rows
-//! vectors_sheet   1 length-of-minutes -values -points -bandwidths -counts SHEET
-//! vectors_text    1 SHEET
-//!                 2 length-of-out SHEET
-//!                 3 number place
-//!                 4 number place length-of-out
-//! vectors_limit   1 MINUTES VALUES POINTS BANDWIDTHS limit length-of-position
-//!                 2 MINUTES VALUES point bandwidth limit length-of-position
-//! vectors_neighbours   1 MINUTES VALUES POINTS k length-of-bandwidths length-of-rows
-//! vectors_pair    1 MINUTES VALUES MINUTES VALUES POINTS BANDWIDTHS length-of-out
-//!                 2 MINUTES VALUES point bandwidth
-//! vectors_biweight   1 MINUTES VALUES point length-of-row
-//! vectors_doubles 1 weight number length-of-doubles
-//!                 2 left right weight sum value
-//! vectors_ranges  1 MINUTES LOWS HIGHS POINTS BANDWIDTHS length-of-rows
-//!                 2 length-of-minutes -lows -highs -points -bandwidths -counts SHEET
-//! vectors_boxes   1 MINUTES TEMPERATURES VALUES POINTS BANDWIDTHS POINTS BANDWIDTHS length-of-boxes -counts -sums
+//! evaluate           MINUTES VALUES point bandwidth length-of-row
+//! window             MINUTES VALUES point bandwidth length-of-bounds
+//! advance            RECORD MINUTES VALUES point bandwidth
+//! turn               RECORD MINUTES VALUES point bandwidth
+//! row                RECORD point bandwidth length-of-row
+//! smooth             MINUTES VALUES POINTS BANDWIDTHS length-of-rows
+//! preview            MINUTES VALUES POINTS BANDWIDTHS length-of-rows
+//! fill               first spacing preset length-of-points length-of-bandwidths
+//! read               length-of-minutes -values -points -bandwidths -counts SHEET
+//! text               SHEET
+//! text lent          length-of-out SHEET
+//! refusal_text       number place
+//! refusal_text lent  number place length-of-out
+//! first_at_most      MINUTES VALUES POINTS BANDWIDTHS limit length-of-position
+//! decisive           MINUTES VALUES point bandwidth limit length-of-position
+//! compare            MINUTES VALUES MINUTES VALUES POINTS BANDWIDTHS length-of-out
+//! window run         MINUTES VALUES point bandwidth
+//! neighbours         MINUTES VALUES POINTS k length-of-bandwidths length-of-rows
+//! biweight           MINUTES VALUES point length-of-row
+//! doubles            weight number length-of-doubles
+//! row cells          left right weight sum value
+//! smooth_ranges      MINUTES LOWS HIGHS POINTS BANDWIDTHS length-of-rows
+//! read_ranges        length-of-minutes -lows -highs -points -bandwidths -counts SHEET
+//! boxes              MINUTES TEMPERATURES VALUES POINTS BANDWIDTHS POINTS BANDWIDTHS length-of-boxes -counts -sums
 //! ```
 //!
 //! The bytes of a sheet stand as they are, up to the end of the case. There are
 //! at most 1,100 minutes, values, points or bandwidths, 2,600 rows, 3,600 over ranges, 16 numbers
 //! of a record, 8 of a row, bounds, counts, a position, a parting or doubles, 44,200 bytes of
-//! out, 40 points or bandwidths, 2,400 boxes and 4,300 counts or sums of vectors_boxes, 40,000 bytes of a case and 100,000 cases.
+//! out, 40 points or bandwidths, 2,400 boxes and 4,300 counts or sums of boxes, 40,000 bytes of a case and 100,000 cases.
 //!
 //! # Standard output
 //!

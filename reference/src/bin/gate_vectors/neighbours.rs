@@ -2,7 +2,7 @@
 
 use crate::calls::{length as lent, listed, wide, MOST_ELEMENTS, MOST_ROWS};
 use crate::draws::{length, sample_count, LISTS};
-use crate::files::{Answer, Cases, Program};
+use crate::files::{Answer, Cases};
 use reference::generators::lists::fall;
 use reference::generators::random::Random;
 use reference::{neighbours, ROW_WIDTH};
@@ -19,24 +19,17 @@ impl Cases {
         bandwidths: usize,
         rows: usize,
     ) -> Answer {
-        let mut numbers = vec![1];
-        numbers.extend(listed(minutes, MOST_ELEMENTS));
+        let mut numbers = listed(minutes, MOST_ELEMENTS);
         numbers.extend(listed(values, MOST_ELEMENTS));
         numbers.extend(listed(points, MOST_ELEMENTS));
         numbers.push(k as u64);
         numbers.push(lent(bandwidths, MOST_ELEMENTS));
         numbers.push(lent(rows, MOST_ROWS));
-        self.case(Program::Neighbours, &numbers, b"");
+        self.case("neighbours", &numbers, b"");
         let (mut widths, mut list) = (vec![7; bandwidths], vec![7; rows]);
         let result = neighbours(minutes, values, points, k, &mut widths, &mut list);
         let lists = vec![wide(&widths), list];
-        self.answer(
-            Program::Neighbours,
-            "neighbours",
-            result.map(|()| 0),
-            b"",
-            lists,
-        )
+        self.answer("neighbours", result.map(|()| 0), b"", lists)
     }
 
     /// The same, with as many of both as there are marks.
@@ -154,7 +147,7 @@ fn random_case(random: &mut Random, cases: &mut Cases) {
     cases.neighbours((&minutes, &values, &points), k, bandwidths, rows);
 }
 
-/// Drawn apart from the cases of the other programs.
+/// Drawn apart from the cases of the other calls.
 pub fn random_cases(cases: &mut Cases) {
     let random = &mut Random(15);
     (0..160).for_each(|_| random_case(random, cases));

@@ -3,7 +3,7 @@
 
 use crate::calls::{length as lent, listed, sized, wide, MOST_ELEMENTS, MOST_NUMBERS};
 use crate::draws::{self, length, sample_count, LISTS};
-use crate::files::{Answer, Cases, Program};
+use crate::files::{Answer, Cases};
 use crate::sheet::{C12, SHEET};
 use reference::exported::{RANGE_COUNTS, RANGE_READER};
 use reference::generators::lists::fall;
@@ -22,16 +22,16 @@ impl Cases {
     /// The sweep, with so many numbers of rows lent.
     fn smooth_ranges(&mut self, lists: Lists, rows: usize) -> Answer {
         let (minutes, lows, highs, points, bandwidths) = lists;
-        let mut numbers = vec![1];
+        let mut numbers = vec![];
         for list in [minutes, lows, highs, points] {
             numbers.extend(listed(list, MOST_ELEMENTS));
         }
         numbers.extend(listed(bandwidths, MOST_ELEMENTS));
         numbers.push(lent(rows, MOST_RANGE_ROWS));
-        self.case(Program::Ranges, &numbers, b"");
+        self.case("smooth_ranges", &numbers, b"");
         let mut list = vec![7; rows];
         let result = sweep_ranges(minutes, lows, highs, points, bandwidths, &mut list);
-        self.answer(Program::Ranges, "smooth_ranges", result, b"", vec![list])
+        self.answer("smooth_ranges", result, b"", vec![list])
     }
 
     /// The same, with as many as there are marks.
@@ -40,10 +40,10 @@ impl Cases {
     }
 
     fn read_ranges(&mut self, sheet: &[u8], lengths: [usize; 6]) -> Answer {
-        let mut numbers = vec![2];
+        let mut numbers = vec![];
         numbers.extend(lengths[..5].iter().map(|&n| lent(n, MOST_ELEMENTS)));
         numbers.push(lent(lengths[5], MOST_NUMBERS));
-        self.case(Program::Ranges, &numbers, sheet);
+        self.case("read_ranges", &numbers, sheet);
         let [mut minutes, mut lows, mut highs, mut points] =
             [0, 1, 2, 3].map(|k| vec![7; lengths[k]]);
         let mut bandwidths = vec![7; lengths[4]];
@@ -68,13 +68,7 @@ impl Cases {
             wide(&bandwidths),
             counts,
         ];
-        self.answer(
-            Program::Ranges,
-            "read_ranges",
-            result.map(|_| 0),
-            b"",
-            lists,
-        )
+        self.answer("read_ranges", result.map(|_| 0), b"", lists)
     }
 
     /// A sheet read, and its text; gives the reader's answer. The text is
@@ -373,7 +367,7 @@ fn random_sheet(random: &mut Random, cases: &mut Cases) {
     }
 }
 
-/// Drawn apart from the cases of the other programs.
+/// Drawn apart from the cases of the other calls.
 pub fn random_cases(cases: &mut Cases) {
     let random = &mut Random(18);
     (0..160).for_each(|_| random_sweep(random, cases));
