@@ -1,1 +1,3 @@
 pub mod Wrapping
+pub mod Positions
+pub mod Both

@@ -9,14 +9,14 @@ use lib.ListN.{length, get_or, take}
 use Rattle.std.proofs.lemmas.List.{map-id, length-map, length-take-le, get_or-map, get_or-take}
 use Rattle.meanings.specs.declared.Refusal.{Refusal}
 use Rattle.meanings.specs.Reports.{verdict_fault, first_of}
-use Rattle.meanings_boxes.specs.declared.Question.{Question}
-use Rattle.meanings_boxes.specs.declared.Window.{Window}
-use Rattle.meanings_boxes.specs.Boxes.{Axis, box_checks}
-use Rattle.meanings_boxes.specs.Lent.{along_minutes, along_temperatures, firsts, ends}
-use Rattle.laws_boxes.proofs.Refusals.{boxes_accept}
-use Rattle.cells.specs.declared.Cuts.{Cuts}
-use Rattle.windows.specs.Windows.{WindowsTried}
-use Rattle.windows.proofs.Storing.{window_begins_with, window_ends_before}
+use Rattle.meanings.specs.declared.boxes.Question.{Question}
+use Rattle.meanings.specs.declared.boxes.Window.{Window}
+use Rattle.meanings.specs.boxes.Boxes.{Axis, box_checks}
+use Rattle.meanings.specs.boxes.Lent.{along_minutes, along_temperatures, firsts, ends}
+use Rattle.laws.proofs.boxes.Refusals.{boxes_accept}
+use Rattle.boxes.specs.declared.cells.Cuts.{Cuts}
+use Rattle.boxes.specs.Windows.{WindowsTried}
+use Rattle.boxes.proofs.WindowsStoring.{window_begins_with, window_ends_before}
 use Rattle.boxes.specs.Filling.{StripsOf, BoxesByStrips, CutsOf, BoxesByCuts, ListsAccepted}
 
 -- a number of the first n windows

@@ -7,16 +7,16 @@ use native.Mathlib.Omega.{arith}
 use lib.ListN.{length, get_or}
 use Rattle.meanings.specs.Running.{plus, minus}
 use Rattle.meanings.proofs.Modulo.{minus_exact}
-use Rattle.meanings_boxes.specs.Boxes.{Axis, one, value, joined, cell_list, box, box_places, box_row, box_list}
-use Rattle.laws_boxes.specs.Windows.{first_strip, end_strip, Narrow}
-use Rattle.laws_boxes.proofs.Strips.{end_strip_most, window_strips_in_order}
-use Rattle.laws_boxes.proofs.Corners.{cell_list_length}
+use Rattle.meanings.specs.boxes.Boxes.{Axis, one, value, joined, cell_list, box, box_places, box_row, box_list}
+use Rattle.laws.specs.boxes.Windows.{first_strip, end_strip, Narrow}
+use Rattle.laws.proofs.boxes.Strips.{end_strip_most, window_strips_in_order}
+use Rattle.laws.proofs.boxes.Corners.{cell_list_length}
 use mir.Val.{Fits}
 use mir.Syntax.{w32}
-use Rattle.laws_tables.proofs.Tables.{box_by_table}
-use Rattle.cumulative.specs.Tables.{Accumulated, Tried}
-use Rattle.cumulative.proofs.Filling.{rows_most}
-use Rattle.box_sums.specs.Pairs.{number_at, four_terms, pair_places, table_row, table_boxes, Strips, BoxesTried}
+use Rattle.boxes.proofs.Tables.{box_by_table}
+use Rattle.boxes.specs.Tables.{Accumulated, Tried}
+use Rattle.boxes.proofs.CumulativeFilling.{rows_most}
+use Rattle.boxes.specs.Pairs.{number_at, four_terms, pair_places, table_row, table_boxes, Strips, BoxesTried}
 use Rattle.boxes.specs.Filling.{CellsOf, StripsOf, BoxesByStrips}
 
 joined_same : (f g : ℕ → List ℕ) (n : ℕ) → ((k : ℕ) → k < n → f k ≡ g k) → joined f n ≡ joined g n

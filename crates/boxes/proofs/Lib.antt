@@ -1,2 +1,12 @@
 pub mod Calls
 pub mod Combining
+pub mod Ranks
+pub mod Searching
+pub mod WindowsLaws
+pub mod Moving
+pub mod Counts
+pub mod CellsFilling
+pub mod WindowsStoring
+pub mod CumulativeFilling
+pub mod SumsStoring
+pub mod Tables

@@ -2,13 +2,13 @@
 -- value sums, bs is the list of boxes. fs and es hold the strips that minute windows begin with and those behind them, ls and hs those of temperature
 -- windows. Where a function has no readings, what it says holds of all whose cells it has.
 use Rattle.std.specs.Prelude.{ℕ, ◌*◌, ◌≤◌, ◌<◌, ◌≡◌, List, length, get_or}
-use Rattle.meanings_boxes.specs.declared.Question.{Question}
-use Rattle.meanings_boxes.specs.Boxes.{Axis, one, value, cuts_to, cell_list, box_list}
-use Rattle.meanings_boxes.specs.Lent.{along_minutes, along_temperatures}
-use Rattle.laws_boxes.specs.Accepted.{BoxesAccepted}
-use Rattle.laws_boxes.specs.Windows.{first_strip, end_strip, Narrow}
-use Rattle.cuts.specs.Cuts.{Ranked}
-use Rattle.cells.specs.declared.Cuts.{Cuts}
+use Rattle.meanings.specs.declared.boxes.Question.{Question}
+use Rattle.meanings.specs.boxes.Boxes.{Axis, one, value, cuts_to, cell_list, box_list}
+use Rattle.meanings.specs.boxes.Lent.{along_minutes, along_temperatures}
+use Rattle.laws.specs.boxes.Accepted.{BoxesAccepted}
+use Rattle.laws.specs.boxes.Windows.{first_strip, end_strip, Narrow}
+use Rattle.boxes.specs.Cuts.{Ranked}
+use Rattle.boxes.specs.declared.cells.Cuts.{Cuts}
 
 -- the cells of r readings, by marks that the call takes
 pub record CellsOf (cs ss : List ℕ) (A B : Axis) (vs : List ℕ) (r : ℕ) : Type 0 where

@@ -1,15 +1,15 @@
 // From lists that no check refuses: cuts and cells, then windows, then tables and boxes. Each function has lists of its own on the stack: 64 + 64
 // cuts, 32 + 32 windows, and two tables of 66 × 66 numbers.
 ghost use Rattle.std.specs.Prelude.{length};
-ghost use Rattle.meanings_boxes.specs.Lent.{firsts, ends};
+ghost use Rattle.meanings.specs.boxes.Lent.{firsts, ends};
 ghost use Rattle.boxes.specs.Filling.{BoxesByStrips, FewMarks, BoxesByCuts, ListsAccepted, Filled};
 
-use box_sums::{Tables, put_boxes};
-use cells::{Cuts, fill_cells};
-use cumulative::accumulate;
-use cuts::put_cuts;
-use meanings_boxes::{MAX_CUTS, Question, Window};
-use windows::put_windows;
+use crate::cells::{Cuts, fill_cells};
+use crate::cumulative::accumulate;
+use crate::cuts::put_cuts;
+use crate::sums::{Tables, put_boxes};
+use crate::windows::put_windows;
+use meanings::boxes::{MAX_CUTS, Question, Window};
 
 // Boxes by the windows of both directions, from tables over both lists of cells.
 pub(crate) fn put_by_strips(

@@ -1,2 +1,5 @@
 pub mod Decreases
 pub mod RowCounts
+pub mod CurveSearches
+pub mod SweepSearches
+pub mod RangesSearches

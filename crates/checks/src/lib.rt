@@ -1,5 +1,26 @@
-// The single tests that the calls' refusals are made of, and the limits. Every function takes every input.
+// The refusals of the calls, for any pair of limits. Every function takes every input.
+//
+// This file: the single tests that refusals are made of, and the two pairs of limits.
+// boxes: minute and temperature together.
+// curve: readings with marks, by their lengths and their order, and a list of half widths.
+// grid: the mark filler.
+// neighbours: half widths by neighbours.
+// pair: the comparison of two tanks.
+// point: the calls at one mark.
+// ranges: a sweep over readings known as ranges.
+// series: readings, a running record's edges, and one half width.
+// sweep: the sweep and its preview.
 #![tactic(auto)]
+
+pub mod boxes;
+mod curve;
+pub mod grid;
+pub mod neighbours;
+pub mod pair;
+pub mod point;
+pub mod ranges;
+pub mod series;
+pub mod sweep;
 
 ghost use Rattle.std.specs.Prelude.{◌≡◌, length};
 ghost use Rattle.meanings.specs.Limits.{full as full_limits, preview};
@@ -29,7 +50,7 @@ pub fn preview_limits() -> Limits
 }
 
 // The lowest position whose element is below the one before. By `find` the compiled loop has 8 instructions an element, and this one 6.
-pub fn first_decrease(xs: &[u16]) -> Option<usize>
+pub(crate) fn first_decrease(xs: &[u16]) -> Option<usize>
     ensures { result ≡ lowest (decreases xs.now) (length xs.now) }
 {
     for i in 1..xs.len() {
@@ -58,7 +79,7 @@ pub fn out_of_range(bandwidth: u32) -> bool
 }
 
 // Whether a list of so many numbers has another length than `width` numbers a mark. No product is made, so none wraps.
-pub fn uneven_rows(rows: usize, width: usize, points: usize) -> bool
+pub(crate) fn uneven_rows(rows: usize, width: usize, points: usize) -> bool
     ensures { result ≡ uneven_rows width rows points }
 {
     if width == 0 {

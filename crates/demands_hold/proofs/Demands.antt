@@ -1,8 +1,8 @@
--- The three demands hold: crates/demands has them of calls that end, and each function's own proof says that it does.
-use Rattle.crossing.proofs.first_at_most.Met as first_at_most_met
-use Rattle.abi_crossing.proofs.tankcurve_first_at_most.Met as exported_met
-use Rattle.demands.specs.Demands.{Demands}
-use Rattle.demands.proofs.Demands.{demands_by}
+-- The three demands hold: crates/promises has them of calls that end, and each function's own proof says that it does.
+use Rattle.questions.proofs.limit.first_at_most.Met as first_at_most_met
+use Rattle.exports.proofs.limit.tankcurve_first_at_most.Met as exported_met
+use Rattle.promises.specs.Demands.{Demands}
+use Rattle.promises.proofs.Demands.{demands_by}
 use Rattle.demands_hold.proofs.EveryInput.{every_input, every_run_ends}
 
 pub demands : Demands

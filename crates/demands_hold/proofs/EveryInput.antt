@@ -1,30 +1,30 @@
 -- Every call takes every input and ends: that is the proof of each function itself.
-use Rattle.estimator.proofs.evaluate.Met as evaluate_met
-use Rattle.estimator.proofs.window.Met as window_met
-use Rattle.estimator.proofs.advance.Met as advance_met
-use Rattle.row.proofs.record_row.Met as record_row_met
-use Rattle.sweep.proofs.smooth.Met as smooth_met
-use Rattle.sweep.proofs.preview.Met as preview_met
-use Rattle.grid.proofs.fill_grid.Met as fill_grid_met
-use Rattle.sheet.proofs.read_sheet.Met as read_sheet_met
-use Rattle.text_sheet.proofs.curve_text.Met as curve_text_met
-use Rattle.text_over.proofs.curve_text_over.Met as curve_text_over_met
-use Rattle.text_refusal.proofs.refusal_text.Met as refusal_text_met
-use Rattle.abi_point.proofs.tankcurve_evaluate.Met as exported_evaluate_met
-use Rattle.abi_point.proofs.tankcurve_window.Met as exported_window_met
-use Rattle.abi_record.proofs.tankcurve_advance.Met as exported_advance_met
-use Rattle.abi_record.proofs.tankcurve_row.Met as exported_record_row_met
-use Rattle.abi_sweep.proofs.tankcurve_smooth.Met as exported_smooth_met
-use Rattle.abi_sweep.proofs.tankcurve_preview.Met as exported_preview_met
-use Rattle.abi_sweep.proofs.tankcurve_fill.Met as exported_fill_met
-use Rattle.abi_sheet.proofs.tankcurve_read.Met as exported_read_met
-use Rattle.abi_text.proofs.tankcurve_text.Met as exported_text_met
-use Rattle.abi_text.proofs.tankcurve_refusal_text.Met as exported_refusal_text_met
-use Rattle.abi_version.proofs.tankcurve_version.Met as exported_version_met
+use Rattle.regression.proofs.estimator.evaluate.Met as evaluate_met
+use Rattle.regression.proofs.estimator.window.Met as window_met
+use Rattle.regression.proofs.estimator.advance.Met as advance_met
+use Rattle.arithmetic.proofs.row.record_row.Met as record_row_met
+use Rattle.regression.proofs.sweep.smooth.Met as smooth_met
+use Rattle.regression.proofs.sweep.preview.Met as preview_met
+use Rattle.regression.proofs.grid.fill_grid.Met as fill_grid_met
+use Rattle.sheet.proofs.reader.read_sheet.Met as read_sheet_met
+use Rattle.text.proofs.from_sheet.curve_text.Met as curve_text_met
+use Rattle.text.proofs.over_sheet.curve_text_over.Met as curve_text_over_met
+use Rattle.text.proofs.refusal.refusal_text.Met as refusal_text_met
+use Rattle.exports.proofs.point.tankcurve_evaluate.Met as exported_evaluate_met
+use Rattle.exports.proofs.point.tankcurve_window.Met as exported_window_met
+use Rattle.exports.proofs.record.tankcurve_advance.Met as exported_advance_met
+use Rattle.exports.proofs.record.tankcurve_row.Met as exported_record_row_met
+use Rattle.exports.proofs.sweep.tankcurve_smooth.Met as exported_smooth_met
+use Rattle.exports.proofs.sweep.tankcurve_preview.Met as exported_preview_met
+use Rattle.exports.proofs.sweep.tankcurve_fill.Met as exported_fill_met
+use Rattle.exports.proofs.reader.tankcurve_read.Met as exported_read_met
+use Rattle.exports.proofs.texts.tankcurve_text.Met as exported_text_met
+use Rattle.exports.proofs.texts.tankcurve_refusal_text.Met as exported_refusal_text_met
+use Rattle.exports.proofs.version.tankcurve_version.Met as exported_version_met
 use Rattle.sheet_to_curve.proofs.run.Met as run_met
 use Rattle.sheet_to_curve.proofs.text_into.Met as text_into_met
-use Rattle.demands.specs.Calls.{EveryInputTaken}
-use Rattle.demands.specs.Runs.{EveryRunEnds}
+use Rattle.promises.specs.Calls.{EveryInputTaken}
+use Rattle.promises.specs.Runs.{EveryRunEnds}
 
 pub every_input : EveryInputTaken
 every_input = record {

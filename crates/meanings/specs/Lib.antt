@@ -20,3 +20,11 @@ pub mod Running
 pub mod Sheet
 pub mod SheetForm
 pub mod Turn
+pub mod biweight
+pub mod boxes
+pub mod decisive
+pub mod doubles
+pub mod limit
+pub mod neighbours
+pub mod pair
+pub mod ranges

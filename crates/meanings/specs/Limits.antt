@@ -31,11 +31,11 @@ row_width = 5
 abbrev pub max_sheet : ℕ
 max_sheet = 32768
 
--- the greatest length of a plain sheet's text, in bytes: none is longer, by the demand plain-fits of crates/demands
+-- the greatest length of a plain sheet's text, in bytes: none is longer, by the demand plain-fits of crates/promises
 abbrev pub max_plain_output : ℕ
 max_plain_output = 31291
 
 -- the length of the buffer that a text is written into: none is longer, by the laws either_program_fits of
--- crates/laws_ranges and any_refusal_fits of crates/laws_output
+-- crates/laws/proofs/ranges and any_refusal_fits of crates/laws/proofs/output
 abbrev pub max_output : ℕ
 max_output = 44113

@@ -1,6 +1,6 @@
 -- A second reading of the tank sheet, which parses nothing: a sheet of given lists is what they print to, and a refusal says which lines
 -- stand before its place and what is wrong with the line there. That it agrees with the reader's meaning of specs/Sheet.antt is proved in
--- crates/laws_sheet.
+-- crates/laws/proofs/sheet.
 use Rattle.std.specs.Prelude.{ℕ, ◌+◌, ◌≤◌, ◌<◌, ◌≡◌, ◌⊎◌, List, [], ◌∷◌, ◌++◌, map, ltb, length}
 use Rattle.meanings.specs.Lists.{pick}
 use Rattle.meanings.specs.declared.Limits.{Limits}

@@ -1,6 +1,22 @@
-// The types that calls take and give, named by the field's terms. Each comment gives the brewery's word.
-// What each value has to be is defined in specs/. What refuses a call is an Err that holds the report with its place.
+// What the product means: the types that calls take and give, and the specification as definitions that compute. Each comment gives the brewery's word.
+// What each value has to be is defined in specs/, laws about it are in proofs/. What refuses a call is an Err that holds the report with its place.
+//
+// This file: readings, marks, rows, the running record and the reports. numbers: a row and a record as plain numbers.
+// biweight: the biweight row, in specs/biweight; it has no type of its own.
+// boxes: minute and temperature together.
+// decisive: the reading that decides, in specs/decisive; it has no type of its own.
+// doubles: weights and sums for a spreadsheet, whose cells are doubles.
+// limit: the first mark at or below a limit.
+// neighbours: half widths by neighbours, in specs/neighbours; it has no type of its own.
+// pair: two tanks side by side.
+// ranges: readings known as ranges, and sheets that have them.
 #![tactic(auto)]
+
+pub mod boxes;
+pub mod doubles;
+pub mod limit;
+pub mod pair;
+pub mod ranges;
 
 ghost use Rattle.std.specs.Prelude.{◌≡◌};
 ghost use Rattle.meanings.specs.Reports.{number};

@@ -1,1 +1,13 @@
-pub mod Stages
+pub mod ReaderStages
+pub mod RangeReaderStages
+pub mod Words
+pub mod Lines
+pub mod Fields
+pub mod LineValues
+pub mod ReadingValues
+pub mod FrontStages
+pub mod SamplesStages
+pub mod NamesStages
+pub mod ReadingsStages
+pub mod ScanStages
+pub mod Copied

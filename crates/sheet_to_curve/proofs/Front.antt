@@ -12,8 +12,8 @@ use Rattle.std.proofs.Common.{append-nil, drop, drop_of_length-le, drop_at, take
 use Rattle.std.specs.Prelude.{[], Option, None, Some, IfSome}
 use Rattle.meanings.specs.Limits.{full, max_sheet}
 use Rattle.meanings.specs.Sheet.{refused_at}
-use Rattle.meanings_ranges.specs.RangeSheet.{sheet_front, read_either}
-use Rattle.meanings_ranges.specs.RangeOutput.{either_text, either_program}
+use Rattle.meanings.specs.ranges.RangeSheet.{sheet_front, read_either}
+use Rattle.meanings.specs.ranges.RangeOutput.{either_text, either_program}
 use Rattle.std.specs.Io.KnownBytes.{Consumes, IsAtEnd}
 use Rattle.sheet_to_curve.specs.Ends.{Event, ReadWhole}
 use Rattle.sheet_to_curve.specs.Run.{ReadFront}

@@ -2,7 +2,7 @@
 use Rattle.std.specs.Prelude.{ℕ, ◌+◌, ◌<◌, ◌≤◌, ◌≡◌, List, length, take, Option, IfSome, Result, Ok, Err, IsOk, codes, ⊤}
 use Rattle.std.specs.Io.KnownBytes.{Keeps, Appends, Consumes, IsAtEnd}
 use Rattle.meanings.specs.Limits.{max_sheet}
-use Rattle.meanings_ranges.specs.RangeOutput.{either_program}
+use Rattle.meanings.specs.ranges.RangeOutput.{either_program}
 use Rattle.sheet_to_curve.specs.declared.Failure.{Failure}
 use Rattle.sheet_to_curve.specs.declared.Failure.TheVariants.{Input, Output}
 use Rattle.std.specs.declared.io.Error.{Error}

@@ -11,7 +11,7 @@ ghost use Rattle.std.specs.Io.KnownBytes.{Appends};
 ghost use Rattle.meanings.specs.Limits.{max_sheet, max_output};
 ghost use Rattle.meanings.specs.Reports.{fault_of};
 ghost use Rattle.meanings.specs.Output.{refusal_text};
-ghost use Rattle.meanings_ranges.specs.RangeOutput.{either_program};
+ghost use Rattle.meanings.specs.ranges.RangeOutput.{either_program};
 ghost use Rattle.sheet_to_curve.specs.Ends.{IsFew, Moved};
 ghost use Rattle.sheet_to_curve.specs.Run.{IsOfInput, IsOfOutput, StoppedAt, SucceedsWithin, OfAnyReader, WriterStays, WrittenFront, line_of};
 
@@ -41,17 +41,17 @@ fn refuse(refusal: Refusal, out: &mut [u8; MAX_OUTPUT]) -> usize
     ensures value { result ≡ length (refusal_text (fault_of refusal)) }
 {
     let number = u64::from(refusal.report);
-    text_refusal::refusal_text(number, refusal.place as u64, out).unwrap()
+    text::refusal::refusal_text(number, refusal.place as u64, out).unwrap()
 }
 
 // Puts what the program writes for the sheet that is the buffer's first `size` bytes at the front of the buffer, over the sheet, and gives its length.
-// Buffer and size stay apart: text_over says why.
-#[tactic(auto, unfolding(meanings_ranges::specs::RangeOutput::either_program, meanings_ranges::specs::RangeOutput::write_either, meanings_ranges::specs::RangeOutput::write_either_buffer))]
+// Buffer and size stay apart: `text::over_sheet` says why.
+#[tactic(auto, unfolding(meanings::specs::ranges::RangeOutput::either_program, meanings::specs::ranges::RangeOutput::write_either, meanings::specs::ranges::RangeOutput::write_either_buffer))]
 fn answer(buf: &mut [u8; MAX_OUTPUT], size: usize) -> usize
     ensures buf_after { take result buf.new ≡ either_program (take size buf.old) }
     ensures value { result ≡ length (either_program (take size buf.old)) }
 {
-    match text_over::curve_text_over(buf, size) {
+    match text::over_sheet::curve_text_over(buf, size) {
         Ok(n) => n,
         Err(refusal) => refuse(refusal, buf),
     }

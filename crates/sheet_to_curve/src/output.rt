@@ -1,6 +1,7 @@
 // Where a text goes, and how it is written whole.
 
-ghost use Rattle.std.specs.Prelude.{◌≡◌, ℕ, List, [], ◌∷◌, Option, None, IfErr, IfOk, Some, ◌+◌, ◌-◌, ◌<◌, ◌≤◌, length, drop, OnOk, IsOk, vec_len, vec_capacity};
+ghost use Rattle.std.specs.Prelude.{◌≡◌, ℕ, List, [], ◌∷◌, Option, None, IfErr, IfOk, Some, ◌+◌, ◌-◌, ◌<◌, ◌≤◌, length, drop, OnOk, IsOk, vec_len};
+ghost use Rattle.std.specs.Prelude.{vec_capacity};
 ghost use Rattle.std.specs.Io.{WritesAtMost};
 ghost use Rattle.std.specs.IoError.{error_kind};
 ghost use Rattle.std.specs.Io.KnownBytes.{Appends, WriteAppends};

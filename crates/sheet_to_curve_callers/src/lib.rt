@@ -4,7 +4,7 @@
 ghost use Rattle.std.specs.Prelude.{◌≡◌, ◌≤◌, ◌++◌, length, drop, Some, IfOk, ⊤};
 ghost use Rattle.std.specs.Io.{ReadsAtMost};
 ghost use Rattle.std.specs.Io.KnownBytes.{ReadConsumes};
-ghost use Rattle.meanings_ranges.specs.RangeOutput.{either_program};
+ghost use Rattle.meanings.specs.ranges.RangeOutput.{either_program};
 ghost use Rattle.sheet_to_curve.specs.Ends.{FailsByInterruption};
 
 use meanings::MAX_OUTPUT;
@@ -31,7 +31,7 @@ pub fn text_of(alloc: Global, sheet: &[u8]) -> Result<Vec<u8>, AllocError>
 ///
 /// # Errors
 /// Only if there is no memory for the texts.
-#[tactic(auto, using(laws_ranges::proofs::RangeText::either_program_fits))]
+#[tactic(auto, using(laws::proofs::ranges::RangeText::either_program_fits))]
 pub fn two_texts(alloc: Global, first: &[u8], second: &[u8]) -> Result<Vec<u8>, AllocError>
     ensures { IfOk result (λ texts.
         texts.items ≡ either_program first.now ++ either_program second.now) }

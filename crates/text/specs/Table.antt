@@ -8,7 +8,7 @@ use Rattle.meanings.specs.Reports.{given, accepted_or}
 use Rattle.meanings.specs.Sheet.{Contents, Outcome, or_next}
 use Rattle.meanings.specs.Calls.{smooth_refusal, smooth_rows, buffer_refusal}
 use Rattle.meanings.specs.Output.{curve_line, curve_text}
-use Rattle.text_lines.specs.Whole.{lines_of, whole_text}
+use Rattle.text.specs.Whole.{lines_of, whole_text}
 
 -- the row of mark k
 abbrev pub stored_row : List ℕ → ℕ → Estimate

@@ -1,38 +1,22 @@
-// The text of a curve, as bytes in a lent buffer.
+// The texts of a curve and of a refusal, as bytes in a lent buffer.
+//
+// decimal: a number in decimal, or a text, at the front of a list.
+// from_sheet: the text of a sheet of either kind.
+// kind: the text of lists of either kind.
+// lines: the lines of a curve's text.
+// over_sheet: the text of a sheet, written over the sheet.
+// plain: the text of a curve over readings.
+// ranges: the text of a curve over readings known as ranges.
+// refusal: the text of a refusal.
+// room: whether a line fits.
 #![tactic(auto)]
 
-mod curve;
-
-ghost use Rattle.std.specs.Prelude.{◌≡◌};
-ghost use Rattle.meanings.specs.Calls.{answer_of};
-ghost use Rattle.meanings.specs.Output.{curve_text};
-ghost use Rattle.meanings.specs.Calls.{curve_size, filled_front};
-ghost use Rattle.text.specs.Table.{lists_swept, lists_rows};
-
-use crate::curve::put_curve;
-use estimator::of_16_bits;
-use meanings::{MAX_OUTPUT, Marks, Readings, Refusal, Report};
-use sweep::smooth;
-
-// Sweeps the lists and writes their curve into a buffer of MAX_OUTPUT bytes, which no curve exceeds. A buffer of another length is refused with 8
-// before the sweep, and what the sweep refuses with its report; the buffer and the rows then stay as they were.
-#[tactic(auto, unfolding(crate::specs::Table::lists_swept, crate::specs::Table::lists_rows, meanings::specs::Calls::smooth), using(crate::proofs::Swept::even_points, crate::proofs::Swept::five_a_mark, crate::proofs::Swept::text_fits))]
-pub fn swept_text(
-    readings: Readings,
-    marks: Marks,
-    rows: &mut [u64],
-    out: &mut [u8],
-) -> Result<usize, Refusal>
-    ensures result_value { answer_of result ≡ curve_size (lists_swept readings.entry.minutes.now readings.entry.values.now marks.entry.points.now marks.entry.bandwidths.now rows.old out.old) }
-    ensures rows_after { rows.new ≡ lists_rows readings.entry.minutes.now readings.entry.values.now marks.entry.points.now marks.entry.bandwidths.now rows.old out.old }
-    ensures out_after { out.new ≡ filled_front (lists_swept readings.entry.minutes.now readings.entry.values.now marks.entry.points.now marks.entry.bandwidths.now rows.old out.old) curve_text out.old }
-{
-    of_16_bits(readings.minutes);
-    of_16_bits(readings.values);
-    of_16_bits(marks.points);
-    if out.len() != MAX_OUTPUT {
-        return Err(Report::LengthMismatch.at(0));
-    }
-    let passes = smooth(readings, marks, rows)?;
-    put_curve(out, readings.minutes.len(), marks, rows, passes).ok_or(Report::LengthMismatch.at(0))
-}
+mod decimal;
+pub mod from_sheet;
+mod kind;
+mod lines;
+pub mod over_sheet;
+mod plain;
+mod ranges;
+pub mod refusal;
+mod room;

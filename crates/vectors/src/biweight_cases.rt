@@ -1,7 +1,7 @@
 // The biweight row.
 use crate::input::{Case, MOST_ELEMENTS};
 use crate::show::{show_answer, show_list};
-use abi_biweight::tankcurve_biweight;
+use exports::biweight::tankcurve_biweight;
 
 pub fn biweight(mut case: Case) {
     let mut minutes = [0u16; MOST_ELEMENTS];

@@ -1,7 +1,7 @@
 // Minute and temperature together.
 use crate::input::{Case, MOST_ELEMENTS};
 use crate::show::{show_answer, show_list};
-use abi_boxes::tankcurve_boxes;
+use exports::box_table::tankcurve_boxes;
 
 pub fn boxes(mut case: Case) {
     let mut minutes = [0u16; MOST_ELEMENTS];

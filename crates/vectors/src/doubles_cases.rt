@@ -1,10 +1,10 @@
 // Weights and sums as doubles: the bit patterns of every double.
 use crate::input::Case;
 use crate::show::{show_answer, show_list};
-use abi_doubles::tankcurve_doubles;
-use doubles::row_cells as cells_of;
+use exports::doubles::tankcurve_doubles;
 use meanings::Estimate;
-use meanings_doubles::Cell;
+use meanings::doubles::Cell;
+use questions::doubles::row_cells as cells_of;
 
 // What is shown of a double that is no number, whose pattern is not said.
 const NO_NUMBER: u64 = 9221120237041090560;

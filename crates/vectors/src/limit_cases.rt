@@ -1,8 +1,8 @@
 // The questions with a limit.
 use crate::input::{Case, MOST_ELEMENTS};
 use crate::show::{show_answer, show_list};
-use abi_crossing::tankcurve_first_at_most;
-use abi_decisive::tankcurve_decisive;
+use exports::decisive::tankcurve_decisive;
+use exports::limit::tankcurve_first_at_most;
 
 pub fn first_at_most(mut case: Case) {
     let mut minutes = [0u16; MOST_ELEMENTS];

@@ -1,7 +1,7 @@
 // Half widths by neighbours.
 use crate::input::{Case, MOST_ELEMENTS};
 use crate::show::{show_answer, show_list};
-use abi_neighbours::tankcurve_neighbours;
+use exports::neighbours::tankcurve_neighbours;
 
 pub fn neighbours(mut case: Case) {
     let mut minutes = [0u16; MOST_ELEMENTS];

@@ -2,10 +2,10 @@
 // length and its values.
 use crate::input::{Case, MOST_ELEMENTS};
 use crate::show::{show_answer, show_list};
-use abi_pair::tankcurve_compare;
-use estimator::window;
+use exports::pair::tankcurve_compare;
 use meanings::{Mark, Marks};
-use pair::compare_run;
+use questions::pair::compare_run;
+use regression::estimator::window;
 
 // A part of a list: its length, written as an answer is, and its values.
 fn show_part(part: &[u16]) {

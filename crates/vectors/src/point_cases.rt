@@ -1,9 +1,9 @@
 // The calls at one mark, the single step, the turn and the row of a record.
 use crate::input::{Case, MOST_ELEMENTS};
 use crate::show::{show_answer, show_list};
-use abi_point::{tankcurve_evaluate, tankcurve_window};
-use abi_record::{tankcurve_advance, tankcurve_row};
-use abi_turn::tankcurve_turn;
+use exports::point::{tankcurve_evaluate, tankcurve_window};
+use exports::record::{tankcurve_advance, tankcurve_row};
+use exports::turn::tankcurve_turn;
 
 // One of the calls at a mark, in a closure, since a function for C is none itself.
 fn point_case<F>(mut case: Case, call: F)
@@ -49,7 +49,10 @@ pub fn evaluate(case: Case) {
 }
 
 pub fn window(case: Case) {
-    point_case(case, |ts, vs, z, h, out| tankcurve_window(ts, vs, z, h, out));
+    point_case(
+        case,
+        |ts, vs, z, h, out| tankcurve_window(ts, vs, z, h, out),
+    );
 }
 
 pub fn advance(case: Case) {

@@ -1,8 +1,8 @@
 // The sweep over ranges and the reader of both kinds of sheet.
 use crate::input::{Case, MOST_ELEMENTS};
 use crate::show::{show_answer, show_list};
-use abi_ranges::tankcurve_smooth_ranges;
-use abi_sheet_ranges::tankcurve_read_ranges;
+use exports::range_reader::tankcurve_read_ranges;
+use exports::ranges::tankcurve_smooth_ranges;
 
 pub fn smooth_ranges(mut case: Case) {
     let mut minutes = [0u16; MOST_ELEMENTS];

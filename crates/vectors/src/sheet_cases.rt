@@ -1,7 +1,7 @@
 // The reader.
 use crate::input::{Case, MOST_ELEMENTS};
 use crate::show::{show_answer, show_list};
-use abi_sheet::tankcurve_read;
+use exports::reader::tankcurve_read;
 
 // The sheet is the rest of the case.
 pub fn read(mut case: Case) {

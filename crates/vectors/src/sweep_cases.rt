@@ -1,7 +1,7 @@
 // The sweep, the preview and the mark filler.
 use crate::input::{Case, MOST_ELEMENTS};
 use crate::show::{show_answer, show_list};
-use abi_sweep::{tankcurve_fill, tankcurve_preview, tankcurve_smooth};
+use exports::sweep::{tankcurve_fill, tankcurve_preview, tankcurve_smooth};
 
 // The sweep or the preview, in a closure, since a function for C is none itself.
 fn smooth_case<F>(mut case: Case, call: F)

@@ -1,7 +1,7 @@
 // The calls that write a text: each answer, the bytes that were written and the rest of the lent buffer.
 use crate::input::Case;
 use crate::show::show_text;
-use abi_text::{tankcurve_refusal_text, tankcurve_text};
+use exports::texts::{tankcurve_refusal_text, tankcurve_text};
 use meanings::MAX_OUTPUT;
 
 // The longest buffer of a case.

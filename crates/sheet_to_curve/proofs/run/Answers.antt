@@ -2,7 +2,7 @@ use Rattle.std.proofs.Common.{rules, List, ℕ, true, false, length, ◌+◌, �
 use Rattle.std.specs.Prelude.{⊤}
 use Rattle.std.specs.Io.KnownBytes.{Appends}
 use Rattle.std.proofs.KnownBytes.{Keeps-refl}
-use Rattle.meanings_ranges.specs.RangeOutput.{either_program}
+use Rattle.meanings.specs.ranges.RangeOutput.{either_program}
 use Rattle.sheet_to_curve.specs.Ends.{Moved}
 use Rattle.sheet_to_curve.specs.Run.{AppendsPart, WrittenFront}
 use Rattle.sheet_to_curve.proofs.Front.{front_of, of_any, read_is_front, text_is}

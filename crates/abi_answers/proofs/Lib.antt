@@ -1,5 +1,0 @@
-pub mod Answered
-pub mod CurvePlaces
-pub mod Places
-pub mod Positions
-pub mod Stores

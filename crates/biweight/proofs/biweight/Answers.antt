@@ -1,6 +1,0 @@
--- Where the check finds nothing the readings are accepted.
-use Rattle.biweight.proofs.Rows.{readings_accepted}
-use Rattle.biweight.proofs.biweight.Goals as goal
-
-pub row_at-requires : goal.row_at-requires
-row_at-requires c = search (readings_accepted, c.in_ok-series_fault.was)

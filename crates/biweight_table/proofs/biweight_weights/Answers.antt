@@ -1,7 +1,0 @@
--- The test is computed here, over all entries.
-use mathlib.Core.Path.{refl}
-use Rattle.biweight_table.proofs.Table.{table_by_test}
-use Rattle.biweight_table.proofs.biweight_weights.Goals as goal
-
-pub returns : goal.returns
-returns c = table_by_test _ refl refl

@@ -1,7 +1,0 @@
--- The lowest crossed range: at each turn none below i is crossed.
--- So the first that is found is the lowest, and at the end there is none.
-use Rattle.checks_ranges.proofs.Searches.{NoneCrossedBelow}
-use Rattle.checks_ranges.proofs.first_crossed.Given as goal
-
-abbrev pub invariant-loop-i : goal.invariant-loop-i
-invariant-loop-i l = NoneCrossedBelow l.ranges.lows.now l.ranges.highs.now l.i

@@ -1,7 +1,0 @@
--- Each turn stores one row more.
-use Rattle.std.specs.Prelude.{◌≡◌, length}
-use Rattle.cumulative.specs.Tables.{RowsTo}
-use Rattle.cumulative.proofs.rows.put_table_rows.Given as goal
-
-abbrev pub invariant-loop-a : goal.invariant-loop-a
-invariant-loop-a l = (length l.table ≡ 4356) × RowsTo l.cells l.table l.a

@@ -1,4 +1,0 @@
-pub mod Ranks
-pub mod Searching
-pub mod Windows
-pub mod Moving

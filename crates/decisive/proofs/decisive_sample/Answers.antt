@@ -1,6 +1,0 @@
--- Every check of the question at one mark is made first; lists that none refuses are searched.
-use Rattle.decisive.proofs.Removing.{lists_accepted}
-use Rattle.decisive.proofs.decisive_sample.Goals as goal
-
-pub search-requires : goal.search-requires
-search-requires c = search (lists_accepted, c.in_ok-evaluate_fault.was)

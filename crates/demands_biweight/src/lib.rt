@@ -1,2 +1,0 @@
-// What is promised of the biweight row, in specs/, and its proof. No code.
-#![tactic(auto)]

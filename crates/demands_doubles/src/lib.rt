@@ -1,2 +1,0 @@
-// What is promised of weights and sums as doubles, in specs/, and its proof. No code.
-#![tactic(auto)]

@@ -1,2 +1,0 @@
-// What is promised of the comparison of two tanks, in specs/, and its proof. No code.
-#![tactic(auto)]

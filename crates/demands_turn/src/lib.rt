@@ -1,2 +1,0 @@
-// What is promised of the turn, in specs/, and its proof. No code.
-#![tactic(auto)]

@@ -1,6 +1,0 @@
--- One reading more makes the next run.
-use Rattle.estimator.proofs.Laws.{run_grows}
-use Rattle.estimator.proofs.sums.run_changed.Goals as goal
-
-pub loop-i-preserved : goal.loop-i-preserved
-loop-i-preserved g c = search run_grows

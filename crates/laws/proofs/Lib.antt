@@ -1,0 +1,10 @@
+pub mod rows
+pub mod text
+pub mod sheet
+pub mod output
+pub mod ranges
+pub mod biweight
+pub mod neighbours
+pub mod pair
+pub mod turn
+pub mod boxes

@@ -1,0 +1,15 @@
+pub mod EitherReader
+pub mod FitFronts
+pub mod FitReadings
+pub mod RangePlaces
+pub mod RangesSwept
+pub mod RangeText
+pub mod RangeLines
+pub mod RangeOrder
+pub mod RangePassed
+pub mod RangeDecided
+pub mod NamedFronts
+pub mod EitherForms
+pub mod FormCases
+pub mod LowSheets
+pub mod WrongReaders

@@ -1,0 +1,5 @@
+pub mod rows
+pub mod ranges
+pub mod biweight
+pub mod turn
+pub mod boxes

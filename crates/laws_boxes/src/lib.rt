@@ -1,2 +1,0 @@
-// Laws of strips, cells and boxes, in proofs/.
-#![tactic(auto)]

@@ -1,2 +1,0 @@
-// Laws of what the program writes, in proofs/. No code.
-#![tactic(auto)]

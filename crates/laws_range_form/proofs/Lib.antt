@@ -1,9 +1,0 @@
-pub mod RangeLines
-pub mod RangeOrder
-pub mod RangePassed
-pub mod RangeDecided
-pub mod NamedFronts
-pub mod EitherForms
-pub mod FormCases
-pub mod LowSheets
-pub mod WrongReaders

@@ -1,2 +1,0 @@
-// Laws of the reader of both kinds of sheet and of its sweep, in proofs/. No code.
-#![tactic(auto)]

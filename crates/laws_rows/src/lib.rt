@@ -1,2 +1,0 @@
-// Laws of rows and sweeps beyond the contracts, in specs/ and proofs/. No code.
-#![tactic(auto)]

@@ -1,2 +1,0 @@
-// Laws of the sheet's meaning, in proofs/. No code.
-#![tactic(auto)]

@@ -1,2 +1,0 @@
-// Laws of tables of cumulative sums over the cells of the meaning, in proofs/.
-#![tactic(auto)]

@@ -1,2 +1,0 @@
-// Laws of the sheet's texts and numbers, in proofs/. No code.
-#![tactic(auto)]

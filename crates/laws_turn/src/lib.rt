@@ -1,2 +1,0 @@
-// Laws of steps and turns, in proofs/. No code.
-#![tactic(auto)]

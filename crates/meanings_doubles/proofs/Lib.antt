@@ -1,4 +1,0 @@
-pub mod Cases
-pub mod Exact
-pub mod Having
-pub mod WrongDoubles

@@ -1,5 +1,0 @@
-pub mod ByRows
-pub mod Cases
-pub mod Passes
-pub mod Values
-pub mod WrongAnswers

@@ -1,7 +1,0 @@
--- The part is cut out of the higher tank's values at its row's edges, which lie within them.
--- With both laws in `using(..)` the check does not close this goal: it speaks of a lent list that is chosen of two.
-use Rattle.pair.proofs.Answers.{higher_within, values_of}
-use Rattle.pair.proofs.compare_run.Goals as goal
-
-pub slice_bounds-result-end-in-Ok-Some : goal.slice_bounds-result-end-in-Ok-Some
-slice_bounds-result-end-in-Ok-Some c = search (higher_within, values_of)

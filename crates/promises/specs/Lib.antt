@@ -1,0 +1,15 @@
+pub mod Calls
+pub mod Crossing
+pub mod Demands
+pub mod LineEndings
+pub mod Runs
+pub mod conditions
+pub mod neighbours
+pub mod biweight
+pub mod pair
+pub mod turn
+pub mod boxes
+pub mod decisive
+pub mod ranges
+pub mod range_reader
+pub mod doubles

@@ -1,0 +1,11 @@
+pub mod LimitSearching
+pub mod Adding
+pub mod Removing
+pub mod PairSearching
+pub mod Answers
+pub mod Calls
+pub mod Starts
+pub mod Rows
+pub mod Weighing
+pub mod Table
+pub mod Handing

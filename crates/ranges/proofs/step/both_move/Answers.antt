@@ -1,9 +1,0 @@
--- The right edge goes its way first, and the left one up to it; each adds its way to the passes.
-use Rattle.ranges.proofs.Passing.{left_way_within, both_ways_move}
-use Rattle.ranges.proofs.step.both_move.Goals as goal
-
-pub returns : goal.returns
-returns c = search both_ways_move
-
-pub passed_until-left-requires : goal.passed_until-left-requires
-passed_until-left-requires c = search left_way_within

@@ -1,0 +1,16 @@
+pub mod Laws
+pub mod Moves
+pub mod Rows
+pub mod Searches
+pub mod EstimatorVerdicts
+pub mod StepSweeping
+pub mod FusedStepPassing
+pub mod RowList
+pub mod SweepVerdicts
+pub mod Settles
+pub mod Travels
+pub mod Windows
+pub mod WrongTurns
+pub mod Fills
+pub mod RangesPassing
+pub mod RangesSweeping

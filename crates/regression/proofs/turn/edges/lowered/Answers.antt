@@ -1,0 +1,6 @@
+-- At each turn the sums have let go what lies between where the edge stood at first and where it stands, and its minute is not below the bound.
+use Rattle.regression.proofs.Travels.{falls}
+use Rattle.regression.proofs.turn.edges.lowered.Goals as goal
+
+pub loop-before-preserved : goal.loop-before-preserved
+loop-before-preserved c = search falls

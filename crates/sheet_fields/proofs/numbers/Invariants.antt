@@ -1,6 +1,0 @@
--- At each turn the numbers before this one are read, and the others are those of the parts that follow.
-use Rattle.sheet_fields.proofs.Parts.{Read}
-use Rattle.sheet_fields.proofs.numbers.Given as goal
-
-abbrev pub invariant-loop-number : goal.invariant-loop-number
-invariant-loop-number g l = Read l.text g.row.N l.number-index l.from l.number-items

@@ -1,4 +1,0 @@
-pub mod Fronts
-pub mod Lasts
-pub mod LineSteps
-pub mod PointLoop

@@ -1,2 +1,0 @@
-pub mod LineEnds
-pub mod WordSearch

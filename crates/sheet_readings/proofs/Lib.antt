@@ -1,2 +1,0 @@
-pub mod LastMinutes
-pub mod ReadingLoop

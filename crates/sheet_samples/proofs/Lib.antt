@@ -1,3 +1,0 @@
-pub mod LastMinutes
-pub mod LineSteps
-pub mod SampleLoop

@@ -1,9 +1,0 @@
--- Each turn looks at one cut more.
-use Rattle.strips.proofs.Counts.{block_goes_on, block_ends}
-use Rattle.strips.proofs.counting.block.Goals as goal
-
-pub loop-i-preserved : goal.loop-i-preserved
-loop-i-preserved c = search block_goes_on
-
-pub returns : goal.returns
-returns c = search (block_ends, c.loop-i.auto.i-end)

@@ -1,6 +1,0 @@
--- Each turn looks at one eighth cut more.
-use Rattle.strips.proofs.Counts.{EighthsTo}
-use Rattle.strips.proofs.counting.eighths.Given as goal
-
-abbrev pub invariant-loop-i : goal.invariant-loop-i
-invariant-loop-i l = EighthsTo l.cuts l.x l.count l.i

@@ -1,2 +1,0 @@
-pub mod RowList
-pub mod Verdicts

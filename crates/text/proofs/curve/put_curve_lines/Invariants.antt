@@ -1,6 +1,0 @@
--- Each turn stores one mark's line right behind those before.
-use Rattle.text.proofs.Tables.{TableTo}
-use Rattle.text.proofs.curve.put_curve_lines.Given as goal
-
-abbrev pub invariant-loop-k : goal.invariant-loop-k
-invariant-loop-k l = TableTo l.initial.out l.marks.points.now l.marks.bandwidths.now l.rows l.out l.size l.k

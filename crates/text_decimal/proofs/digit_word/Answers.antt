@@ -1,6 +1,0 @@
--- The word holds both pairs of digits; two tenths at once part each pair into its digits.
-use Rattle.text_decimal.proofs.DigitWords.{word_of_four}
-use Rattle.text_decimal.proofs.digit_word.Goals as goal
-
-pub returns : goal.returns
-returns c = search word_of_four

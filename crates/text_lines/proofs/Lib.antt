@@ -1,4 +1,0 @@
-pub mod Fitting
-pub mod Lines
-pub mod Values
-pub mod Whole

@@ -1,7 +1,0 @@
--- An accepted sheet's used parts are written by its kind.
-use borrow.Author.Rules.{rules}
-use Rattle.text_sheet.proofs.UsedParts.{sheet_written}
-use Rattle.text_sheet.proofs.sheet_text.Goals as goal
-
-pub returns : goal.returns
-returns c = sheet_written c.in_ok-used.ensures.scanned (search rules) c.lists_text.ensures

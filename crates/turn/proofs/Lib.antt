@@ -1,4 +1,0 @@
-pub mod Settles
-pub mod Travels
-pub mod Windows
-pub mod WrongTurns

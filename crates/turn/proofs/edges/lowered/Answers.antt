@@ -1,6 +1,0 @@
--- At each turn the sums have let go what lies between where the edge stood at first and where it stands, and its minute is not below the bound.
-use Rattle.turn.proofs.Travels.{falls}
-use Rattle.turn.proofs.edges.lowered.Goals as goal
-
-pub loop-before-preserved : goal.loop-before-preserved
-loop-before-preserved c = search falls

@@ -1,6 +1,0 @@
--- At each turn the sums have taken in what lies between where the edge stood at first and where it stands.
-use Rattle.turn.proofs.Travels.{rises}
-use Rattle.turn.proofs.edges.raised.Goals as goal
-
-pub loop-at-preserved : goal.loop-at-preserved
-loop-at-preserved c = search rises
