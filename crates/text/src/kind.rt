@@ -34,12 +34,7 @@ pub(crate) fn ranges_text(ranges: Ranges, marks: Marks, out: &mut [u8]) -> Resul
 // Sweeps lists of this kind and writes their curve into a buffer of MAX_OUTPUT bytes. What the buffer or the sweep is refused for is the answer; the
 // buffer then stays as it was. Of a plain kind the highs are not looked at. Over 512 marks there is no room for the rows, and the answer is 8.
 // The kind is a value of the sheet, so a match chooses.
-pub(crate) fn kind_text(
-    kind: Kind,
-    ranges: Ranges,
-    marks: Marks,
-    out: &mut [u8],
-) -> Result<usize, Refusal>
+pub fn kind_text(kind: Kind, ranges: Ranges, marks: Marks, out: &mut [u8]) -> Result<usize, Refusal>
     ensures { KindWritten kind ranges.entry.minutes.now ranges.entry.lows.now ranges.entry.highs.now marks.entry.points.now marks.entry.bandwidths.now out.old result out.new }
 {
     let readings = Readings {

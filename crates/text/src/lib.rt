@@ -13,10 +13,10 @@
 
 mod decimal;
 pub mod from_sheet;
-mod kind;
+pub mod kind;
 mod lines;
 pub mod over_sheet;
-mod plain;
-mod ranges;
+pub mod plain;
+pub mod ranges;
 pub mod refusal;
 mod room;

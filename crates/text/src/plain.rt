@@ -16,7 +16,7 @@ use regression::sweep::smooth;
 // Sweeps the lists and writes their curve into a buffer of MAX_OUTPUT bytes, which no curve exceeds. A buffer of another length is refused with 8
 // before the sweep, and what the sweep refuses with its report; the buffer and the rows then stay as they were.
 #[tactic(auto, unfolding(crate::specs::Table::lists_swept, crate::specs::Table::lists_rows, meanings::specs::Calls::smooth), using(crate::proofs::PlainSwept::even_points, crate::proofs::PlainSwept::five_a_mark, crate::proofs::PlainSwept::text_fits))]
-pub(crate) fn swept_text(
+pub fn swept_text(
     readings: Readings,
     marks: Marks,
     rows: &mut [u64],

@@ -16,7 +16,7 @@ use regression::ranges::smooth_ranges;
 // Sweeps the lists and writes their curve into a buffer of MAX_OUTPUT bytes, which no curve exceeds. A buffer of another length is refused with 8
 // before the sweep, and what the sweep refuses with its report; the buffer and the rows then stay as they were.
 #[tactic(auto, unfolding(crate::specs::RangeTable::ranges_swept, crate::specs::RangeTable::ranges_rows, meanings::specs::ranges::Ranges::smooth_ranges), using(crate::proofs::RangesSwept::even_points, crate::proofs::RangesSwept::seven_a_mark, crate::proofs::RangesSwept::text_fits))]
-pub(crate) fn swept_ranges_text(
+pub fn swept_ranges_text(
     ranges: Ranges,
     marks: Marks,
     rows: &mut [u64],
