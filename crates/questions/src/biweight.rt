@@ -58,7 +58,7 @@ fn row_at(readings: Readings, point: u16) -> Estimate
         values: &values[left..right],
     };
     let weights = biweight_weights();
-    let weighed = weigh(run, &weights, point);
+    let weighed = weigh(run, weights, point);
     Estimate {
         left: left as u64,
         right: right as u64,

@@ -4,7 +4,7 @@ ghost use Rattle.std.specs.Prelude.{◌≡◌, get_or};
 ghost use Rattle.questions.specs.Table.{IsTable};
 
 // (720² − u²)² at u, from 0 to 720.
-const WEIGHTS: [u64; 721] = [
+static WEIGHTS: [u64; 721] = [
     268738560000,
     268737523201,
     268734412816,
@@ -728,11 +728,11 @@ const WEIGHTS: [u64; 721] = [
     0,
 ];
 
-// The whole table, for a caller to lend.
-pub(crate) fn biweight_weights() -> [u64; 721]
-    ensures { IsTable result }
+// The whole table, where it stands.
+pub(crate) fn biweight_weights() -> &'static [u64; 721]
+    ensures { IsTable result.now }
 {
-    WEIGHTS
+    &WEIGHTS
 }
 
 // The weight at a distance in a lent table: 0 beyond it.
