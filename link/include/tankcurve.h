@@ -271,8 +271,8 @@ static inline bool tankcurve_present(const uint64_t *row)
 
 /*
  * Whether the numbers of a row are within what a row of readings has: weight and sum up to their greatest, and a value of 16 bits if one is
- * present. False for many rows of tankcurve_row that are not of the record's last accepted step, since their weight or sum has wrapped around;
- * not for all: what a row must have come by stands there. Not for rows of tankcurve_biweight, whose numbers are greater, nor for rows over ranges,
+ * present. False for many rows of tankcurve_row that are not of the record's last accepted step or turn, since their weight or sum has wrapped
+ * around; not for all: what a row must have come by stands there. Not for rows of tankcurve_biweight, whose numbers are greater, nor for rows over ranges,
  * whose fields stand elsewhere.
  */
 static inline bool tankcurve_of_readings(const uint64_t *row)

@@ -158,9 +158,9 @@ impl core::error::Error for NoEstimate {}
 
 /// The row of a running record of any origin; its value has 64 bits.
 ///
-/// It is the row of readings if the record is one of steps from a fresh record, over the same ordered
-/// minutes and with no accepted step whose edges lie back, and if point and bandwidth are those of the last
-/// accepted step; the conversion to [`Estimate`] then succeeds. Of any other row it tells only some: those
+/// It is the row of readings if the record is one of steps and turns from a fresh record, over the same
+/// ordered minutes and with no accepted step whose edges lie back, and if point and bandwidth are those of
+/// the last accepted step or turn; the conversion to [`Estimate`] then succeeds. Of any other row it tells only some: those
 /// whose weight or sum has wrapped around, whose value often is 0 or 1 and reads as clean beer.
 ///
 /// ```

@@ -492,7 +492,7 @@ pub fn turn(
 
 /// The row of a record of any origin. `record`: [`crate::RECORD_WIDTH`] numbers, read: left, right, s00, s10,
 /// s20, s01, s11, s21, passes; `row`: [`crate::ROW_WIDTH`] numbers: left, right, weight, sum, value. Pass the point and
-/// bandwidth of the last accepted step; at others the row may look like a good one with value 0 or 1.
+/// bandwidth of the last accepted step or turn; at others the row may look like a good one with value 0 or 1.
 /// Detail 0.
 ///
 /// ```
