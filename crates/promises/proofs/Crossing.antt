@@ -21,7 +21,7 @@ use Rattle.meanings.specs.Estimate.{estimate}
 use Rattle.meanings.specs.Running.{fresh, passes}
 use Rattle.meanings.specs.EventLog.{empty_log, log_after, insertion_count, eviction_count}
 use Rattle.meanings.specs.Claim.{refusal}
-use Rattle.meanings.specs.Codes.{answered}
+use Rattle.meanings.specs.Codes.{answered, detail_unit}
 use Rattle.meanings.proofs.Checks.{same_limits, given_accepted}
 use Rattle.meanings.proofs.PublishedRows.{published_row, one_published_row}
 use Rattle.meanings.proofs.Search.{lowest_none, lowest_some}
@@ -36,10 +36,11 @@ use Rattle.meanings.proofs.LimitPasses.{passes_to_point}
 use Rattle.meanings.proofs.Values.{values_behind_do_not_count}
 use Rattle.exports.specs.Answers.{sized, stored}
 use Rattle.exports.specs.Positions.{no_position, position_numbers, position_of}
+use Rattle.exports.proofs.Answered.{right_size}
 use Rattle.questions.proofs.limit.first_at_most.Statement as first_at_most_code
 use Rattle.exports.proofs.limit.tankcurve_first_at_most.Statement as exported_first_at_most_code
 use Rattle.promises.specs.conditions.Conditions.{RefusedExactly, FirstFault, length_first, code_refusal}
-use Rattle.promises.specs.Crossing.{crossing_conditions, LowEnough, FirstLow, Crossings}
+use Rattle.promises.specs.Crossing.{ExportedFirstAtMost, crossing_conditions, LowEnough, FirstLow, Crossings}
 use Rattle.promises.proofs.conditions.CallChecks.{curve_finds, always_fits}
 use Rattle.promises.proofs.conditions.FirstFaults.{FindAll}
 use Rattle.promises.proofs.conditions.Refusals.{decided_exactly, sized_is_checked, length_first_finds, first_numbered, exported_refusal, stored_stays}
@@ -148,6 +149,33 @@ module _ (ts vs zs hs : List ℕ) (limit : ℕ) where
       let few : length zs ≤ 512 = a.few_points in
       rw (ne_eqb k no_position (λ (z : k ≡ no_position). omega arith))
 
+-- what an accepted call for C and Rust tells
+record Told (ts vs zs hs : List ℕ) (limit c : ℕ) (xs' : List ℕ) : Type 0 where
+  located : Located
+  answer : first_at_most full ts vs zs hs limit ≡ given located
+  code : c ≡ detail_unit * located.passes
+  one : length xs' ≡ 1
+  position : position_of (get_or xs' 0 0) ≡ located.position
+
+told : (ts vs zs hs : List ℕ) (limit : ℕ) (xs : List ℕ) (c : ℕ) (xs' : List ℕ) → ExportedFirstAtMost ts vs zs hs limit xs c xs' → code_refusal c ≡ None
+    → Told ts vs zs hs limit c xs'
+told ts vs zs hs limit xs c xs' k r =
+    let accepted = sym (coded ts vs zs hs limit xs c k.ensured.0) ∙ r in
+    let opens = sized_opens 1 xs (first_at_most full ts vs zs hs limit) accepted in
+    let g = accepted_given (sized 1 xs (first_at_most full ts vs zs hs limit)) accepted in
+    let l = g.0 in
+    let q : first_at_most full ts vs zs hs limit ≡ given l = sym opens ∙ g.1 in
+    let o : first_low ts vs zs hs limit ≡ l.position = ap (λ (x : Located). x.position) (opened ts vs zs hs limit l q).1 in
+    let list : xs' ≡ position_numbers l.position =
+    k.ensured.1 ∙ ap (λ (t : Answer Located). stored (λ (x : Located). position_numbers x.position) t xs) g.1 in
+    record {
+      located = l;
+      answer = q;
+      code = k.ensured.0 ∙ ap (answered (λ (x : Located). x.passes)) g.1;
+      one = ap length list;
+      position = ap (λ (x : List ℕ). position_of (get_or x 0 0)) list ∙ read_back ts vs zs hs limit l q l.position o;
+    }
+
 pub crossings : ((M : Type 1) → first_at_most_code.statement M) → ((M : Type 1) → exported_first_at_most_code.statement M) → Crossings
 crossings first_at_most_ends exported_ends = record {
   first_at_most_ends = first_at_most_ends _;
@@ -186,21 +214,40 @@ crossings first_at_most_ends exported_ends = record {
             ∙ stored_stays (λ (l : Located). position_numbers l.position) (sized 1 xs (first_at_most full ts vs zs hs limit)) xs e (sym same ∙ r),
       );
   exported_tells = λ ts vs zs hs limit xs c xs' a k d r.
-      let accepted = sym (coded ts vs zs hs limit xs c k.ensured.0) ∙ r in
-      let opens = sized_opens 1 xs (first_at_most full ts vs zs hs limit) accepted in
-      let g = accepted_given (sized 1 xs (first_at_most full ts vs zs hs limit)) accepted in
-      let l = g.0 in
-      let q : first_at_most full ts vs zs hs limit ≡ given l = sym opens ∙ g.1 in
-      let o : first_low ts vs zs hs limit ≡ l.position = ap (λ (x : Located). x.position) (opened ts vs zs hs limit l q).1 in
-      let list : xs' ≡ position_numbers l.position =
-      k.ensured.1 ∙ ap (λ (t : Answer Located). stored (λ (x : Located). position_numbers x.position) t xs) g.1 in (
-        l,
-        (
-          d.ensured ∙ q,
-          k.ensured.0 ∙ ap (answered (λ (x : Located). x.passes)) g.1,
-          ap length list,
-          ap (λ (x : List ℕ). position_of (get_or x 0 0)) list ∙ read_back ts vs zs hs limit l q l.position o,
-        ),
+      let t = told ts vs zs hs limit xs c xs' k r in
+      (t.located, (d.ensured ∙ t.answer, t.code, t.one, t.position));
+  exported_reached = λ ts vs zs hs limit xs c xs' k minutes values x r p.
+      let t = told ts vs zs hs limit xs c xs' x r in
+      let e : t.located ≡ record { position = Some k; passes = t.located.passes } =
+      ap (λ (o : Option ℕ). record { position = o; passes = t.located.passes }) (sym t.position ∙ p) in
+      let o = opened ts vs zs hs limit t.located t.answer in
+      let q = o.1 ∙ e in
+      (t.located.passes, (t.code, first_is ts vs zs hs limit minutes values o.0 k t.located.passes (ap (λ (l : Located). l.position) q) q));
+  exported_not_reached = λ ts vs zs hs limit xs c xs' minutes values x r p.
+      let t = told ts vs zs hs limit xs c xs' x r in
+      let e : t.located ≡ record { position = None; passes = t.located.passes } =
+      ap (λ (o : Option ℕ). record { position = o; passes = t.located.passes }) (sym t.position ∙ p) in
+      let o = opened ts vs zs hs limit t.located t.answer in
+      let q = ap (λ (l : Located). l.position) (o.1 ∙ e) in
+      let n = none_counted ts vs zs hs limit minutes values t.located.passes (t.answer ∙ ap given e) in (
+        λ j l. high_at ts vs zs hs limit minutes values o.0 j l (lowest_none (low_at ts vs zs hs limit) (length zs) q j l),
+        t.code ∙ ap (λ (n : ℕ). detail_unit * n) n.0,
+        omega (arith, t.code, n.1),
+      );
+  exported_by_the_full_curve = λ ts vs zs hs rs limit xs c xs' b rs' minutes values fits one x d.
+      let e = by_the_full_curve full (same_limits full) ts vs zs hs rs limit minutes values fits ∙ sym (rw (d.ensured.1, d.ensured.0)) in
+      let o = sym (right_size 1 xs one (first_at_most full ts vs zs hs limit)) in (
+        x.ensured.0 ∙ ap (answered (λ (l : Located). l.passes)) (o ∙ e),
+        x.ensured.1 ∙ ap (λ (t : Answer Located). stored (λ (l : Located). position_numbers l.position) t xs) (o ∙ e),
+      );
+  exported_values_behind_do_not_count = λ ts vs vs' zs hs limit xs c d xs₁ xs₂ minutes values values' even x r same y.
+      let t = told ts vs zs hs limit xs c xs₁ x r in
+      let o : first_low ts vs zs hs limit ≡ position_of (get_or xs₁ 0 0) =
+      ap (λ (l : Located). l.position) (opened ts vs zs hs limit t.located t.answer).1 ∙ sym t.position in
+      let e = values_behind_do_not_count full (same_limits full) ts vs vs' zs hs limit minutes values values' even
+      (λ i m. same i (rw (ap (reach ts zs hs) o) at m)) in (
+        y.ensured.0 ∙ sym (x.ensured.0 ∙ ap (λ (a : Answer Located). answered (λ (l : Located). l.passes) (sized 1 xs a)) e),
+        y.ensured.1 ∙ sym (x.ensured.1 ∙ ap (λ (a : Answer Located). stored (λ (l : Located). position_numbers l.position) (sized 1 xs a) xs) e),
       );
   none_is_no_position = λ zs k few l e. omega arith;
 }

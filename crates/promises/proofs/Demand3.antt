@@ -1,7 +1,7 @@
 -- Demand 3 of the calls. By its contract each call leaves the record that the step's meaning gives, so a list of calls leaves what a list of
 -- steps leaves, and the claim about the list holds of the records and answers that the caller saw. The exported call is the same step on a
 -- record that is kept as nine numbers.
-use Prim.Native.Nat.{ℕ, suc, ◌*◌, ◌<◌}
+use Prim.Native.Nat.{ℕ, suc, ◌*◌, ◌≤◌, ◌<◌}
 use Rattle.std.specs.Prelude.{Result, Ok, Err}
 use Rattle.meanings.specs.declared.Refusal.{Refusal}
 use Rattle.meanings.specs.Calls.{answer_of}
@@ -22,7 +22,8 @@ use Rattle.meanings.specs.EventLog.{EventLog}
 use Rattle.meanings.specs.Claim.{StepHolds, refusal, record_after}
 use Rattle.meanings.specs.Calls.{smooth, smooth_rows}
 use Rattle.meanings.proofs.Claim.{demand_3, log_follows, refused_with_8_6_or_9}
-use Rattle.meanings.proofs.Passes.{fresh_within, after_onward, after_append}
+use Rattle.meanings.proofs.Passes.{fresh_within, after_onward, after_append, passes_at_most_twice}
+use Rattle.laws.proofs.turn.Motions.{steps_count_passes, steps_count_log}
 use Rattle.meanings.proofs.Checks.{same_limits}
 use Rattle.meanings.proofs.SmoothLog.{smooth_passes}
 use Rattle.meanings.proofs.SmoothRows.{smooth_row_is_record_row}
@@ -32,7 +33,7 @@ use Rattle.exports.specs.Answers.{sized, stored, record_of, record_numbers, reco
 use Rattle.exports.proofs.Stores.{record_read_back}
 use Rattle.promises.specs.Calls.{ExportedAdvance}
 use Rattle.promises.specs.conditions.Conditions.{code_refusal}
-use Rattle.promises.specs.Demands.{held, Steps, ExportedSteps, OrderedSteps, LogMatches, Demand3}
+use Rattle.promises.specs.Demands.{held, log_passes, Steps, ExportedSteps, OrderedSteps, LogMatches, Demand3}
 use Rattle.promises.specs.Demands as demands
 use Rattle.promises.proofs.RecordRows.{row_of_window_record, last_question, row_after_steps, answered_row}
 use Rattle.promises.proofs.RecordRows.{exported_record_row_gives, exported_evaluate_gives}
@@ -73,6 +74,12 @@ matches ts vs ms r o e =
       evicted_were_inserted = w.edges;
       within = w.inside;
     })
+
+-- the record's own count of passes
+counted : (ts vs : List ℕ) (ms : List Move) (r : RunningSums) → OrderedSteps ts vs ms → r ≡ record_after ts vs ms
+    → (r.passes ≡ log_passes ts vs ms) × (r.passes ≤ 2 * length ts)
+counted ts vs ms r o e =
+    rw e (steps_count_log ts vs o.minutes o.values o.ordered ms o.no_edge_back, rw (steps_count_passes ts vs ms) (passes_at_most_twice ts vs ms))
 
 -- a step on nine numbers is the step on their record
 pub record NumbersStep (xs ts vs : List ℕ) (z h c : ℕ) (xs' : List ℕ) : Type 0 where
@@ -124,19 +131,27 @@ module _ (ts vs zs hs rs rs' : List ℕ) (n : ℕ) (minutes : AtMost max_u16 ts)
 
 pub demand_3_of_calls : Demand3
 demand_3_of_calls = record {
-  each_step = λ ts vs ms before rest m r a o q s c.
-      seen_step_holds ts vs ms before rest m (refusal (answer_of a)) r (held r a) o q (left_by_steps s) (ap refusal c.ensured)
-      (held_is_next_record r a ∙ ap (next_record r) c.ensured);
-  each_once = λ ts vs ms r o s. matches ts vs ms r o (left_by_steps s);
+  every_list = λ ts vs ms o. record {
+    each_step = λ before rest m r a q s c.
+        seen_step_holds ts vs ms before rest m (refusal (answer_of a)) r (held r a) o q (left_by_steps s) (ap refusal c.ensured)
+        (held_is_next_record r a ∙ ap (next_record r) c.ensured);
+    each_once = λ r s. matches ts vs ms r o (left_by_steps s);
+    passes_are = λ r s. (counted ts vs ms r o (left_by_steps s)).0;
+    passes_most = λ r s. (counted ts vs ms r o (left_by_steps s)).1;
+  };
+  every_exported_list = λ ts vs ms o. record {
+    each_exported_step = λ before rest m xs c xs' q s k.
+        let l = left_by_exported s refl in
+        let n = numbers_step xs ts vs m.point m.bandwidth c xs' l.0 k in (
+          l.0,
+          n.nine,
+          seen_step_holds ts vs ms before rest m (code_refusal c) (record_of xs) (record_of xs') o q l.1 n.tells n.moves_record,
+        );
+    each_exported_once = λ xs s. matches ts vs ms (record_of xs) o (left_by_exported s refl).1;
+    exported_passes_are = λ xs s. (counted ts vs ms (record_of xs) o (left_by_exported s refl).1).0;
+    exported_passes_most = λ xs s. (counted ts vs ms (record_of xs) o (left_by_exported s refl).1).1;
+  };
   refused_with = refused_with_8_6_or_9;
-  each_exported_step = λ ts vs ms before rest m xs c xs' o q s k.
-      let l = left_by_exported s refl in
-      let n = numbers_step xs ts vs m.point m.bandwidth c xs' l.0 k in (
-        l.0,
-        n.nine,
-        seen_step_holds ts vs ms before rest m (code_refusal c) (record_of xs) (record_of xs') o q l.1 n.tells n.moves_record,
-      );
-  each_exported_once = λ ts vs ms xs o s. matches ts vs ms (record_of xs) o (left_by_exported s refl).1;
   other_length = refused_numbers;
   steps_leave = λ ts vs r r' ms s. left_by_steps s;
   exported_steps_leave = λ ts vs xs xs' ms e s. left_by_exported s e;

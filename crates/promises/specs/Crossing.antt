@@ -16,9 +16,10 @@ use Rattle.meanings.specs.PublishedRow.{PublishedRow}
 use Rattle.meanings.specs.Reports.{Fault, given}
 use Rattle.meanings.specs.EventLog.{empty_log, log_after, insertion_count, eviction_count}
 use Rattle.meanings.specs.Claim.{refusal}
-use Rattle.meanings.specs.Codes.{detail_unit}
+use Rattle.meanings.specs.Codes.{detail_unit, answered}
 use Rattle.meanings.specs.limit.Crossing.{answer_by_rows, reach}
-use Rattle.exports.specs.Positions.{no_position, position_of}
+use Rattle.exports.specs.Answers.{stored}
+use Rattle.exports.specs.Positions.{no_position, position_numbers, position_of}
 use Rattle.questions.proofs.limit.first_at_most.Reads as first_at_most
 use Rattle.questions.proofs.limit.first_at_most.Kinds as first_at_most_kinds
 use Rattle.questions.proofs.limit.first_at_most.Statement as first_at_most_code
@@ -107,5 +108,22 @@ pub record Crossings : Type 2 where
   pub exported_tells : (ts vs zs hs : List ℕ) (limit : ℕ) (xs : List ℕ) (c : ℕ) (xs' : List ℕ) (a : Result Located Refusal)
       → ExportedFirstAtMost ts vs zs hs limit xs c xs' → FirstAtMostCall ts vs zs hs limit a → code_refusal c ≡ None
       → (l : Located) × ((answer_of a ≡ given l) × (c ≡ detail_unit * l.passes) × (length xs' ≡ 1) × (position_of (get_or xs' 0 0) ≡ l.position))
+  -- so the same as above is so of it: position k, with the passes n in units of its detail
+  pub exported_reached : (ts vs zs hs : List ℕ) (limit : ℕ) (xs : List ℕ) (c : ℕ) (xs' : List ℕ) (k : ℕ) → AtMost max_u16 ts → AtMost max_u16 vs
+      → ExportedFirstAtMost ts vs zs hs limit xs c xs' → code_refusal c ≡ None → position_of (get_or xs' 0 0) ≡ Some k
+      → (n : ℕ) × ((c ≡ detail_unit * n) × FirstLow ts vs zs hs limit k n)
+  pub exported_not_reached : (ts vs zs hs : List ℕ) (limit : ℕ) (xs : List ℕ) (c : ℕ) (xs' : List ℕ) → AtMost max_u16 ts → AtMost max_u16 vs
+      → ExportedFirstAtMost ts vs zs hs limit xs c xs' → code_refusal c ≡ None → position_of (get_or xs' 0 0) ≡ None
+      → NoneLow ts vs zs hs limit
+      × (c ≡ detail_unit * (insertion_count (log_after ts vs empty_log (moves zs hs)) + eviction_count (log_after ts vs empty_log (moves zs hs))))
+      × (c ≤ detail_unit * (2 * length ts))
+  pub exported_by_the_full_curve : (ts vs zs hs rs : List ℕ) (limit : ℕ) (xs : List ℕ) (c : ℕ) (xs' : List ℕ) (b : Result ℕ Refusal) (rs' : List ℕ)
+      → AtMost max_u16 ts → AtMost max_u16 vs → length rs ≡ row_width * length zs → length xs ≡ 1 → ExportedFirstAtMost ts vs zs hs limit xs c xs'
+      → SmoothCall ts vs zs hs rs b rs' → (c ≡ answered (λ (l : Located). l.passes) (answer_by_rows rs' (length zs) limit (answer_of b)))
+      × (xs' ≡ stored (λ (l : Located). position_numbers l.position) (answer_by_rows rs' (length zs) limit (answer_of b)) xs)
+  pub exported_values_behind_do_not_count : (ts vs vs' zs hs : List ℕ) (limit : ℕ) (xs : List ℕ) (c d : ℕ) (xs₁ xs₂ : List ℕ) → AtMost max_u16 ts
+      → AtMost max_u16 vs → AtMost max_u16 vs' → length vs ≡ length vs' → ExportedFirstAtMost ts vs zs hs limit xs c xs₁ → code_refusal c ≡ None
+      → ((i : ℕ) → i < reach ts zs hs (position_of (get_or xs₁ 0 0)) → get_or vs i 0 ≡ get_or vs' i 0)
+      → ExportedFirstAtMost ts vs' zs hs limit xs d xs₂ → (d ≡ c) × (xs₂ ≡ xs₁)
   -- what stands for none is no position of a list that 64 bits can count
   pub none_is_no_position : (zs : List ℕ) (k : ℕ) → length zs ≤ no_position → k < length zs → ¬ (k ≡ no_position)

@@ -259,22 +259,33 @@ pub record LogMatches (ts vs : List ℕ) (ms : List Move) (r : RunningSums) : Ty
   pub evicted_were_inserted : r.left ≤ r.right
   pub within : r.right ≤ length ts
 
-pub record Demand3 : Type 0 where
-  -- after each step of a list of calls, whatever stands before and after it: the claim of the answer, and of the records held before and after
-  pub each_step : (ts vs : List ℕ) (ms before rest : List Move) (m : Move) (r : RunningSums) (a : Result RunningSums Refusal) → OrderedSteps ts vs ms
-      → ms ≡ before ++ m ∷ rest → Steps ts vs fresh before r → AdvanceCall r ts vs m.point m.bandwidth a
-      → StepHolds ts vs before m (refusal (answer_of a)) r (held r a)
+-- one claim about the whole list of steps, as calls of `advance` of which the first has a fresh record
+pub record CallsHold (ts vs : List ℕ) (ms : List Move) : Type 0 where
+  -- after each step, whatever stands before and after it: the claim of the answer, and of the records held before and after
+  pub each_step : (before rest : List Move) (m : Move) (r : RunningSums) (a : Result RunningSums Refusal) → ms ≡ before ++ m ∷ rest
+      → Steps ts vs fresh before r → AdvanceCall r ts vs m.point m.bandwidth a → StepHolds ts vs before m (refusal (answer_of a)) r (held r a)
   -- no reading is inserted twice, none is evicted twice, and none is evicted that was not inserted
-  pub each_once : (ts vs : List ℕ) (ms : List Move) (r : RunningSums) → OrderedSteps ts vs ms → Steps ts vs fresh ms r → LogMatches ts vs ms r
+  pub each_once : (r : RunningSums) → Steps ts vs fresh ms r → LogMatches ts vs ms r
+  -- the record's own passes are the event log's insertions plus evictions, at most two for each reading
+  pub passes_are : (r : RunningSums) → Steps ts vs fresh ms r → r.passes ≡ log_passes ts vs ms
+  pub passes_most : (r : RunningSums) → Steps ts vs fresh ms r → r.passes ≤ 2 * length ts
+
+-- the same of the call for C and Rust, from nine zeros
+pub record ExportedCallsHold (ts vs : List ℕ) (ms : List Move) : Type 0 where
+  pub each_exported_step : (before rest : List Move) (m : Move) (xs : List ℕ) (c : ℕ) (xs' : List ℕ) → ms ≡ before ++ m ∷ rest
+      → ExportedSteps ts vs zeros before xs → ExportedAdvance xs ts vs m.point m.bandwidth c xs'
+      → (length xs ≡ record_length) × (length xs' ≡ record_length) × StepHolds ts vs before m (code_refusal c) (record_of xs) (record_of xs')
+  pub each_exported_once : (xs : List ℕ) → ExportedSteps ts vs zeros ms xs → LogMatches ts vs ms (record_of xs)
+  pub exported_passes_are : (xs : List ℕ) → ExportedSteps ts vs zeros ms xs → (record_of xs).passes ≡ log_passes ts vs ms
+  pub exported_passes_most : (xs : List ℕ) → ExportedSteps ts vs zeros ms xs → (record_of xs).passes ≤ 2 * length ts
+
+pub record Demand3 : Type 0 where
+  -- every list of steps, refused ones included, over readings whose minutes never fall, in which no accepted step takes an edge back
+  pub every_list : (ts vs : List ℕ) (ms : List Move) → OrderedSteps ts vs ms → CallsHold ts vs ms
+  pub every_exported_list : (ts vs : List ℕ) (ms : List Move) → OrderedSteps ts vs ms → ExportedCallsHold ts vs ms
   -- what the log refuses a step with, and so by each_step the call, is 8, 6 or 9 at place 0
   pub refused_with : (ts vs : List ℕ) (m : Move) (e : Fault) → log_refusal ts vs m ≡ Some e
       → ((e.number ≡ 8) ⊎ (e.number ≡ 6) ⊎ (e.number ≡ 9)) × (e.place ≡ 0)
-  -- the same of the call for C and Rust, from nine zeros
-  pub each_exported_step : (ts vs : List ℕ) (ms before rest : List Move) (m : Move) (xs : List ℕ) (c : ℕ) (xs' : List ℕ) → OrderedSteps ts vs ms
-      → ms ≡ before ++ m ∷ rest → ExportedSteps ts vs zeros before xs → ExportedAdvance xs ts vs m.point m.bandwidth c xs'
-      → (length xs ≡ record_length) × (length xs' ≡ record_length) × StepHolds ts vs before m (code_refusal c) (record_of xs) (record_of xs')
-  pub each_exported_once : (ts vs : List ℕ) (ms : List Move) (xs : List ℕ) → OrderedSteps ts vs ms → ExportedSteps ts vs zeros ms xs
-      → LogMatches ts vs ms (record_of xs)
   -- a list of another length gets 8 at place 0 from every call and stays; the event log has no such list
   pub other_length : (xs ts vs : List ℕ) (z h c : ℕ) (xs' : List ℕ) → ¬ (length xs ≡ record_length) → ExportedAdvance xs ts vs z h c xs'
       → (c ≡ 8) × (xs' ≡ xs)
@@ -438,6 +449,12 @@ pub record EveryCurve : Type 0 where
   pub exported_preview_among : (ts vs zs hs rs : List ℕ) (c : ℕ) (rs' : List ℕ) (k : ℕ) → ExportedPreview ts vs zs hs rs c rs'
       → code_refusal c ≡ None → k < length zs → ¬ ((stored_row rs' k).value ≡ missing)
       → Among ts vs (get_or zs k 0) (get_or hs k 0) (stored_row rs' k)
+  -- and in the row of a record after steps, at the mark and half width of the last accepted one; after turns: Turns.antt
+  pub record_row_among : (ts vs : List ℕ) (ms : List Move) (m : Move) (r : RunningSums) (e : Estimate) → OrderedSteps ts vs ms → Steps ts vs fresh ms r
+      → last_accepted ts vs ms ≡ Some m → RecordRowCall r m.point m.bandwidth e → ¬ (e.value ≡ missing) → Among ts vs m.point m.bandwidth e
+  pub exported_record_row_among : (ts vs : List ℕ) (ms : List Move) (m : Move) (xs row : List ℕ) (c : ℕ) (row' : List ℕ) → OrderedSteps ts vs ms
+      → ExportedSteps ts vs zeros ms xs → last_accepted ts vs ms ≡ Some m → ExportedRecordRow xs m.point m.bandwidth row c row' → code_refusal c ≡ None
+      → ¬ ((stored_row row' 0).value ≡ missing) → Among ts vs m.point m.bandwidth (stored_row row' 0)
   -- readings of equal minute may change places: both calls give the same answer and leave the same rows, refusals included
   pub evaluate_alike : (ts vs vs' : List ℕ) (z h : ℕ) (a b : Result Estimate Refusal) → Rearranged ts vs vs' → EvaluateCall ts vs z h a
       → EvaluateCall ts vs' z h b → answer_of a ≡ answer_of b
@@ -445,6 +462,14 @@ pub record EveryCurve : Type 0 where
       → SmoothCall ts vs' zs hs rs b rs₂ → (answer_of a ≡ answer_of b) × (rs₁ ≡ rs₂)
   pub preview_alike : (ts vs vs' zs hs rs : List ℕ) (a b : Result ℕ Refusal) (rs₁ rs₂ : List ℕ) → Rearranged ts vs vs' → PreviewCall ts vs zs hs rs a rs₁
       → PreviewCall ts vs' zs hs rs b rs₂ → (answer_of a ≡ answer_of b) × (rs₁ ≡ rs₂)
+  -- and the rows of both records after the same steps are the same
+  pub record_row_alike : (ts vs vs' : List ℕ) (ms : List Move) (m : Move) (r s : RunningSums) (d e : Estimate) → Rearranged ts vs vs' → OrderedSteps ts vs ms
+      → AtMost max_u16 vs' → Steps ts vs fresh ms r → Steps ts vs' fresh ms s → last_accepted ts vs ms ≡ Some m
+      → RecordRowCall r m.point m.bandwidth d → RecordRowCall s m.point m.bandwidth e → d ≡ e
+  pub exported_record_row_alike : (ts vs vs' : List ℕ) (ms : List Move) (m : Move) (xs ys row : List ℕ) (c d : ℕ) (row₁ row₂ : List ℕ)
+      → Rearranged ts vs vs' → OrderedSteps ts vs ms → AtMost max_u16 vs' → ExportedSteps ts vs zeros ms xs → ExportedSteps ts vs' zeros ms ys
+      → last_accepted ts vs ms ≡ Some m → length row ≡ row_width → ExportedRecordRow xs m.point m.bandwidth row c row₁
+      → ExportedRecordRow ys m.point m.bandwidth row d row₂ → (c ≡ d) × (row₁ ≡ row₂)
   -- two plain sheets that differ only so print alike
   pub sheets_alike : (s s' : List ℕ) (c : Contents) (vs' : List ℕ) → Rearranged c.minutes c.values vs' → IsSheet full s c
       → IsSheet full s' (record { minutes = c.minutes; values = vs'; points = c.points; bandwidths = c.bandwidths }) → either_program s ≡ either_program s'

@@ -31,13 +31,19 @@ use Rattle.promises.specs.conditions.Conditions.{RefusedExactly, FirstFault, len
 use Rattle.promises.specs.Demands.{RefusedAndStays, held, OrderedSteps, zeros}
 use Rattle.promises.proofs.conditions.CallChecks.{none_left, series_finds, record_finds, bandwidth_finds}
 use Rattle.promises.proofs.Demand3.{demand_3_of_calls, held_is_next_record, stored_record, opened, numbers_step}
-use Rattle.promises.proofs.RecordRows.{answered_row, exported_record_row_gives, exported_evaluate_gives}
+use Rattle.promises.proofs.RecordRows.{answered_row, exported_record_row_gives, exported_evaluate_gives, record_row_is, one_record_row}
+use Rattle.promises.proofs.EveryCurve.{one_given}
+use Rattle.promises.proofs.OtherCalls.{other_calls}
+use Rattle.laws.proofs.rows.AmongReadings.{evaluation_among}
+use Rattle.laws.proofs.rows.Rearranged.{same_curves}
+use Rattle.text.specs.Table.{stored_row}
+use Rattle.meanings.specs.Estimate.{fields}
 use Rattle.promises.proofs.conditions.FirstFaults.{FindAll, refused_exactly}
 use Rattle.promises.proofs.conditions.Refusals.{decided_exactly, length_first_finds, sized_is_checked, exported_refusal, exported_stays, stored_stays}
 use Rattle.promises.proofs.conditions.Refusals.{first_numbered}
 use Rattle.promises.proofs.conditions.Refusals.{accepted_given}
 use Rattle.promises.specs.turn.Turns as turns
-use Rattle.promises.specs.turn.Turns.{TurnCall, ExportedTurn, turn_conditions, Motions, ExportedMotions, Turns}
+use Rattle.promises.specs.turn.Turns.{TurnCall, ExportedTurn, turn_conditions, Motions, LentMotions, ExportedMotions, Turns}
 
 -- ---- the calls leave what the meanings leave
 module _ (ts vs : List ℕ) where
@@ -54,6 +60,13 @@ module _ (ts vs : List ℕ) where
       motions_leave s ∙ ap (λ (q : RunningSums). after_motions ts vs q ms) (step_left r m a c)
   motions_leave {r} (turns.Motions.one_turn {ms = ms} m t c s) =
       motions_leave s ∙ ap (λ (q : RunningSums). after_motions ts vs q ms) (turn_left r m t c)
+
+  lent_leave : {r r' : RunningSums} {ms : List Motion} → LentMotions ts vs r ms r' → r' ≡ after_motions ts vs r ms
+  lent_leave turns.LentMotions.no_motion = refl
+  lent_leave {r} (turns.LentMotions.one_step {ms = ms} m a c s) =
+      lent_leave s ∙ ap (λ (q : RunningSums). after_motions ts vs q ms) (step_left r m a c)
+  lent_leave {r} (turns.LentMotions.one_turn {ms = ms} m a c s) =
+      lent_leave s ∙ ap (λ (q : RunningSums). after_motions ts vs q ms) c.ensured.1
 
 next_is_turn_record : (ts vs : List ℕ) (r : RunningSums) (z h : ℕ) → next_record r (turn_answer ts vs r z h) ≡ turn_record ts vs r z h
 unfolding turn_answer turn_record
@@ -172,17 +185,22 @@ turns_hold = record {
     exported_turn_asks_nothing = λ κs a. tt;
   };
   lent_turn_alike = λ r ts vs z h a r' t c d. (c.ensured.0 ∙ sym d.ensured.0, c.ensured.1 ∙ sym d.ensured.1);
-  turn_refused = λ r ts vs z h t c. refused_or_stays r ts vs z h t c;
+  turn_refused = λ r ts vs z h t c. refused_or_stays r ts vs z h (verdict_fault t.verdict) t.running c.ensured.0 c.ensured.1;
+  lent_turn_refused = λ r ts vs z h a r' c. refused_or_stays r ts vs z h (verdict_fault a) r' c.ensured.0 c.ensured.1;
   exported_turn_refused = λ xs ts vs z h c xs' k.
       let t = sized record_length xs (turn_answer ts vs (record_of xs) z h) in
       exported_stays t c _ (turn_coded xs ts vs z h c k.ensured.0) (turn_exactly xs ts vs z h)
       (xs' ≡ xs) (λ e q. k.ensured.1 ∙ stored_stays record_numbers t xs e q);
   motions_leave = λ ts vs r r' ms s. motions_leave ts vs s;
+  lent_motions_leave = λ ts vs r r' ms s. lent_leave ts vs s;
   exported_motions_leave = λ ts vs xs xs' ms e s. exported_leave s e;
   reached_direct = λ ts vs r ms m v s. direct ts vs m v r ms (motions_leave ts vs s);
+  lent_reached_direct = λ ts vs r ms m v s. direct ts vs m v r ms (lent_leave ts vs s);
   exported_reached_direct = λ ts vs xs ms m v s. direct ts vs m v (record_of xs) ms (exported_leave s refl).1;
   turn_lands = λ ts vs r ms z h t m v s c q.
       lands ts vs m v r t.running z h (direct ts vs m v r ms (motions_leave ts vs s)) c.ensured.1 (sym c.ensured.0 ∙ q);
+  lent_turn_lands = λ ts vs r ms z h a r' m v s c q.
+      lands ts vs m v r r' z h (direct ts vs m v r ms (lent_leave ts vs s)) c.ensured.1 (sym c.ensured.0 ∙ q);
   exported_turn_lands = λ ts vs xs ms z h c xs' m v s k q.
       let l = exported_leave s refl in
       let n = numbers_turn xs ts vs z h c xs' l.0 k in
@@ -192,6 +210,11 @@ turns_hold = record {
       (k.ensured
       ∙ gives_row ts vs m v r t.running z h (direct ts vs m v r ms (motions_leave ts vs s)) c.ensured.1 (sym c.ensured.0 ∙ q)
       ∙ ap given (sym w.ensured));
+  lent_turn_row = λ ts vs r ms z h t r' a e m v s c q k w.
+      answered_row a e
+      (k.ensured
+      ∙ gives_row ts vs m v r r' z h (direct ts vs m v r ms (lent_leave ts vs s)) c.ensured.1 (sym c.ensured.0 ∙ q)
+      ∙ ap given (sym w.ensured));
   exported_turn_row = λ ts vs xs ms z h c₀ xs' row₁ c₁ row₁' row c row' m v s k q l₁ l₂ k₁ k₂.
       let l = exported_leave s refl in
       let n = numbers_turn xs ts vs z h c₀ xs' l.0 k in
@@ -199,6 +222,45 @@ turns_hold = record {
       let a = exported_evaluate_gives ts vs z h row₁ c₁ row₁' (record_row (record_of xs') z h) l₁ g k₁ in
       let b = exported_record_row_gives xs' z h row c row' n.nine l₂ k₂ in
       (a.0, b.0, b.1 ∙ sym a.1);
+  turn_row_among = λ ts vs r ms z h t e m v s c q w p.
+      evaluation_among ts vs z h e
+      (gives_row ts vs m v r t.running z h (direct ts vs m v r ms (motions_leave ts vs s)) c.ensured.1 (sym c.ensured.0 ∙ q) ∙ ap given (sym w.ensured)) p;
+  lent_turn_row_among = λ ts vs r ms z h a r' e m v s c q w p.
+      evaluation_among ts vs z h e
+      (gives_row ts vs m v r r' z h (direct ts vs m v r ms (lent_leave ts vs s)) c.ensured.1 (sym c.ensured.0 ∙ q) ∙ ap given (sym w.ensured)) p;
+  exported_turn_row_among = λ ts vs xs ms z h c₀ xs' row c row' m v s k q x y p.
+      let l = exported_leave s refl in
+      let n = numbers_turn xs ts vs z h c₀ xs' l.0 k in
+      let g = gives_row ts vs m v (record_of xs) (record_of xs') z h (direct ts vs m v (record_of xs) ms l.1) n.turns_record (sym n.tells ∙ q) in
+      let is = (other_calls.exported_record_row_is xs' z h row c row' x y).2 in
+      evaluation_among ts vs z h (stored_row row' 0)
+      (g ∙ ap given (sym (one_record_row (record_of xs') z h (stored_row row' 0) _ is (record_row_is (record_of xs') z h)))) p;
+  turn_row_alike = λ ts vs vs' r s ms ns z h t u d e a m v v' f g c k q p x y.
+      one_given d e
+      (ap given x.ensured
+      ∙ sym (gives_row ts vs m v r t.running z h (direct ts vs m v r ms (motions_leave ts vs f)) c.ensured.1 (sym c.ensured.0 ∙ q))
+      ∙ (same_curves ts vs vs' a).evaluations full z h
+      ∙ gives_row ts vs' m v' s u.running z h (direct ts vs' m v' s ns (motions_leave ts vs' g)) k.ensured.1 (sym k.ensured.0 ∙ p)
+      ∙ sym (ap given y.ensured));
+  lent_turn_row_alike = λ ts vs vs' r s ms ns z h a b r' s' d e w m v v' f g c k q p x y.
+      one_given d e
+      (ap given x.ensured
+      ∙ sym (gives_row ts vs m v r r' z h (direct ts vs m v r ms (lent_leave ts vs f)) c.ensured.1 (sym c.ensured.0 ∙ q))
+      ∙ (same_curves ts vs vs' w).evaluations full z h
+      ∙ gives_row ts vs' m v' s s' z h (direct ts vs' m v' s ns (lent_leave ts vs' g)) k.ensured.1 (sym k.ensured.0 ∙ p)
+      ∙ sym (ap given y.ensured));
+  exported_turn_row_alike = λ ts vs vs' xs ys ms ns z h a b xs' ys' row c d row₁ row₂ w m v v' f g k l q p five x y.
+      let i = exported_leave f refl in
+      let j = exported_leave g refl in
+      let n = numbers_turn xs ts vs z h a xs' i.0 k in
+      let o = numbers_turn ys ts vs' z h b ys' j.0 l in
+      let e = one_given _ _
+      (sym (gives_row ts vs m v (record_of xs) (record_of xs') z h (direct ts vs m v (record_of xs) ms i.1) n.turns_record (sym n.tells ∙ q))
+      ∙ (same_curves ts vs vs' w).evaluations full z h
+      ∙ gives_row ts vs' m v' (record_of ys) (record_of ys') z h (direct ts vs' m v' (record_of ys) ns j.1) o.turns_record (sym o.tells ∙ p)) in
+      let one = exported_record_row_gives xs' z h row c row₁ n.nine five x in
+      let other = exported_record_row_gives ys' z h row d row₂ o.nine five y in
+      (one.0 ∙ sym other.0, one.1 ∙ ap fields e ∙ sym other.1);
   exported_turn_accepted = λ xs ts vs z h c xs' k q.
       let t = sized record_length xs (turn_answer ts vs (record_of xs) z h) in
       k.ensured.0 ∙ ap (answered no_detail) (accepted_given t (sym (turn_coded xs ts vs z h c k.ensured.0) ∙ q)).1;
@@ -211,6 +273,11 @@ turns_hold = record {
       let m : Move = record { point = z; bandwidth = h } in (
         c.ensured.0 ∙ same_turn_refusal ts vs r s h w ∙ sym d.ensured.0,
         rw (turn_left ts vs r m t c, turn_left ts vs s m u d) (motion_alike ts vs r s (turn m) w),
+      );
+  lent_turn_ignores_passes = λ r s ts vs z h a b r' s' w c d.
+      let m : Move = record { point = z; bandwidth = h } in (
+        c.ensured.0 ∙ same_turn_refusal ts vs r s h w ∙ sym d.ensured.0,
+        rw (c.ensured.1, d.ensured.1) (motion_alike ts vs r s (turn m) w),
       );
   exported_step_ignores_passes = λ xs ys ts vs z h c d xs' ys' e f w k l.
       let m : Move = record { point = z; bandwidth = h } in
@@ -231,6 +298,9 @@ turns_hold = record {
   steps_behind_turn = λ ts vs r r' ms m t ns a v s c q w e.
       behind ts vs a v r t.running r' m ns (direct ts vs a v r ms (motions_leave ts vs s)) c.ensured.1 (sym c.ensured.0 ∙ q)
       (demand_3_of_calls.steps_leave ts vs t.running r' ns w) e;
+  lent_steps_behind_turn = λ ts vs r r' r'' ms m a ns b v s c q w e.
+      behind ts vs b v r r' r'' m ns (direct ts vs b v r ms (lent_leave ts vs s)) c.ensured.1 (sym c.ensured.0 ∙ q)
+      (demand_3_of_calls.steps_leave ts vs r' r'' ns w) e;
   exported_steps_behind_turn = λ ts vs xs xs' xs'' ms m c ns a v s k q w e.
       let l = exported_leave s refl in
       let n = numbers_turn xs ts vs m.point m.bandwidth c xs' l.0 k in
@@ -250,9 +320,9 @@ turns_hold = record {
         → r.passes ≡ insertion_count (log_after_steps ts vs ms) + eviction_count (log_after_steps ts vs ms)
     logged ts vs r ms o e = rw e (steps_count_log ts vs o.minutes o.values o.ordered ms o.no_edge_back)
 
-    refused_or_stays : (r : RunningSums) (ts vs : List ℕ) (z h : ℕ) (t : Turning) → TurnCall r ts vs z h t
-        → RefusedAndStays (verdict_fault t.verdict) (FirstFault (turn_conditions ts vs r.left r.right h)) (t.running ≡ r)
-    refused_or_stays r ts vs z h t c = record {
-      exactly = rw c.ensured.0 (refused_exactly (turn_finds ts vs r.left r.right h));
-      stays = λ e k. c.ensured.1 ∙ refused_keeps ts vs r (record { point = z; bandwidth = h }) e (sym c.ensured.0 ∙ k);
+    refused_or_stays : (r : RunningSums) (ts vs : List ℕ) (z h : ℕ) (f : Option Fault) (r' : RunningSums) → f ≡ turn_refusal ts vs r h
+        → r' ≡ turn_record ts vs r z h → RefusedAndStays f (FirstFault (turn_conditions ts vs r.left r.right h)) (r' ≡ r)
+    refused_or_stays r ts vs z h f r' told left = record {
+      exactly = rw told (refused_exactly (turn_finds ts vs r.left r.right h));
+      stays = λ e k. left ∙ refused_keeps ts vs r (record { point = z; bandwidth = h }) e (sym told ∙ k);
     }
