@@ -10,3 +10,4 @@ pub mod WindowsStoring
 pub mod CumulativeFilling
 pub mod SumsStoring
 pub mod Tables
+pub mod WrongWindows

@@ -3,3 +3,4 @@ pub mod RowCounts
 pub mod CurveSearches
 pub mod SweepSearches
 pub mod RangesSearches
+pub mod WrongAnswers

@@ -21,3 +21,4 @@ pub mod SweepPlaces
 pub mod TextsPlaces
 pub mod Turns
 pub mod TurnWrongAnswers
+pub mod WrongAnswers

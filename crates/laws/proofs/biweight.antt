@@ -1,3 +1,4 @@
 pub mod BetaKernels
+pub mod KernelCases
 pub mod PublishedRow
 pub mod Readings

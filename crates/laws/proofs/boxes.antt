@@ -4,3 +4,4 @@ pub mod Published
 pub mod Refusals
 pub mod Strips
 pub mod Sums
+pub mod WindowCases

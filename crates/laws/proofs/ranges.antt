@@ -11,5 +11,6 @@ pub mod RangeDecided
 pub mod NamedFronts
 pub mod EitherForms
 pub mod FormCases
+pub mod RangeFormCases
 pub mod LowSheets
 pub mod WrongReaders

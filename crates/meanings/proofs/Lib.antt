@@ -5,6 +5,8 @@ pub mod Cases
 pub mod Checks
 pub mod Claim
 pub mod Codes
+pub mod CodesCases
+pub mod TurnWrapCases
 pub mod EqualSamples
 pub mod Grids
 pub mod Kernel
@@ -24,6 +26,7 @@ pub mod Steps
 pub mod Totals
 pub mod Window
 pub mod WrongAnswers
+pub mod SixWrongPrograms
 pub mod BiweightCases
 pub mod BiweightBounds
 pub mod BiweightEqualSamples
@@ -42,6 +45,7 @@ pub mod Having
 pub mod WrongDoubles
 pub mod ByRows
 pub mod LimitCases
+pub mod LimitsCases
 pub mod LimitPasses
 pub mod Values
 pub mod LimitWrongAnswers
@@ -51,9 +55,11 @@ pub mod Kth
 pub mod Sorting
 pub mod NeighboursWrongAnswers
 pub mod PairCases
+pub mod PairEqualValuesCases
 pub mod Accepted
 pub mod Within
 pub mod Sweeps
 pub mod RangesCases
+pub mod RangeReaderCases
 pub mod Fronts
 pub mod ReadingLines

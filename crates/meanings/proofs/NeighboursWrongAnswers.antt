@@ -11,7 +11,7 @@ use Rattle.meanings.specs.Lists.{pick, first, distance}
 use Rattle.meanings.specs.Reports.{Answer, given, refused}
 use Rattle.meanings.specs.Estimate.{rows, estimate, left_of, right_of, kernel, weight_of, sum_of, value_of, rounded}
 use Rattle.meanings.specs.neighbours.Neighbours.{distances, sorted, kth_distance, neighbour_bandwidth, neighbour_bandwidths}
-use Rattle.meanings.specs.neighbours.Neighbours.{neighbours, bandwidths_then, rows_then}
+use Rattle.meanings.specs.neighbours.Neighbours.{within, neighbours, bandwidths_then, rows_then}
 
 -- what makes a half width of minutes, a mark and K
 abbrev BandwidthFunction : Type 0
@@ -71,6 +71,11 @@ no_bare_distance f = let e : ◌≡◌ {A = ℕ} 25 26 = f minutes 60 1 in omega
 pub not_counted_from_zero : ¬ IsByNeighbours (λ ts z k. kth_distance ts z (suc k) + 1)
 unfolding kth_distance distance
 not_counted_from_zero f = let e : ◌≡◌ {A = ℕ} 41 26 = f minutes 60 1 in omega arith
+
+-- readings at the distance itself not counted as no further
+pub not_without_its_own_distance : ¬ (within (10 ∷ []) 20 10 ≡ 0)
+unfolding within distance
+not_without_its_own_distance e = let n : ◌≡◌ {A = ℕ} 1 0 = e in omega arith
 
 -- one number of an answer: the report's, and of an accepted call one that no report has
 seen : Answer Unit → ℕ

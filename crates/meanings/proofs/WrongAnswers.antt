@@ -1,35 +1,28 @@
--- Wrong programs of another shape than the code, each shut out on a concrete input: what it would answer is not what the meaning says.
-use Prim.Native.Nat.{ℕ}
-use mathlib.Core.Path.{◌≡◌, refl, ap}
+-- Wrong programs, each shut out on a concrete input: what it would answer is not what the meaning says. Those of SPECIFICATION 8.13 are in
+-- SixWrongPrograms.antt.
+use Prim.Native.Nat.{ℕ, ◌+◌, ◌*◌, ◌<◌}
+use mathlib.Core.Path.{◌≡◌, ap}
 use mathlib.Core.List.{List, [], ◌∷◌}
+use Rattle.std.specs.Prelude.{Option, None, Some}
 use native.Mathlib.Omega.{arith}
-use lib.ListN.{length, get_or, take}
+use lib.ListN.{length, get_or}
 use Rattle.meanings.specs.declared.Estimate.{Estimate}
-use Rattle.meanings.specs.declared.PowerSums.{PowerSums}
-use Rattle.meanings.specs.declared.RunningSums.{RunningSums}
+use Rattle.meanings.specs.declared.Report.TheVariants.{TooLong, TooMany}
 use Rattle.meanings.specs.Lists.{distance}
 use Rattle.meanings.specs.Limits.{full}
-use Rattle.meanings.specs.Moves.{Move, moves}
-use Rattle.meanings.specs.Reports.{Answer, given, refused}
+use Rattle.meanings.specs.Moves.{Move}
+use Rattle.meanings.specs.Reports.{Answer, given, refused, number}
 use Rattle.meanings.specs.Estimate.{estimate, left_of, right_of, kernel, weight_of, sum_of, value_of, rounded}
-use Rattle.meanings.specs.Published.{regression_above, range_sum}
+use Rattle.meanings.specs.Published.{◌≈◌, regression_above, regression_below, range_sum}
 use Rattle.meanings.specs.PublishedRow.{PublishedRow}
-use Rattle.meanings.specs.Running.{moved, moved_to, fresh, advance}
-use Rattle.meanings.specs.Claim.{last_accepted, window_direct, record_after}
+use Rattle.meanings.specs.Claim.{NotBelow, last_accepted}
+use Rattle.meanings.specs.Codes.{code, answered, answer_of, no_detail}
 use Rattle.meanings.specs.Calls.{evaluate, window, smooth, smooth_rows, fill_points}
 
 -- one number of an answer: the row's right or the report's number
 seen : Answer Estimate → ℕ
 seen (given e) = e.right
 seen (refused f) = f.number
-
--- one fixed row, or one fixed report
-pub no_fixed_answer : (a : Answer Estimate) → ¬ ((ts vs : List ℕ) (z h : ℕ) → evaluate full ts vs z h ≡ a)
-unfolding evaluate estimate left_of right_of kernel distance weight_of sum_of value_of rounded seen
-no_fixed_answer a f =
-    let empty : 0 ≡ seen a = ap seen (f [] [] 5 1) in
-    let one : 1 ≡ seen a = ap seen (f (0 ∷ []) (50 ∷ []) 3 10) in
-    omega arith
 
 -- report 9 looked at before report 4
 pub nine_not_before_four : ¬ (evaluate full (5 ∷ 4 ∷ []) (1 ∷ 2 ∷ []) 0 0 ≡ refused (record { number = 9; place = 0 }))
@@ -53,11 +46,6 @@ no_run_one_short e = let n : ◌≡◌ {A = ℕ} 2 1 = ap length e in omega arit
 answer_number : Answer ℕ → ℕ
 answer_number (given n) = n
 answer_number (refused f) = f.number
-
--- a sweep that leaves its rows as they were
-pub no_rows_untouched : ¬ ((ts vs zs hs rs : List ℕ) → smooth_rows full ts vs zs hs rs ≡ rs)
-unfolding smooth_rows estimate left_of right_of kernel distance weight_of sum_of value_of rounded
-no_rows_untouched f = let n : ◌≡◌ {A = ℕ} 65536 7 = ap (λ (r : List ℕ). get_or r 4 0) (f [] [] (5 ∷ []) (1 ∷ []) (7 ∷ 7 ∷ 7 ∷ 7 ∷ 7 ∷ [])) in omega arith
 
 -- a refusal that has written a row
 pub no_row_written_on_refusal : ¬ (smooth_rows full [] [] (100 ∷ 101 ∷ []) (10 ∷ 12 ∷ []) (7 ∷ 7 ∷ 7 ∷ 7 ∷ 7 ∷ 7 ∷ 7 ∷ 7 ∷ 7 ∷ 7 ∷ [])
@@ -87,43 +75,69 @@ pub no_point_filled_on_refusal : ¬ (fill_points full 65535 1 0 (7 ∷ 7 ∷ [])
 unfolding fill_points
 no_point_filled_on_refusal e = let n : ◌≡◌ {A = ℕ} 7 65535 = ap (λ (r : List ℕ). get_or r 0 0) e in omega arith
 
--- a step that takes in all that is left at the first mark, lets go of nothing, and so idles after
-abbrev summing_all : List ℕ → List ℕ → RunningSums → RunningSums
-summing_all ts vs r = moved_to ts vs r r.left (length ts)
+-- The published row, with an edge open, the mark left out of its sums, or the constant of the uniform kernel.
 
--- readings of which the window at the first mark holds all three and that at the second only the last
-abbrev three_minutes : List ℕ
-three_minutes = 1 ∷ 5 ∷ 9 ∷ []
+-- the reading on the left edge held to lie before the window
+pub no_left_edge_open : ¬ PublishedRow (10 ∷ []) (40 ∷ []) 20 10 (record { left = 1; right = 1; weight = 0; sum = 0; value = 65536 })
+no_left_edge_open p = let before : 10 + 10 < 20 = (p.left_is 0 (omega arith)).0 (omega arith) in omega arith
 
-abbrev three_values : List ℕ
-three_values = 10 ∷ 20 ∷ 30 ∷ []
+-- the reading on the right edge held to lie behind it
+pub no_right_edge_open : ¬ PublishedRow (30 ∷ []) (40 ∷ []) 20 10 (record { left = 0; right = 0; weight = 0; sum = 0; value = 65536 })
+no_right_edge_open p = let within : 0 < 0 = (p.right_is 0 (omega arith)).1 (omega arith) in omega arith
 
-abbrev two_steps : List Move
-two_steps = moves (5 ∷ 12 ∷ []) (4 ∷ 4 ∷ [])
-
--- its record after each mark
-abbrev all_at_first : RunningSums
-all_at_first = summing_all three_minutes three_values fresh
-
-abbrev all_at_second : RunningSums
-all_at_second = summing_all three_minutes three_values all_at_first
-
--- the first mark does not tell it from the step
-pub summing_all_fits_the_first_mark : record_after three_minutes three_values (take 1 two_steps) ≡ all_at_first
-unfolding advance moved distance
-summing_all_fits_the_first_mark = refl
-
--- at the second it idles
-pub summing_all_idles : all_at_second ≡ all_at_first
-unfolding distance
-summing_all_idles = refl
-
--- which is not the step's record, since the left edge stays at 0
-pub no_summing_all_at_the_first_mark : ¬ (record_after three_minutes three_values two_steps ≡ all_at_second)
-unfolding advance moved distance
-no_summing_all_at_the_first_mark e = let n : ◌≡◌ {A = ℕ} 2 0 = ap (λ (r : RunningSums). r.left) e in omega arith
-
--- nor are its sums the direct ones of demand 3
-pub no_sums_of_all : ¬ (all_at_second.sums ≡ window_direct three_minutes three_values (last_accepted three_minutes three_values two_steps))
+-- the half width for the mark in the weight by sums: 10² + 2 × 10 × 10 − 5² − 10²
+pub no_weight_without_the_mark : ¬ PublishedRow (10 ∷ []) (1 ∷ []) 5 10 (record { left = 0; right = 1; weight = 175; sum = 175; value = 1 })
 unfolding range_sum
-no_sums_of_all e = let n : ◌≡◌ {A = ℕ} 3 1 = ap (λ (s : PowerSums). s.s00) e in omega arith
+no_weight_without_the_mark p = let n : ◌≡◌ {A = ℕ} 300 200 = p.weight_by_sums in omega arith
+
+-- the weight for the sum in the published numerator, which is 2100 / 4000 of the one reading of value 7 at the mark
+sums_apart : ¬ (◌≡◌ {A = ℕ} 8400000 924000)
+sums_apart e = omega arith
+
+pub no_weight_for_the_sum : ¬ PublishedRow (20 ∷ []) (7 ∷ []) 20 10 (record { left = 0; right = 1; weight = 700; sum = 77; value = 0 })
+unfolding regression_above distance
+no_weight_for_the_sum p = sums_apart p.above_is.cross
+
+-- 1/2 for 3/4: 1/10 × 1/2 of the one reading at the mark
+pub no_uniform_constant : ¬ (regression_below (20 ∷ []) 20 10 ≈ record { num = 1; den = 20 })
+unfolding regression_below distance
+no_uniform_constant e = let n = e.cross in omega arith
+
+-- Demand 3, of steps over 5:1.
+
+-- a left edge that may fall while the right one does not: from 5 to 15 to 4 to 16
+pub no_left_edge_back : ¬ NotBelow (Some (record { point = 10; bandwidth = 5 })) (record { point = 10; bandwidth = 6 })
+no_left_edge_back p = omega (arith, p.0)
+
+-- a refused step taken for the last accepted one; of a step its mark is seen
+abbrev point_seen : Option Move → ℕ
+point_seen None = 0
+point_seen (Some m) = m.point
+
+pub no_refused_step_accepted :
+    ¬ (last_accepted (5 ∷ []) (1 ∷ []) (record { point = 5; bandwidth = 4 } ∷ record { point = 9; bandwidth = 0 } ∷ [])
+    ≡ Some (record { point = 9; bandwidth = 0 }))
+no_refused_step_accepted e = let n : ◌≡◌ {A = ℕ} 5 9 = ap point_seen e in omega arith
+
+-- Numbers of reports and of answers.
+
+-- "no marks" for "crowded"
+pub no_reports_exchanged : ¬ (number TooMany ≡ 7)
+no_reports_exchanged e = let n : ◌≡◌ {A = ℕ} 6 7 = e in omega arith
+
+-- reports counted from 0
+pub no_report_numbered_0 : ¬ (number TooLong ≡ 0)
+no_report_numbered_0 e = let n : ◌≡◌ {A = ℕ} 1 0 = e in omega arith
+
+-- 255 as the number of an accepted call
+pub no_accepted_call_as_255 : ¬ (answered {A = Unit} no_detail (given tt) ≡ 255)
+no_accepted_call_as_255 e = let n : ◌≡◌ {A = ℕ} 0 255 = e in omega arith
+
+-- the number in units, and the place as the rest
+pub no_place_below_the_unit : ¬ (code (record { number = 10; place = 16 }) ≡ 256 * 10 + 16)
+no_place_below_the_unit e = let n : ◌≡◌ {A = ℕ} 4106 2576 = e in omega arith
+
+-- a unit that reports reach: 14 at 0 told as 1 at 1
+pub no_unit_of_13 : ¬ (answer_of (code (record { number = 14; place = 0 })) ≡ refused (record { number = 1; place = 1 }))
+unfolding answer_number
+no_unit_of_13 e = let n : ◌≡◌ {A = ℕ} 14 1 = ap answer_number e in omega arith

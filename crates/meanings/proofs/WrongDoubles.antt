@@ -110,6 +110,14 @@ cut_to_five = refl
 pub no_fraction_had_back : (n : ℕ) → ¬ HadBack (one five_and_a_half) n
 no_fraction_had_back n v = let e = v.1 in omega arith
 
+-- the low part left out: 2^53 for 2^53 and 1
+pub no_low_part_left_out : ¬ HadBack (pair two_to_the_53 unit) (2 ^ 53)
+no_low_part_left_out p =
+    let high = p.2.0.1 in
+    let low = p.2.1.1 in
+    let both = p.2.2 in
+    omega arith
+
 -- a sum above 0 without weight, which no row of a window has, cannot be had back
 pub lost_without_weight : ¬ HadBack (handed 0 9) 9
 unfolding handed

@@ -6,3 +6,4 @@ pub mod RangeCalls
 pub mod RangeOutput
 pub mod Cases
 pub mod SheetCases
+pub mod ReaderCases

@@ -1,4 +1,6 @@
+pub mod ConditionsCases
 pub mod Crossing
+pub mod DefinitionsCases
 pub mod Demand1
 pub mod Demand2
 pub mod Demand3
@@ -12,6 +14,7 @@ pub mod Program
 pub mod RecordRows
 pub mod Rows
 pub mod Runs
+pub mod WrongPromises
 pub mod conditions
 pub mod neighbours
 pub mod biweight

@@ -20,7 +20,7 @@ use Rattle.meanings.proofs.Checks.{same_limits}
 use Rattle.meanings.proofs.Search.{NoneBelow, one_more_below, none_lowest, lowest_at}
 use Rattle.meanings.proofs.SmoothSteps.{CurveAccepted, curve_accepts, running_at, passes_are_edges}
 use Rattle.meanings.specs.limit.Threshold.{at_or_below, low_enough}
-use Rattle.meanings.specs.limit.Crossing.{low_at, crossing_refusal}
+use Rattle.meanings.specs.limit.Crossing.{low_at}
 use Rattle.meanings.proofs.LimitPasses.{passes_to_point}
 use Rattle.regression.specs.declared.step.Reached.{Reached as Step}
 use Rattle.regression.specs.StepSteps.{SteppedRow}
@@ -78,11 +78,11 @@ module _ {ts vs zs hs : List ℕ} {limit k : ℕ} {r : RunningSums} (w : NoneLow
       none_low = one_more_below (low_at ts vs zs hs limit) k w.none_low (sym (tested t) ∙ e);
     }
 
--- the call, by what its checks found
-module _ (ts vs zs hs : List ℕ) {L : Limits} {v : Result Unit Refusal} (l : L ≡ full)
-    (f : verdict_fault v ≡ first_of (curve_checks L ts vs zs hs false)) where
-  found : {w : Result Unit Refusal} → v ≡ w → crossing_refusal full ts vs zs hs ≡ verdict_fault w
-  found q = sym (ap verdict_fault (sym q) ∙ f ∙ ap (λ (M : Limits). crossing_refusal M ts vs zs hs) l)
+-- the call, by what its checks found, whether or not one more list fits
+module _ (ts vs zs hs : List ℕ) (more : Bool) {L : Limits} {v : Result Unit Refusal} (l : L ≡ full)
+    (f : verdict_fault v ≡ first_of (curve_checks L ts vs zs hs more)) where
+  found : {w : Result Unit Refusal} → v ≡ w → first_of (curve_checks full ts vs zs hs more) ≡ verdict_fault w
+  found q = sym (ap verdict_fault (sym q) ∙ f ∙ ap (λ (M : Limits). first_of (curve_checks M ts vs zs hs more)) l)
 
   pub lists_accepted : {unit : Unit {0}} → v ≡ Ok unit → CurveAccepted ts vs zs hs
-  lists_accepted q = curve_accepts full (same_limits full) ts vs zs hs false (found q)
+  lists_accepted q = curve_accepts full (same_limits full) ts vs zs hs more (found q)

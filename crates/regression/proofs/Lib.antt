@@ -11,6 +11,7 @@ pub mod Settles
 pub mod Travels
 pub mod Windows
 pub mod WrongTurns
+pub mod Cases
 pub mod Fills
 pub mod RangesPassing
 pub mod RangesSweeping

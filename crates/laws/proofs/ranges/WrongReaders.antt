@@ -1,7 +1,7 @@
 -- Wrong readers and rows of another shape than the code, each shut out on a concrete input: what it would answer, or leave in a lent list, is not what
 -- the meaning says.
 use Prim.Native.Nat.{ℕ, ◌+◌, ◌/◌}
-use mathlib.Core.Path.{◌≡◌, ap}
+use mathlib.Core.Path.{◌≡◌, refl, ap}
 use mathlib.Core.List.{List, [], ◌∷◌}
 use Rattle.std.specs.Prelude.{Option, None, Some}
 use native.Mathlib.Omega.{arith}
@@ -17,6 +17,8 @@ use Rattle.meanings.specs.declared.ranges.Kind.TheVariants.{Plain, Ranges}
 use Rattle.meanings.specs.ranges.Ranges.{range_estimate}
 use Rattle.meanings.specs.ranges.RangeSheet.{sheet_front, no_readings, read_readings, second_header, range_contents, RangeContents, read_either}
 use Rattle.meanings.specs.ranges.RangeCalls.{read_ranges, range_front, minutes_of, highs_of}
+use Rattle.laws.specs.ranges.RangeForm.{EitherRefused}
+use Rattle.laws.proofs.ranges.EitherForms.{read_is_refused_form, one_report}
 
 -- the kind that the first reading line would tell
 pub kind_of_first : Lines → Kind
@@ -87,3 +89,8 @@ pub no_ranges_for_the_first_reader :
     ≡ given (record { minutes = []; values = []; points = 1 ∷ []; bandwidths = 1 ∷ [] }))
 unfolding read_sheet
 no_ranges_for_the_first_reader e = let z : ◌≡◌ {A = ℕ} 0 1 = cc in omega arith
+
+-- a torn line behind a faultless one refused at the first line's place
+pub no_place_of_the_first_line : ¬ EitherRefused full (ascii "mark,half\n1,1\n\nminute,inj,low,high\n3,3,0,5\n7,3,5\n") 3 35
+unfolding read_either sheet_front
+no_place_of_the_first_line r = let e = one_report full _ 3 35 3 43 r (read_is_refused_form full _ 3 43 refl) in omega (arith, e.1)

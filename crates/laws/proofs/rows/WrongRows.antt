@@ -3,11 +3,12 @@
 -- change places.
 use Prim.Native.Nat.{ℕ, zero, suc, ◌+◌, ◌-◌, ◌*◌, ◌%◌, ◌≤◌, ◌<◌}
 use mathlib.Core.Path.{◌≡◌, refl, sym, ap, ◌∙◌}
+use mathlib.Core.Logic.{◌↔◌}
 use mathlib.Core.Bool.{◌||◌}
 use mathlib.Core.List.{List, [], ◌∷◌}
 use native.Mathlib.Omega.{arith}
 use lib.Dec.{eqb}
-use lib.ListN.{get_or}
+use lib.ListN.{length, get_or}
 use Rattle.meanings.specs.declared.Estimate.{Estimate}
 use Rattle.meanings.specs.Lists.{pick, distance, Ordered}
 use Rattle.meanings.specs.Reports.{differ}
@@ -99,6 +100,11 @@ pub edge_row_among : Among edge_minutes edge_values 20 10 (estimate edge_minutes
 edge_row_among =
     estimate_among edge_minutes edge_values 20 10 (no_decrease_ordered edge_minutes refl)
     (λ q. let e : 60 ≡ 65536 = ap (λ (x : Estimate). x.value) (sym edge_row) ∙ q in omega arith)
+
+-- so that reading weighs nothing, though its distance is the half width
+pub no_weight_on_the_edge : ¬ ((ts : List ℕ) (z h i : ℕ) → Weighs (weight_at ts z h) (length ts) i ↔ ((i < length ts) × (distance (get_or ts i 0) z ≤ h)))
+unfolding kernel distance
+no_weight_on_the_edge f = let p = ((f edge_minutes 20 10 0).1 (omega arith, omega arith)).above_zero in omega arith
 
 pub no_value_one_too_high : ¬ StaysAmong one_too_high
 unfolding left_of right_of kernel distance weight_of sum_of rounded

@@ -12,7 +12,7 @@ pub returns : goal.returns
 returns c = search nowhere
 
 pub overflow_add-result : goal.overflow_add-result
-overflow_add-result c = search next_passes_fit
+overflow_add-result c = search (next_passes_fit, passes_fit)
 
 pub overflow_add-result-2 : goal.overflow_add-result-2
 overflow_add-result-2 c = search passes_fit
