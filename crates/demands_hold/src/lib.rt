@@ -1,3 +1,3 @@
-// That the three demands of crates/promises hold: the theorem, in proofs/Demands.antt. It takes the proof of each call that it says of that it ends, so that an
-// edit of a demand does without them. No code.
+// The theorem, in proofs/Demands.antt: all promises of crates/promises hold, and every call takes every input and ends. It takes from each function its
+// proof that it does. No code.
 #![tactic(auto)]

@@ -37,8 +37,6 @@ use Rattle.meanings.proofs.Values.{values_behind_do_not_count}
 use Rattle.exports.specs.Answers.{sized, stored}
 use Rattle.exports.specs.Positions.{no_position, position_numbers, position_of}
 use Rattle.exports.proofs.Answered.{right_size}
-use Rattle.questions.proofs.limit.first_at_most.Statement as first_at_most_code
-use Rattle.exports.proofs.limit.tankcurve_first_at_most.Statement as exported_first_at_most_code
 use Rattle.promises.specs.conditions.Conditions.{RefusedExactly, FirstFault, length_first, code_refusal}
 use Rattle.promises.specs.Crossing.{ExportedFirstAtMost, crossing_conditions, LowEnough, FirstLow, Crossings}
 use Rattle.promises.proofs.conditions.CallChecks.{curve_finds, always_fits}
@@ -176,12 +174,8 @@ told ts vs zs hs limit xs c xs' k r =
       position = ap (λ (x : List ℕ). position_of (get_or x 0 0)) list ∙ read_back ts vs zs hs limit l q l.position o;
     }
 
-pub crossings : ((M : Type 1) → first_at_most_code.statement M) → ((M : Type 1) → exported_first_at_most_code.statement M) → Crossings
-crossings first_at_most_ends exported_ends = record {
-  first_at_most_ends = first_at_most_ends _;
-  first_at_most_asks_nothing = λ κs a. tt;
-  exported_ends = exported_ends _;
-  exported_asks_nothing = λ κs a. tt;
+pub crossings : Crossings
+crossings = record {
   refused = λ ts vs zs hs limit a c. exactly ts vs zs hs limit (answer_of a) c.ensured;
   reached = λ ts vs zs hs limit k n minutes values c.
       let o = opened ts vs zs hs limit (record { position = Some k; passes = n }) (sym c.ensured) in

@@ -4,13 +4,13 @@ pub mod DefinitionsCases
 pub mod Demand1
 pub mod Demand2
 pub mod Demand3
-pub mod Demands
 pub mod EitherSheets
 pub mod EveryCurve
 pub mod LineEndings
 pub mod OtherCalls
 pub mod Preview
 pub mod Program
+pub mod Promises
 pub mod RecordRows
 pub mod Rows
 pub mod Runs

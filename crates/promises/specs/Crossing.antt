@@ -71,12 +71,14 @@ abbrev pub NoneLow : List ℕ → List ℕ → List ℕ → List ℕ → ℕ →
 NoneLow ts vs zs hs limit =
     (j : ℕ) → j < length zs → (e : Estimate) → PublishedRow ts vs (get_or zs j 0) (get_or hs j 0) e → ¬ LowEnough limit e
 
-pub record Crossings : Type 2 where
-  -- every input is taken, each call ends, and nothing is left for the caller to check
+-- every input is taken, each call ends, and nothing is left for the caller to check
+pub record EveryCrossingTaken : Type 2 where
   pub first_at_most_ends : {M : Type 1} → first_at_most_code.statement M
   pub first_at_most_asks_nothing : (κs : Lfts 2) (a : Dens κs first_at_most_kinds.ps) → first_at_most.Asked κs a
   pub exported_ends : {M : Type 1} → exported_first_at_most_code.statement M
   pub exported_asks_nothing : (κs : Lfts 5) (a : Dens κs exported_first_at_most_kinds.ps) → exported_first_at_most.Asked κs a
+
+pub record Crossings : Type 0 where
   -- unfit lists are refused before any answer, under the listed conditions only
   pub refused : (ts vs zs hs : List ℕ) (limit : ℕ) (a : Result Located Refusal) → FirstAtMostCall ts vs zs hs limit a
       → RefusedExactly (refusal (answer_of a)) (FirstFault (crossing_conditions ts vs zs hs))

@@ -1,5 +1,6 @@
 -- What is promised: the three demands of docs/SPECIFICATION.md, "The three demands", about the program's bytes and about the calls that a
--- program makes. The theorem is `demands` of crates/demands_hold/proofs/Demands.antt.
+-- program makes. Promises.antt has all promises, these and those of later requests; the theorem is `demands` of
+-- crates/demands_hold/proofs/Demands.antt.
 -- A call is known by its contract alone: Calls.antt. When a call is refused stands in conditions/Conditions.antt, for a sheet in
 -- crates/meanings/specs/SheetForm.antt, for one of either kind in RangeForm.antt of crates/laws; what a published row is in PublishedRow.antt of the
 -- meanings, the step in Running.antt, the event log and the claim about a list of steps in EventLog.antt and Claim.antt, the texts in Output.antt and in
@@ -30,10 +31,7 @@ use Rattle.meanings.specs.SheetForm.{IsSheet, Refused}
 use Rattle.meanings.specs.Output.{curve_text, refusal_text, program}
 use Rattle.meanings.specs.ranges.RangeSheet.{RangeContents}
 use Rattle.meanings.specs.ranges.RangeOutput.{range_curve_text, contents_text, either_program}
-use Rattle.meanings.specs.ranges.SheetCases.{ProgramCase, program_result, program_text, program_cases}
 use Rattle.laws.specs.ranges.RangeForm.{NamesRanges, IsRangeSheet, EitherSheet, EitherRefused}
-use Rattle.meanings.specs.Cases.{AllHold}
-use Rattle.meanings.specs.Document.{document_cases}
 use Rattle.laws.specs.rows.AmongReadings.{Among}
 use Rattle.laws.specs.rows.Rearranged.{Rearranged}
 use Rattle.laws.specs.rows.TwoLimits.{Fits, Over}
@@ -41,7 +39,7 @@ use Rattle.text.specs.Table.{stored_row}
 use Rattle.meanings.specs.Codes.{detail_unit}
 use Rattle.exports.specs.Answers.{record_of, record_length}
 use Rattle.exports.specs.Version.{version}
-use Rattle.promises.specs.Calls.{Place, EveryInputTaken, EvaluateCall, WindowCall, AdvanceCall, RecordRowCall, SmoothCall, PreviewCall}
+use Rattle.promises.specs.Calls.{Place, EvaluateCall, WindowCall, AdvanceCall, RecordRowCall, SmoothCall, PreviewCall}
 use Rattle.promises.specs.Calls.{FillCall, ReadCall, TextCall, OverCall, RefusalTextCall, ExportedEvaluate, ExportedWindow}
 use Rattle.promises.specs.Calls.{ExportedAdvance, ExportedRecordRow, ExportedSmooth, ExportedPreview, ExportedFill, ExportedRead, ExportedText}
 use Rattle.promises.specs.Calls.{ExportedRefusalText, ExportedVersion}
@@ -49,9 +47,6 @@ pub use Rattle.promises.specs.conditions.Conditions.{RefusedAndStays}
 use Rattle.promises.specs.conditions.Conditions.{RefusedExactly, NoFault, FirstFault, FirstOrElse, evaluate_conditions, advance_conditions}
 use Rattle.promises.specs.conditions.Conditions.{smooth_conditions, fill_conditions, read_conditions, buffer_conditions, length_first}
 use Rattle.promises.specs.conditions.Conditions.{record_row_conditions, code_refusal}
-use Rattle.promises.specs.Crossing.{Crossings}
-use Rattle.promises.specs.Runs.{EveryRunEnds, ProgramRuns}
-use Rattle.promises.specs.LineEndings.{LineEndings}
 
 -- how many readings the event log of these steps, empty at first, inserts and evicts
 abbrev pub log_passes : List ℕ → List ℕ → List Move → ℕ
@@ -126,14 +121,10 @@ pub record ProgramHolds (s : List ℕ) : Type 0 where
 -- ---------------------------------------------------------------------------------------------------------------------------------------
 -- Demand 1
 
-pub record Demand1 : Type 2 where
-  -- every input is taken, each call ends, and nothing is left for the caller to check
-  pub every_input : EveryInputTaken
+-- that each call takes every input and ends, and what a run does of any reader and writer: EveryCallTaken of Promises.antt
+pub record Demand1 : Type 0 where
   -- the program: what it writes for the bytes s
   pub program_holds : (s : List ℕ) → ProgramHolds s
-  -- that it ends on every reader and writer, and from what a reader has to what a writer gains
-  pub every_run_ends : EveryRunEnds
-  pub program_runs : ProgramRuns
   -- the question at one mark
   pub evaluate_refused : (ts vs : List ℕ) (z h : ℕ) (a : Result Estimate Refusal) → EvaluateCall ts vs z h a
       → RefusedExactly (refusal (answer_of a)) (FirstFault (evaluate_conditions ts vs h))
@@ -480,19 +471,3 @@ pub record EveryCurve : Type 0 where
       → ExportedSmooth ts vs' zs hs rs d rs₂ → (c ≡ d) × (rs₁ ≡ rs₂)
   pub exported_preview_alike : (ts vs vs' zs hs rs : List ℕ) (c d : ℕ) (rs₁ rs₂ : List ℕ) → Rearranged ts vs vs'
       → ExportedPreview ts vs zs hs rs c rs₁ → ExportedPreview ts vs' zs hs rs d rs₂ → (c ≡ d) × (rs₁ ≡ rs₂)
-
--- ---------------------------------------------------------------------------------------------------------------------------------------
--- All of it, what holds of line endings (LineEndings.antt), and the worked cases of SPECIFICATION 7.6, 7.9 and 7.10
-pub record Demands : Type 2 where
-  pub demand_1 : Demand1
-  pub demand_2 : Demand2
-  pub demand_3 : Demand3
-  pub other_calls : OtherCalls
-  -- the first mark at or below a limit
-  pub crossings : Crossings
-  pub line_endings : LineEndings
-  pub preview_holds : Preview
-  pub every_curve : EveryCurve
-  pub worked_cases : AllHold document_cases
-  -- what the program writes for sheets of both kinds, accepted and refused, and for the empty input: SPECIFICATION 7.9, 18.14
-  pub printed_cases : map (λ (c : ProgramCase). program_result c) program_cases ≡ map (λ (c : ProgramCase). program_text c) program_cases

@@ -2,7 +2,9 @@ pub mod Calls
 pub mod Crossing
 pub mod Demands
 pub mod LineEndings
+pub mod Promises
 pub mod Runs
+pub mod Worked
 pub mod conditions
 pub mod neighbours
 pub mod biweight

@@ -43,7 +43,7 @@ use Rattle.promises.proofs.conditions.Refusals.{decided_exactly, length_first_fi
 use Rattle.promises.proofs.conditions.Refusals.{first_numbered}
 use Rattle.promises.proofs.conditions.Refusals.{accepted_given, sized_opens}
 use Rattle.promises.proofs.Rows.{five_are_row}
-use Rattle.promises.specs.biweight.Biweights.{ExportedBiweight, biweight_conditions, Fits, Biweights}
+use Rattle.promises.specs.biweight.Biweights.{ExportedBiweight, biweight_conditions, Fits, EveryBiweightTaken, Biweights}
 
 finds : (ts vs : List ℕ) → FindAll (series_checks full ts vs) (biweight_conditions ts vs)
 finds ts vs = series_finds full ts vs none_left
@@ -209,12 +209,16 @@ module _ (ts vs : List ℕ) (z : ℕ) where
       let open-answer = sym (right_size 2 bounds two u) ∙ g.1 in
       sym (k.ensured.1 ∙ ap (λ (t : Answer Estimate). stored bounds_of t bounds) open-answer ∙ rw (← same.0, ← same.1))
 
-pub biweights : Biweights
-biweights = record {
+pub biweight_taken : EveryBiweightTaken
+biweight_taken = record {
   biweight_ends = biweight_met.met;
   biweight_asks_nothing = λ κs a. tt;
   exported_ends = exported_met.met;
   exported_asks_nothing = λ κs a. tt;
+}
+
+pub biweights : Biweights
+biweights = record {
   refused = λ ts vs z a k. exactly ts vs z (answer_of a) k.ensured;
   refused_as_evaluate = λ ts vs z y a b k m. ap refusal k.ensured ∙ alike ts vs z y ∙ ap refusal (sym m.ensured);
   edges_of_evaluate = λ ts vs z e d k m. edges ts vs z e d k.ensured m.ensured;

@@ -24,7 +24,7 @@ use Rattle.exports.proofs.box_table.tankcurve_boxes.Met as exported_met
 use Rattle.promises.specs.conditions.Conditions.{FirstFault, RefusedExactly, code_refusal}
 use Rattle.promises.proofs.conditions.Refusals.{decided_exactly, decided_stays, exported_refusal, exported_stays, first_numbered, accepted_given}
 use Rattle.promises.specs.boxes.Filled.{TenLists, along_minutes, along_temperatures, readings, box_conditions, FilledIn}
-use Rattle.promises.specs.boxes.InBoxes.{lists_of, unordered, unordered_boxes, InBoxes}
+use Rattle.promises.specs.boxes.InBoxes.{lists_of, unordered, unordered_boxes, EveryBoxesTaken, InBoxes}
 use Rattle.promises.proofs.boxes.Accepted.{refusal_of, finds_conditions, accepts}
 use Rattle.promises.proofs.boxes.Filled.{cuts_are_edges, filled}
 
@@ -88,12 +88,16 @@ filled_answer : (a : Result Unit Refusal) → answer_of a ≡ given tt → a ≡
 filled_answer (Ok tt) e = refl
 filled_answer (Err r) e = let z : ◌≡◌ {A = ℕ} 0 1 = cc in absurd (omega arith)
 
-pub in_boxes : InBoxes
-in_boxes = record {
+pub boxes_taken : EveryBoxesTaken
+boxes_taken = record {
   ends = boxes_met.met;
   asks_nothing = λ κs a. tt;
   exported_ends = exported_met.met;
   exported_asks_nothing = λ κs a. tt;
+}
+
+pub in_boxes : InBoxes
+in_boxes = record {
   refused = λ q a bs' cs' ss' c. record {
     exactly = rw c.ensured.0 (exactly q);
     stays = λ e r.

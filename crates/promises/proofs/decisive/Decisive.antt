@@ -46,7 +46,7 @@ use Rattle.promises.proofs.RecordRows.{answered_row, exported_evaluate_gives}
 use Rattle.promises.proofs.conditions.Refusals.{decided_exactly, sized_is_checked, length_first_finds, first_numbered, exported_refusal, stored_stays}
 use Rattle.promises.proofs.conditions.Refusals.{accepted_given, sized_opens}
 use Rattle.promises.specs.decisive.Decisive.{ExportedDecisive, Without, Changes, Stays, WithPublished, BeforeAnswer}
-use Rattle.promises.specs.decisive.Decisive.{BothRows, BothLists, LessItsShare, SameSums, DecisiveReadings}
+use Rattle.promises.specs.decisive.Decisive.{BothRows, BothLists, LessItsShare, SameSums, EveryDecisiveTaken, DecisiveReadings}
 
 -- what two tests say together
 changes_by : (limit : ℕ) (e e' : Estimate) → differs (low_enough limit e') (low_enough limit e) ≡ true → Changes limit e e'
@@ -307,12 +307,16 @@ module _ (ts vs : List ℕ) (z h limit : ℕ) where
         back = ap (λ (x : List ℕ). position_of (get_or x 0 0)) list ∙ read_back g.0 q;
       }
 
-pub decisive_readings : DecisiveReadings
-decisive_readings = record {
+pub decisive_taken : EveryDecisiveTaken
+decisive_taken = record {
   decisive_ends = decisive_met.met;
   decisive_asks_nothing = λ κs a. tt;
   exported_ends = exported_met.met;
   exported_asks_nothing = λ κs a. tt;
+}
+
+pub decisive_readings : DecisiveReadings
+decisive_readings = record {
   refused = λ ts vs z h limit a c. exactly ts vs z h limit (answer_of a) c.ensured;
   refused_alike = λ ts vs z h limit a b c d. ap refusal c.ensured ∙ alike ts vs z h limit ∙ sym (ap refusal d.ensured);
   named = λ ts vs z h limit i v c.

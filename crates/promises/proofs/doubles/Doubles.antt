@@ -51,7 +51,7 @@ use Rattle.promises.proofs.Rows.{five_are_row}
 use Rattle.promises.specs.turn.Turns.{TurnCall, ExportedTurn, ExportedMotions}
 use Rattle.promises.proofs.turn.Turns.{numbers_turn, turns_hold}
 use Rattle.promises.specs.doubles.Doubles.{RowCellsCall, ExportedDoubles, ExportedRow, doubles_conditions, doubles_of_answer}
-use Rattle.promises.specs.doubles.Doubles.{RowHadBack, ExportedHadBack, HoldsWindow, DoublesHold}
+use Rattle.promises.specs.doubles.Doubles.{RowHadBack, ExportedHadBack, HoldsWindow, EveryDoublesTaken, DoublesHold}
 use Rattle.promises.proofs.doubles.Rows.{foreign_tellable, evaluated_tellable, swept_tellable, record_tellable, steps_hold, turn_holds}
 use Rattle.promises.proofs.doubles.Rows.{behind_holds, behind_tellable}
 
@@ -180,14 +180,18 @@ numbers_behind ts vs xs xs' xs'' ms m a ns s k q w =
       led = l.1 ∙ ap (λ (x : RunningSums). after ts vs x ns) n.turns_record;
     }
 
-pub doubles_hold : DoublesHold
-doubles_hold = record {
+pub doubles_taken : EveryDoublesTaken
+doubles_taken = record {
   number_cell_ends = number_cell_met.met;
   number_cell_asks_nothing = λ κs a. tt;
   row_cells_ends = row_cells_met.met;
   row_cells_asks_nothing = λ κs a. tt;
   exported_doubles_ends = exported_doubles_met.met;
   exported_doubles_asks_nothing = λ κs a. tt;
+}
+
+pub doubles_hold : DoublesHold
+doubles_hold = record {
   number_handed_over = λ w n c l k. subst (HandedOver w n) (sym k.ensured) (handed_over w n l);
   nothing_else = λ w n c d l k o. handed_only w n l d o ∙ sym k.ensured;
   row_handed_over = λ e c l m k. (

@@ -44,7 +44,7 @@ use Rattle.promises.proofs.conditions.CallChecks.{Decides, none_left, curve_size
 use Rattle.promises.proofs.conditions.FirstFaults.{Finds, FindAll, at_finds, none_or_first, refused_exactly}
 use Rattle.promises.proofs.conditions.Refusals.{decided_exactly, decided_stays, exported_refusal, exported_stays, first_numbered, accepted_given, code_reads}
 use Rattle.promises.proofs.Rows.{five_are_row}
-use Rattle.promises.specs.neighbours.ByNeighbours.{list_conditions, neighbours_conditions, FilledIn, ByNeighbours}
+use Rattle.promises.specs.neighbours.ByNeighbours.{list_conditions, neighbours_conditions, FilledIn, EveryNeighboursTaken, ByNeighbours}
 
 -- ---- what the checks find
 module _ (ts vs zs hs : List ℕ) (n : ℕ) where
@@ -254,12 +254,16 @@ module _ (ts vs zs : List ℕ) (k : ℕ) (hs rs : List ℕ) where
       exported_sweep_same = same_exported_sweep;
     }
 
-pub by_neighbours : ByNeighbours
-by_neighbours = record {
+pub neighbours_taken : EveryNeighboursTaken
+neighbours_taken = record {
   ends = neighbours_met.met;
   asks_nothing = λ κs a. tt;
   exported_ends = exported_met.met;
   exported_asks_nothing = λ κs a. tt;
+}
+
+pub by_neighbours : ByNeighbours
+by_neighbours = record {
   refused = λ ts vs zs k hs rs a hs' rs' c. record {
     exactly = rw c.ensured.0 (exactly ts vs zs k hs rs);
     stays = λ e q. stay ts vs zs k hs rs hs' rs' c.ensured.1.0 c.ensured.1.1 e (ap refusal (sym c.ensured.0) ∙ q);

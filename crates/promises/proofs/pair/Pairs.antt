@@ -37,7 +37,7 @@ use Rattle.promises.specs.conditions.Conditions.{no_more, FirstFault, RefusedExa
 use Rattle.promises.proofs.conditions.CallChecks.{Decides, series_finds, curve_size_finds, order_finds, bandwidth_list_finds, edge_finds}
 use Rattle.promises.proofs.conditions.FirstFaults.{Finds, FindAll, first_found, none_found, one_first, none_or_first}
 use Rattle.promises.proofs.conditions.Refusals.{decided_exactly, length_first_finds, sized_is_checked, exported_refusal, exported_stays, first_numbered}
-use Rattle.promises.specs.pair.Pairs.{CompareRunCall, SecondEarns, compare_conditions, EmptyAtFirst, RunOfTank, Pairs}
+use Rattle.promises.specs.pair.Pairs.{CompareRunCall, SecondEarns, compare_conditions, EmptyAtFirst, RunOfTank, EveryPairTaken, Pairs}
 
 -- ---- the checks find the conditions
 no_checks : FindAll [] no_more
@@ -170,16 +170,18 @@ module _ (ts vs zs hs rs : List ℕ) (n : ℕ) (rs' : List ℕ) (c : SmoothCall 
   unfolding smooth_rows
   sweep_rows = c.ensured.1 ∙ ap (λ (f : Option Fault). accepted_or f (rows ts vs zs hs (length zs)) rs) sweep_accepted
 
+pub pair_taken : EveryPairTaken
+pair_taken = record {
+  compare_ends = compare_met.met;
+  compare_asks_nothing = λ κs a. tt;
+  compare_run_ends = compare_run_met.met;
+  compare_run_asks_nothing = λ κs a. tt;
+  exported_compare_ends = exported_compare_met.met;
+  exported_compare_asks_nothing = λ κs a. tt;
+}
+
 pub pairs_hold : Pairs
 pairs_hold = record {
-  every_pair = record {
-    compare_ends = compare_met.met;
-    compare_asks_nothing = λ κs a. tt;
-    compare_run_ends = compare_run_met.met;
-    compare_run_asks_nothing = λ κs a. tt;
-    exported_compare_ends = exported_compare_met.met;
-    exported_compare_asks_nothing = λ κs a. tt;
-  };
   compare_refused = λ ts vs us ws zs hs a c. rw c.ensured (meant_exactly ts vs us ws zs hs);
   exported_compare_refused = λ ts vs us ws zs hs out c out' k.
       let t = sized 3 out (compare_bounds full ts vs us ws zs hs) in

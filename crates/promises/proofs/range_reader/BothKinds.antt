@@ -61,7 +61,7 @@ use Rattle.promises.specs.ranges.OverRanges.{RangesCall, stored_range_row, twice
 use Rattle.promises.proofs.ranges.OverRanges.{over_ranges, coded}
 use Rattle.promises.specs.range_reader.BothKinds.{ReadRangesCall, Roomy, read_range_conditions, FilledIn, plain_counts, ReadAlike, RefusedThere}
 use Rattle.promises.specs.range_reader.BothKinds.{ExportedReadRanges, ReadAsPlain}
-use Rattle.promises.specs.range_reader.BothKinds.{BothKinds}
+use Rattle.promises.specs.range_reader.BothKinds.{EveryReaderTaken, BothKinds}
 
 -- ---- the five lists
 module _ (ts ls us zs hs : List ℕ) where
@@ -467,12 +467,16 @@ counted : (c : RangeContents) (n m k : ℕ) → n ∷ m ∷ k ∷ [] ≡ length 
     → (n ≡ length c.minutes) × (m ≡ length c.points)
 counted c n m k e = (ap (λ (xs : List ℕ). get_or xs 0 0) e, ap (λ (xs : List ℕ). get_or xs 1 0) e)
 
-pub both_kinds : BothKinds
-both_kinds = record {
+pub reader_taken : EveryReaderTaken
+reader_taken = record {
   ends = read_met.met;
   asks_nothing = λ κs a. tt;
   exported_ends = exported_met.met;
   exported_asks_nothing = λ κs a. tt;
+}
+
+pub both_kinds : BothKinds
+both_kinds = record {
   refused = λ s ts ls us zs hs a ts' ls' us' zs' hs' x.
       let o = calls.read_ranges full s ts ls us zs hs in
       let same : refusal (answer_of a) ≡ refusal o = ap refusal x.ensured.0 ∙ counts_refused o in

@@ -53,7 +53,7 @@ use Rattle.promises.proofs.conditions.FirstFaults.{Finds, FindAll, lowest_finds}
 use Rattle.promises.proofs.conditions.Refusals.{decided_exactly, decided_stays, exported_refusal, exported_stays, first_numbered, accepted_given}
 use Rattle.promises.proofs.Rows.{five_are_row}
 use Rattle.promises.specs.ranges.OverRanges.{CrossedAt, range_conditions, low_row, high_row, twice, RowsWithin, SweptRanges}
-use Rattle.promises.specs.ranges.OverRanges.{OverRanges}
+use Rattle.promises.specs.ranges.OverRanges.{EveryRangesTaken, OverRanges}
 
 -- ---- what the checks find
 module _ (ts ls us zs hs : List ℕ) (n : ℕ) where
@@ -328,12 +328,16 @@ accepted_one : refusal
 unfolding smooth_ranges
 accepted_one = refl
 
-pub over_ranges : OverRanges
-over_ranges = record {
+pub ranges_taken : EveryRangesTaken
+ranges_taken = record {
   ends = ranges_met.met;
   asks_nothing = λ κs a. tt;
   exported_ends = exported_met.met;
   exported_asks_nothing = λ κs a. tt;
+}
+
+pub over_ranges : OverRanges
+over_ranges = record {
   refused = λ ts ls us zs hs rs a rs' c. record {
     exactly = rw c.ensured.0 (exactly ts ls us zs hs rs);
     stays = λ e q. stays ts ls us zs hs rs rs' c.ensured.1 e (ap refusal (sym c.ensured.0) ∙ q);

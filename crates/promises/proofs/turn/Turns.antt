@@ -43,7 +43,7 @@ use Rattle.promises.proofs.conditions.Refusals.{decided_exactly, length_first_fi
 use Rattle.promises.proofs.conditions.Refusals.{first_numbered}
 use Rattle.promises.proofs.conditions.Refusals.{accepted_given}
 use Rattle.promises.specs.turn.Turns as turns
-use Rattle.promises.specs.turn.Turns.{TurnCall, ExportedTurn, turn_conditions, Motions, LentMotions, ExportedMotions, Turns}
+use Rattle.promises.specs.turn.Turns.{TurnCall, ExportedTurn, turn_conditions, Motions, LentMotions, ExportedMotions, EveryTurnTaken, Turns}
 
 -- ---- the calls leave what the meanings leave
 module _ (ts vs : List ℕ) where
@@ -174,16 +174,18 @@ code_by_report (refused e) = refl
 same_code : (t u : Answer RunningSums) (c d : ℕ) → refusal t ≡ refusal u → c ≡ answered no_detail t → d ≡ answered no_detail u → c ≡ d
 same_code t u c d q a b = a ∙ code_by_report t ∙ ap code_of q ∙ sym (code_by_report u) ∙ sym b
 
+pub turn_taken : EveryTurnTaken
+turn_taken = record {
+  lent_turn_ends = lent_turn_met.met;
+  lent_turn_asks_nothing = λ κs a. tt;
+  turn_own_ends = turn_own_met.met;
+  turn_own_asks_nothing = λ κs a. tt;
+  exported_turn_ends = exported_turn_met.met;
+  exported_turn_asks_nothing = λ κs a. tt;
+}
+
 pub turns_hold : Turns
 turns_hold = record {
-  every_turn = record {
-    lent_turn_ends = lent_turn_met.met;
-    lent_turn_asks_nothing = λ κs a. tt;
-    turn_own_ends = turn_own_met.met;
-    turn_own_asks_nothing = λ κs a. tt;
-    exported_turn_ends = exported_turn_met.met;
-    exported_turn_asks_nothing = λ κs a. tt;
-  };
   lent_turn_alike = λ r ts vs z h a r' t c d. (c.ensured.0 ∙ sym d.ensured.0, c.ensured.1 ∙ sym d.ensured.1);
   turn_refused = λ r ts vs z h t c. refused_or_stays r ts vs z h (verdict_fault t.verdict) t.running c.ensured.0 c.ensured.1;
   lent_turn_refused = λ r ts vs z h a r' c. refused_or_stays r ts vs z h (verdict_fault a) r' c.ensured.0 c.ensured.1;

@@ -63,12 +63,14 @@ pub record RunOf (vs : List ℕ) (values_at : Place) (e : Estimate) (part : Bor 
   pub block : part.ref_ptr.0 ≡ values_at.ref_ptr.0
   pub begins : part.ref_ptr.1 ≡ values_at.ref_ptr.1 + e.left * 2
 
-pub record Biweights : Type 2 where
-  -- every input is taken, each call ends, and nothing is left for the caller to check
+-- every input is taken, each call ends, and nothing is left for the caller to check
+pub record EveryBiweightTaken : Type 2 where
   pub biweight_ends : {M : Type 1} → biweight_code.statement M
   pub biweight_asks_nothing : (κs : Lfts 1) (a : Dens κs biweight_kinds.ps) → biweight.Asked κs a
   pub exported_ends : {M : Type 1} → exported_biweight_code.statement M
   pub exported_asks_nothing : (κs : Lfts 3) (a : Dens κs exported_biweight_kinds.ps) → exported_biweight.Asked κs a
+
+pub record Biweights : Type 0 where
   -- refused exactly for the first report whose condition holds
   pub refused : (ts vs : List ℕ) (z : ℕ) (a : Result Estimate Refusal) → BiweightCall ts vs z a
       → RefusedExactly (refusal (answer_of a)) (FirstFault (biweight_conditions ts vs))

@@ -139,12 +139,14 @@ unordered = record {
 abbrev pub unordered_boxes : List ℕ
 unordered_boxes = 0 ∷ 0 ∷ 1 ∷ 5 ∷ 1 ∷ 9 ∷ 2 ∷ 14 ∷ []
 
-pub record InBoxes : Type 2 where
-  -- every input is taken, each call ends, and nothing is left for the caller to check
+-- every input is taken, each call ends, and nothing is left for the caller to check
+pub record EveryBoxesTaken : Type 2 where
   pub ends : {M : Type 1} → boxes_code.statement M
   pub asks_nothing : (κs : Lfts 4) (a : Dens κs boxes_kinds.ps) → boxes.Asked κs a
   pub exported_ends : {M : Type 1} → exported_boxes_code.statement M
   pub exported_asks_nothing : (κs : Lfts 10) (a : Dens κs exported_boxes_kinds.ps) → exported_boxes.Asked κs a
+
+pub record InBoxes : Type 0 where
   -- refused exactly for the first report whose condition holds, at its lowest place; then all three lists stay
   pub refused : (q : TenLists) (a : Result Unit Refusal) (bs' cs' ss' : List ℕ) → BoxesCall q a bs' cs' ss'
       → RefusedAndStays (refusal (answer_of a)) (FirstFault (box_conditions q)) ((bs' ≡ q.boxes) × (cs' ≡ q.counts) × (ss' ≡ q.sums))

@@ -110,12 +110,14 @@ pub record SameSums (e e' : Estimate) : Type 0 where
   pub sum_is : e'.sum ≡ e.sum
   pub value_is : e'.value ≡ e.value
 
-pub record DecisiveReadings : Type 2 where
-  -- every input is taken, each call ends, and nothing is left for the caller to check
+-- every input is taken, each call ends, and nothing is left for the caller to check
+pub record EveryDecisiveTaken : Type 2 where
   pub decisive_ends : {M : Type 1} → decisive_sample_code.statement M
   pub decisive_asks_nothing : (κs : Lfts 1) (a : Dens κs decisive_sample_kinds.ps) → decisive_sample.Asked κs a
   pub exported_ends : {M : Type 1} → exported_decisive_code.statement M
   pub exported_asks_nothing : (κs : Lfts 3) (a : Dens κs exported_decisive_kinds.ps) → exported_decisive.Asked κs a
+
+pub record DecisiveReadings : Type 0 where
   -- refused under the conditions of the question at one mark, and as it is
   pub refused : (ts vs : List ℕ) (z h limit : ℕ) (a : Result (Option ℕ) Refusal) → DecisiveCall ts vs z h limit a
       → RefusedExactly (refusal (answer_of a)) (FirstFault (evaluate_conditions ts vs h))

@@ -96,14 +96,16 @@ pub record HoldsWindow (ts : List ℕ) (z h : ℕ) (r : RunningSums) : Type 0 wh
   pub left_is : r.left ≡ left_of ts z h
   pub right_is : r.right ≡ right_of ts z h
 
-pub record DoublesHold : Type 2 where
-  -- every input is taken, each call ends, and nothing is left for the caller to check
+-- every input is taken, each call ends, and nothing is left for the caller to check
+pub record EveryDoublesTaken : Type 2 where
   pub number_cell_ends : {M : Type 1} → number_cell_code.statement M
   pub number_cell_asks_nothing : (κs : Lfts 0) (a : Dens κs number_cell_kinds.ps) → number_cell.Asked κs a
   pub row_cells_ends : {M : Type 1} → row_cells_code.statement M
   pub row_cells_asks_nothing : (κs : Lfts 0) (a : Dens κs row_cells_kinds.ps) → row_cells.Asked κs a
   pub exported_doubles_ends : {M : Type 1} → exported_doubles_code.statement M
   pub exported_doubles_asks_nothing : (κs : Lfts 1) (a : Dens κs exported_doubles_kinds.ps) → exported_doubles.Asked κs a
+
+pub record DoublesHold : Type 0 where
   -- each double handed over is exact, of every number of 64 bits: nothing without weight, one below 2^53, two parts from there on; and this
   -- decides what is handed over
   pub number_handed_over : (w n : ℕ) (c : Cell) → n < 2 ^ 64 → NumberCellCall w n c → HandedOver w n (cell_doubles c)

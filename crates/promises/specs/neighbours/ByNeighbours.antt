@@ -84,12 +84,14 @@ pub record FilledIn (ts vs zs : List ℕ) (k : ℕ) (hs' rs' : List ℕ) : Type 
   pub exported_sweep_same : (rs : List ℕ) (c : ℕ) (rs'' : List ℕ) → length rs ≡ row_width * length zs → ExportedSmooth ts vs zs hs' rs c rs''
       → (code_refusal c ≡ None) × (rs'' ≡ rs')
 
-pub record ByNeighbours : Type 2 where
-  -- every input is taken, each call ends, and nothing is left for the caller to check
+-- every input is taken, each call ends, and nothing is left for the caller to check
+pub record EveryNeighboursTaken : Type 2 where
   pub ends : {M : Type 1} → neighbours_code.statement M
   pub asks_nothing : (κs : Lfts 4) (a : Dens κs neighbours_kinds.ps) → neighbours.Asked κs a
   pub exported_ends : {M : Type 1} → exported_neighbours_code.statement M
   pub exported_asks_nothing : (κs : Lfts 5) (a : Dens κs exported_neighbours_kinds.ps) → exported_neighbours.Asked κs a
+
+pub record ByNeighbours : Type 0 where
   -- refused exactly for the first report whose condition holds; then both lists stay
   pub refused : (ts vs zs : List ℕ) (k : ℕ) (hs rs : List ℕ) (a : Result Unit Refusal) (hs' rs' : List ℕ) → NeighboursCall ts vs zs k hs rs a hs' rs'
       → RefusedAndStays (refusal (answer_of a)) (FirstFault (neighbours_conditions ts vs zs k hs (length rs))) ((hs' ≡ hs) × (rs' ≡ rs))

@@ -123,8 +123,7 @@ pub record EveryPairTaken : Type 2 where
   pub exported_compare_ends : {M : Type 1} → exported_compare_code.statement M
   pub exported_compare_asks_nothing : (κs : Lfts 7) (a : Dens κs exported_compare_kinds.ps) → exported_compare.Asked κs a
 
-pub record Pairs : Type 2 where
-  pub every_pair : EveryPairTaken
+pub record Pairs : Type 0 where
   -- refused exactly for the first report whose condition holds
   pub compare_refused : (ts vs us ws zs hs : List ℕ) (a : Result (Option Parting) Refusal) → CompareCall ts vs us ws zs hs a
       → RefusedExactly (refusal (answer_of a)) (FirstFault (compare_conditions ts vs us ws zs hs))

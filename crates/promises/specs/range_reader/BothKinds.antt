@@ -128,12 +128,14 @@ pub record ReadAsPlain (n m : ℕ) (b : Result Counts Refusal) (ts' ls' us' zs' 
   pub points : zs'' ≡ zs'
   pub bandwidths : hs'' ≡ hs'
 
-pub record BothKinds : Type 2 where
-  -- every input is taken, the call ends, and nothing is left for the caller to check
+-- every input is taken, each call ends, and nothing is left for the caller to check
+pub record EveryReaderTaken : Type 2 where
   pub ends : {M : Type 1} → read_ranges_code.statement M
   pub asks_nothing : (κs : Lfts 6) (a : Dens κs read_ranges_kinds.ps) → read_ranges.Asked κs a
   pub exported_ends : {M : Type 1} → exported_read_code.statement M
   pub exported_asks_nothing : (κs : Lfts 7) (a : Dens κs exported_read_kinds.ps) → exported_read.Asked κs a
+
+pub record BothKinds : Type 0 where
   -- refused exactly for its lists' lengths, else as the sheet is; then all five lists stay
   pub refused : (s ts ls us zs hs : List ℕ) (a : Result RangeCounts Refusal) (ts' ls' us' zs' hs' : List ℕ)
       → ReadRangesCall s ts ls us zs hs a ts' ls' us' zs' hs'

@@ -128,12 +128,14 @@ pub record SweptRanges (ts ls us zs hs : List ℕ) (n : ℕ) (rs' : List ℕ) : 
   pub exported_high_ends_reached : (rs : List ℕ) (c : ℕ) (rs'' : List ℕ) → length rs ≡ row_width * length zs → ExportedSmooth ts us zs hs rs c rs'' → (k : ℕ)
       → k < length zs → stored_row rs'' k ≡ high_row (stored_range_row rs' k)
 
-pub record OverRanges : Type 2 where
-  -- every input is taken, each call ends, and nothing is left for the caller to check
+-- every input is taken, each call ends, and nothing is left for the caller to check
+pub record EveryRangesTaken : Type 2 where
   pub ends : {M : Type 1} → smooth_ranges_code.statement M
   pub asks_nothing : (κs : Lfts 3) (a : Dens κs smooth_ranges_kinds.ps) → smooth_ranges.Asked κs a
   pub exported_ends : {M : Type 1} → exported_ranges_code.statement M
   pub exported_asks_nothing : (κs : Lfts 6) (a : Dens κs exported_ranges_kinds.ps) → exported_ranges.Asked κs a
+
+pub record OverRanges : Type 0 where
   -- refused exactly for the first report whose condition holds; then the rows stay
   pub refused : (ts ls us zs hs rs : List ℕ) (a : Result ℕ Refusal) (rs' : List ℕ) → RangesCall ts ls us zs hs rs a rs'
       → RefusedAndStays (refusal (answer_of a)) (FirstFault (range_conditions ts ls us zs hs (length rs))) (rs' ≡ rs)

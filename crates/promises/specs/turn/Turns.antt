@@ -110,8 +110,7 @@ pub record EveryTurnTaken : Type 2 where
   pub exported_turn_ends : {M : Type 1} → exported_turn_code.statement M
   pub exported_turn_asks_nothing : (κs : Lfts 3) (a : Dens κs exported_turn_kinds.ps) → exported_turn.Asked κs a
 
-pub record Turns : Type 2 where
-  pub every_turn : EveryTurnTaken
+pub record Turns : Type 0 where
   -- a call on a lent record tells and leaves what the call by value does
   pub lent_turn_alike : (r : RunningSums) (ts vs : List ℕ) (z h : ℕ) (a : Result Unit Refusal) (r' : RunningSums)
       (t : Turning) → LentTurnCall r ts vs z h a r' → TurnCall r ts vs z h t
