@@ -40,8 +40,8 @@
  *   - a list that is written and overlaps another; lists that are only read may overlap;
  *   - lists that someone else writes, or reads while they are written, during the call;
  *   - the stack: on sheets of 1,024 samples and 512 points tankcurve_text took less than 39 KB, tankcurve_read_ranges less than 10 KB and tankcurve_read
- *     less than 8 KB; tankcurve_biweight takes less than 6 KB, most of it for its table; tankcurve_boxes took 72,008 bytes on lists of the greatest
- *     lengths, most of them for two tables of 66 times 66 numbers; every other call takes under 1 KB;
+ *     less than 8 KB; tankcurve_boxes took 72,104 bytes on lists of the greatest lengths, most of them for two tables of 66 times 66 numbers; every
+ *     other call took under 1 KB;
  *   - the compiler's back end below the proof, memcpy and memset, which the archive takes from the host, the linker and the machine. The
  *     archive links only into programs for x86-64 Linux;
  *   - this header: nothing compares it with the Rattle source but the tests in link/tests and the examples in link/examples.
