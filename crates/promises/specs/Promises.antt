@@ -1,6 +1,6 @@
--- Every promise in one file. What is said of all inputs' answers is `Promises`: the three demands and what later requests asked for.
--- That each call takes every input and ends is `EveryCallTaken`. Both together are `Demands`, and the
--- theorem is `demands` of crates/demands_hold/proofs/Demands.antt.
+-- The promises of all requests in one file. What is said of all inputs' answers is `Promises`: the three demands and what later requests asked for.
+-- That each of their calls takes every input and ends is `EveryCallTaken`; of other public functions tests/public-calls sees that none asks
+-- anything. Both together are `Demands`, and the theorem is `demands` of crates/demands_hold/proofs/Demands.antt.
 use Rattle.promises.specs.Calls.{EveryInputTaken}
 use Rattle.promises.specs.Crossing.{EveryCrossingTaken, Crossings}
 use Rattle.promises.specs.Demands.{Demand1, Demand2, Demand3, OtherCalls, Preview, EveryCurve}
@@ -56,7 +56,7 @@ pub record Promises : Type 0 where
   -- the reading that decides
   pub decisive : DecisiveReadings
 
--- every call takes every input, ends, and leaves nothing for the caller to check first
+-- each call of the requests takes every input, ends, and leaves nothing for the caller to check first
 pub record EveryCallTaken : Type 2 where
   pub every_input : EveryInputTaken
   -- the program on every reader and writer, and from what a reader has to what a writer gains
