@@ -60,7 +60,7 @@ early_mark = inr (none_of_nothing_falls, inl (refl, second_falls, none_falls_bef
 pub foreign_record : FirstFault (record_conditions 3 2 1 no_more) 11 0
 foreign_record = inl (refl, (inl (omega arith), refl), λ q l a. omega arith)
 
--- the last position of the knob
+-- the last preset
 pub last_preset_is_accepted : NoFault (fill_conditions 0 0 11 (7 ∷ []) (7 ∷ []))
 last_preset_is_accepted = (λ q a. a.0 refl, (λ q a. omega arith, (λ q a. omega arith, (λ q a. omega arith, (λ q a. omega arith, tt)))))
 
