@@ -3,5 +3,7 @@ pub mod Wrapping
 pub mod Zeros
 pub mod ProductsLaws
 pub mod Edges
+pub mod Halving
+pub mod HalvingCases
 pub mod Quotients
 pub mod Squares

@@ -1,6 +1,6 @@
 -- Products modulo 2^w. A number of two halves times k is, up to whole multiples of 2^(w + w), the lower half's product and the lower half of the
 -- upper half's product, moved up. A factor may be taken modulo 2^w first, so a product of three is had two by two.
-use Rattle.std.proofs.Common.{◌≡◌, ℕ, ◌+◌, ◌*◌, ◌/◌, ◌%◌, ◌^◌, ◌<◌, sym, ap, ◌∙◌, mul_assoc, mul_comm, add-mul}
+use Rattle.std.proofs.Common.{◌≡◌, ℕ, ◌+◌, ◌-◌, ◌*◌, ◌/◌, ◌%◌, ◌^◌, ◌<◌, refl, sym, ap, ◌∙◌, mul_assoc, mul_comm, add-mul}
 use Rattle.std.proofs.Common.{div-add-mod', mul-add, mul_left_comm, two-mul, arith, pow-add}
 use native.Mathlib.Nat.{div-add-mod, mod-mod}
 use native.Mathlib.Nat.{mod-add-mod, add-mod-mod, add-mul-mod_self_left}
@@ -65,3 +65,17 @@ combined_wraps w z h a b c wide₁ wide cross twice gained near₁ near lost r e
 
     loses : minus w ((h * h * a + 2 * z * b) % p) lost ≡ minus w ((h * h * a + 2 * z * b) % p) (z * z * a + c)
     loses = rw (lost_is, mod-mod (z * z * a + c) p)
+
+-- weight or sum as the code makes it: each product of three is taken modulo 2^w once, so are both sums, and what is let go is what 2^w has above it
+pub combined_once : (w z h a b c : ℕ)
+    → ((h * h * a % 2 ^ w + 2 * z * b % 2 ^ w) % 2 ^ w + (2 ^ w - (z * z * a % 2 ^ w + c) % 2 ^ w)) % 2 ^ w ≡ combined w z h a b c
+combined_once w z h a b c = rw (gains, loses)
+  where
+    p : ℕ
+    p = 2 ^ w
+
+    gains : (h * h * a % p + 2 * z * b % p) % p ≡ (h * h * a + 2 * z * b) % p
+    gains = sum_wraps p _ _ (h * h * a) (2 * z * b) _ refl refl refl
+
+    loses : (z * z * a % p + c) % p ≡ (z * z * a + c) % p
+    loses = mod-add-mod (z * z * a) p c

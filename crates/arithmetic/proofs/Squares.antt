@@ -2,12 +2,13 @@
 -- leave the same remainder. A half width of 32 bits has a square of 64.
 use Prim.Native.Nat.{ℕ, ◌+◌, ◌-◌, ◌*◌, ◌%◌, ◌^◌, ◌≤◌, ◌<◌}
 use mathlib.Core.Path.{◌≡◌, ap, ◌∙◌}
-use native.Mathlib.Decide.{dec_lt}
+use native.Mathlib.Decide.{dec_lt, dec_le}
 use native.Mathlib.Nat.{mul-le-mul, mod-eq_of_lt}
 use native.Mathlib.Omega.{arith}
 use lib.Arith.{digits_mod}
 use Rattle.meanings.specs.Lists.{distance}
 use Rattle.meanings.specs.Estimate.{kernel}
+use Rattle.meanings.proofs.Kernels.{kernel_outside, squares_differ, kernel_product}
 
 pub square_fits : (h : ℕ) → h < 2 ^ 32 → h * h < 2 ^ 64
 square_fits h small =
@@ -41,10 +42,23 @@ square_from_below t z b l =
     let e : z - t ≡ distance t z = omega arith in
     rw d (square_of_rest (z - t) rest (2 ^ 64) (omega arith) (square_fits (z - t) (omega arith)) ∙ ap (λ (x : ℕ). x * x) e)
 
-pub weight_is_kernel : (t z h : ℕ) → t < 2 ^ 16 → z < 2 ^ 16 → h * h - difference t z * difference t z % 2 ^ 64 ≡ kernel z h t
-unfolding kernel
-weight_is_kernel t z h a b = by (dec_lt t z)
+square_is : (t z : ℕ) → t < 2 ^ 16 → z < 2 ^ 16 → difference t z * difference t z % 2 ^ 64 ≡ distance t z * distance t z
+square_is t z a b = by (dec_lt t z)
   where
-    by : Dec (t < z) → h * h - difference t z * difference t z % 2 ^ 64 ≡ kernel z h t
-    by (yes l) = ap (λ (x : ℕ). h * h - x) (square_from_below t z b l)
-    by (no l) = ap (λ (x : ℕ). h * h - x) (square_from_above t z a (omega arith))
+    by : Dec (t < z) → difference t z * difference t z % 2 ^ 64 ≡ distance t z * distance t z
+    by (yes l) = square_from_below t z b l
+    by (no l) = square_from_above t z a (omega arith)
+
+-- from the window's edge on both are 0, inside it both are the product (h − d)(h + d)
+squares_are_kernel : (t z h : ℕ) → h * h - distance t z * distance t z ≡ kernel z h t
+squares_are_kernel t z h = by (dec_le h (distance t z))
+  where
+    by : Dec (h ≤ distance t z) → h * h - distance t z * distance t z ≡ kernel z h t
+    by (yes l) = let s = mul-le-mul l l in rw (kernel_outside z h t l) (omega arith)
+    by (no l) =
+        let m : distance t z ≤ h = omega arith in
+        let s = squares_differ h (distance t z) m in
+        rw (kernel_product z h t m) (omega arith)
+
+pub weight_is_kernel : (t z h : ℕ) → t < 2 ^ 16 → z < 2 ^ 16 → h * h - difference t z * difference t z % 2 ^ 64 ≡ kernel z h t
+weight_is_kernel t z h a b = ap (λ (x : ℕ). h * h - x) (square_is t z a b) ∙ squares_are_kernel t z h

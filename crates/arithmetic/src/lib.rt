@@ -4,7 +4,7 @@
 // ranges: the running sums of the lows and of the highs, side by side.
 // row: the row of a running record.
 // sums: the six running sums with a reading taken in or let go, and the passes.
-// values: a row's value, a window's least minute, and where a minute is among ordered minutes.
+// values: a row's value, a window's least minute, and the place of a minute among minutes.
 // weight: the weight of one reading at a mark.
 #![tactic(auto)]
 

@@ -1,8 +1,8 @@
-// A row's value, the least minute of a window, and where an edge stands among ordered minutes. Every function takes every input.
+// A row's value, the least minute of a window, and the place of an edge among minutes. Every function takes every input.
 
 ghost use Rattle.std.specs.Prelude.{◌≡◌, ◌-◌};
 ghost use Rattle.meanings.specs.Estimate.{value_of};
-ghost use Rattle.arithmetic.specs.Positions.{FirstAtLeast};
+ghost use Rattle.arithmetic.specs.Positions.{FirstAtLeast, halving_place};
 
 use meanings::Mark;
 
@@ -35,9 +35,27 @@ pub fn lowest_minute(mark: Mark) -> u64
     (mark.point as u64).saturating_sub(mark.bandwidth as u64)
 }
 
-// Among ordered minutes the first position whose minute is at least `bound`, else their number.
+// The place of `bound` among the minutes, by halving; of ordered ones it is the first position whose minute is at least `bound`, else their number. The
+// library's `partition_point` takes the same turns, but says nothing of minutes that do not rise.
+#[tactic(auto, using(crate::proofs::Halving::none_found, crate::proofs::Halving::first_of_none, crate::proofs::Halving::halving_begins, crate::proofs::Halving::goes_on_after, crate::proofs::Halving::goes_on_before, crate::proofs::Halving::ends_after, crate::proofs::Halving::ends_at, crate::proofs::Halving::first_after, crate::proofs::Halving::first_at))]
 pub fn first_at_least(minutes: &[u16], bound: u64) -> usize
-    ensures { FirstAtLeast minutes.now bound result }
+    ensures place { result ≡ halving_place minutes.now bound }
+    ensures ordered { FirstAtLeast minutes.now bound result }
 {
-    minutes.partition_point(|&time| (time as u64) < bound)
+    let mut size = minutes.len();
+    if size == 0 {
+        return 0;
+    }
+    let mut base = 0;
+    while size > 1 {
+        let half = size / 2;
+        size -= half;
+        if (minutes[base + half] as u64) < bound {
+            base += half;
+        }
+    }
+    if (minutes[base] as u64) < bound {
+        return base + 1;
+    }
+    base
 }

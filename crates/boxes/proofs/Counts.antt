@@ -14,25 +14,33 @@ use Rattle.laws.proofs.boxes.Strips.{strip_grows, strip_rises}
 use Rattle.boxes.specs.Cuts.{Ranked}
 use Rattle.boxes.specs.Strips.{Split, Eighths, Block, StripFound, StripOrZero}
 
-pub ranked_split : (cs ds : List ℕ) (x : ℕ) → Ranked cs ds (length ds) → Split ds x (strip cs x)
-ranked_split cs ds x R = record {
+-- of the first n numbers of ds the first s lie at or below x, the others above it
+pub record FrontSplit (ds : List ℕ) (n x s : ℕ) : Type 0 where
+  pub few : s ≤ n
+  pub below : (k : ℕ) → k < s → k < n → get_or ds k 0 ≤ x
+  pub above : (k : ℕ) → s ≤ k → k < n → x < get_or ds k 0
+
+pub front_split : (cs ds : List ℕ) (n x : ℕ) → Ranked cs ds n → FrontSplit ds n x (strip cs x)
+front_split cs ds n x R = record {
   few = R.most x;
-  below = λ k l. below k l (dec_le (get_or ds k 0) x);
+  below = λ k l m. below k l m (dec_le (get_or ds k 0) x);
   above = λ k l m. above k l m (dec_lt x (get_or ds k 0));
 }
   where
-    below : (k : ℕ) → k < strip cs x → Dec (get_or ds k 0 ≤ x) → get_or ds k 0 ≤ x
-    below k l (yes d) = d
-    below k l (no d) =
-        absurd
-        (let m = R.most x in
-        let r = strip_rises cs x (get_or ds k 0) (R.cut k (omega arith)) (omega arith) in
-        let e = R.rank k (omega arith) in
-        omega arith)
+    below : (k : ℕ) → k < strip cs x → k < n → Dec (get_or ds k 0 ≤ x) → get_or ds k 0 ≤ x
+    below k l m (yes d) = d
+    below k l m (no d) =
+        absurd (let r = strip_rises cs x (get_or ds k 0) (R.cut k m) (omega arith) in let e = R.rank k m in omega arith)
 
-    above : (k : ℕ) → strip cs x ≤ k → k < length ds → Dec (x < get_or ds k 0) → x < get_or ds k 0
+    above : (k : ℕ) → strip cs x ≤ k → k < n → Dec (x < get_or ds k 0) → x < get_or ds k 0
     above k l m (yes d) = d
     above k l m (no d) = absurd (let g = strip_grows cs (get_or ds k 0) x (omega arith) in let e = R.rank k m in omega arith)
+
+-- of a list that is cuts whole
+pub ranked_split : (cs ds : List ℕ) (x : ℕ) → Ranked cs ds (length ds) → Split ds x (strip cs x)
+ranked_split cs ds x R =
+    let S = front_split cs ds (length ds) x R in
+    record { few = S.few; below = λ k l. S.below k l (omega (arith, S.few)); above = S.above }
 
 -- f is 1 for a cut at or below x, else 0
 flag : (c x f : ℕ) → f ≡ from_bool (leb c x) → (f ≤ 1) × (c ≤ x → f ≡ 1) × (x < c → f ≡ 0)

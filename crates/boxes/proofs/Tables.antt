@@ -8,8 +8,9 @@ use Rattle.meanings.proofs.Totals.{total_ext}
 use Rattle.meanings.specs.boxes.Boxes.{Axis, cell_list, box}
 use Rattle.laws.specs.boxes.Windows.{first_strip, end_strip, Narrow}
 use Rattle.laws.proofs.boxes.Strips.{end_strip_most, window_strips_in_order}
+use Rattle.laws.proofs.boxes.Sums.{gathered_most}
 use Rattle.laws.proofs.boxes.Cells.{block}
-use Rattle.laws.proofs.boxes.Corners.{corner, box_by_corners, cell_list_at}
+use Rattle.laws.proofs.boxes.Corners.{corner, corner_by_readings, box_by_corners, cell_list_at}
 use Rattle.boxes.specs.Tables.{row_sum, cumulative, Accumulated}
 
 -- the first y cells of each of the first x minute strips
@@ -42,3 +43,8 @@ module _ (A B : Axis) (w : ℕ → ℕ) (n : ℕ) {ts : List ℕ} (T : Accumulat
           table_holds_corner (end_strip A j) (end_strip B k) gj gk,
           table_holds_corner (first_strip A j) (first_strip B k) fj fk,
         ) (box_by_corners A B p q w n j k l m)
+
+    -- none is more than all readings weigh
+    pub table_most : (v x y : ℕ) → ((i : ℕ) → i < n → w i ≤ v) → x ≤ 65 → y ≤ 65 → get_or ts (66 * x + y) 0 ≤ n * v
+    table_most v x y f l m =
+        rw (table_holds_corner x y l m, ← (corner_by_readings A B w n x y q.few m)) (gathered_most _ w v n f)

@@ -4,7 +4,7 @@ use mathlib.Core.Path.{◌≡◌, sym, ap, ◌∙◌}
 use mathlib.Core.List.{List, map}
 use native.Mathlib.Decide.{ℕ_discrete}
 use native.Mathlib.Omega.{arith}
-use lib.ListN.{length, get_or, set, length-set}
+use lib.ListN.{length, get_or, set, take, length-set}
 use lib.Seq.{get_or-set_same, get_or-set_other}
 use Rattle.std.proofs.lemmas.List.{length-map, get_or-map, map-set}
 use Rattle.meanings.specs.declared.boxes.Window.{Window}
@@ -12,7 +12,7 @@ use Rattle.meanings.specs.boxes.Boxes.{Axis, shift, left_cut, right_cut, cuts_to
 use Rattle.meanings.specs.boxes.Lent.{firsts, ends}
 use Rattle.laws.specs.boxes.Windows.{first_strip, end_strip}
 use Rattle.boxes.specs.Cuts.{Place, Ranked}
-use Rattle.boxes.proofs.Ranks.{place_is_strip}
+use Rattle.boxes.proofs.Ranks.{ranked_front, place_is_strip}
 use Rattle.boxes.specs.Windows.{Roomy, WindowsPut, WindowsTried}
 
 -- the windows of the first i marks
@@ -89,3 +89,12 @@ module _ (A : Axis) (ds : List ℕ) (R : Ranked (cuts_to (shift A) A.points A.ba
   pub window_ends_before : (k : ℕ) → k < length A.points → get_or (ends ws) k 0 ≡ end_strip A k
   unfolding end_strip cuts
   window_ends_before k l = place_is_strip R _ _ (W.end k l)
+
+-- The same of a list whose first n numbers are the cuts: a caller hands on those.
+module _ (A : Axis) (ds : List ℕ) (n : ℕ) (R : Ranked (cuts_to (shift A) A.points A.bandwidths (length A.points)) ds n) (room : n ≤ length ds)
+    {ws₀ ws : List Window} (W : WindowsPut A.points A.bandwidths (shift A) (take n ds) ws₀ ws) where
+  pub front_begins_with : (k : ℕ) → k < length A.points → get_or (firsts ws) k 0 ≡ first_strip A k
+  front_begins_with = window_begins_with A (take n ds) (ranked_front R room) W
+
+  pub front_ends_before : (k : ℕ) → k < length A.points → get_or (ends ws) k 0 ≡ end_strip A k
+  front_ends_before = window_ends_before A (take n ds) (ranked_front R room) W

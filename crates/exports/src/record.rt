@@ -44,7 +44,7 @@ pub extern "C" fn tankcurve_advance(
 
 // The row that a running record gives at a mark. running: nine numbers of any origin; row: five numbers. Every half width is taken.
 #[unsafe(no_mangle)]
-#[tactic(auto, unfolding(crate::specs::Answers::sized, crate::specs::Answers::replaced))]
+#[tactic(auto, using(crate::proofs::Answered::other_code, crate::proofs::Answered::other_stays, crate::proofs::Answered::second_other_code, crate::proofs::Answered::second_other_stays, crate::proofs::Records::row_code, crate::proofs::Records::numbers_stored))]
 pub extern "C" fn tankcurve_row(running: &[u64], point: u16, bandwidth: u32, row: &mut [u64]) -> u64
     ensures value { result ≡ answered no_detail (sized record_length running.now (sized row_width row.old (given (record_row (record_meaning running.now) point bandwidth)))) }
     ensures row_after { row.new ≡ stored fields (sized record_length running.now (sized row_width row.old (given (record_row (record_meaning running.now) point bandwidth)))) row.old }

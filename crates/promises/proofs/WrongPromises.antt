@@ -1,5 +1,5 @@
 -- Clauses that none of the calls meets: each is a clause of a promise, changed in one place and stated in the words of the meanings, and is shut out on a
--- concrete input. Three more are shut out where the meaning is: rows left as they were by `no_rows_untouched` of crates/meanings/proofs/WrongAnswers.antt,
+-- concrete input. Three more are shut out where the meaning is: rows left as they were by `no_rows_untouched` of crates/meanings/proofs/SixWrongPrograms.antt,
 -- a record left so by `no_record_left` of crates/regression/proofs/WrongTurns.antt, and 6 for 8 over the limits of the preview by
 -- `six_not_before_eight` of crates/laws/proofs/rows/Previews.antt.
 use Prim.Native.Nat.{ℕ, zero, suc, ◌+◌, ◌*◌, ◌%◌, ◌^◌, ◌≤◌, ◌<◌}

@@ -1,6 +1,6 @@
 -- The invariant of the search: none of the marks before k is low enough, and the record is that after k steps. So the row that the next step gives
 -- is the mark's, and the record's edges are the passes.
-use Prim.Native.Nat.{ℕ, ◌+◌, ◌^◌, ◌≤◌, ◌<◌}
+use Prim.Native.Nat.{ℕ, ◌+◌, ◌^◌, ◌≤◌, ◌<◌, zero-le}
 use Rattle.std.specs.Prelude.{Result, Ok}
 use Rattle.meanings.specs.declared.limit.Located.{Located}
 use mathlib.Core.Path.{◌≡◌, sym, ap, ◌∙◌}
@@ -23,14 +23,19 @@ use Rattle.meanings.specs.limit.Threshold.{at_or_below, low_enough}
 use Rattle.meanings.specs.limit.Crossing.{low_at}
 use Rattle.meanings.proofs.LimitPasses.{passes_to_point}
 use Rattle.regression.specs.declared.step.Reached.{Reached as Step}
-use Rattle.regression.specs.StepSteps.{SteppedRow}
-use Rattle.regression.proofs.StepSweeping.{SteppedTo, edges_fit, steps_go_on, next_running, row_there}
+use Rattle.regression.specs.Rows.{Of16Bits}
+use Rattle.regression.specs.StepSteps.{IsFresh, SteppedRow}
+use Rattle.regression.proofs.StepSweeping.{SteppedTo, steps_begin, edges_fit, steps_go_on, next_running, row_there}
 use Rattle.questions.specs.LimitSearch.{Searched}
 
 pub record NoneLowTo (ts vs zs hs : List ℕ) (limit k : ℕ) (r : RunningSums) : Type 0 where
   pub steps : SteppedTo ts vs zs hs k r
   pub upto : k ≤ length zs
   pub none_low : NoneBelow (low_at ts vs zs hs limit) k
+
+pub search_begins : {ts vs zs hs : List ℕ} {limit : ℕ} {r : RunningSums} → CurveAccepted ts vs zs hs → Of16Bits ts → Of16Bits vs → IsFresh r
+    → NoneLowTo ts vs zs hs limit 0 r
+search_begins a t v f = record { steps = steps_begin a t v f; upto = zero-le; none_low = λ j l. absurd (omega arith) }
 
 module _ {ts vs zs hs : List ℕ} {limit k : ℕ} {r : RunningSums} (w : NoneLowTo ts vs zs hs limit k r) where
   pub passes_fit : r.right + r.left < 2 ^ 64

@@ -1,6 +1,6 @@
 -- The invariant of the search: the values of all marks before k agree, and both records are those of k steps. So the rows that they give are the
 -- mark's, and the first two whose values differ are those of the first such mark.
-use Prim.Native.Nat.{ℕ, ◌+◌, ◌≤◌, ◌<◌}
+use Prim.Native.Nat.{ℕ, ◌+◌, ◌≤◌, ◌<◌, zero-le}
 use mathlib.Core.Path.{◌≡◌, sym, ap, ◌∙◌}
 use mathlib.Core.Bool.{Bool, true, false}
 use mathlib.Core.List.{List}
@@ -11,12 +11,14 @@ use Rattle.meanings.specs.declared.Estimate.{Estimate}
 use Rattle.meanings.specs.declared.RunningSums.{RunningSums}
 use Rattle.meanings.specs.Reports.{given}
 use Rattle.meanings.specs.Estimate.{estimate}
+use Rattle.meanings.proofs.Accepted.{PairAccepted}
 use Rattle.meanings.proofs.Search.{NoneBelow, one_more_below, none_lowest, lowest_at}
 use Rattle.meanings.specs.declared.pair.Bounded.{Bounded}
 use Rattle.meanings.specs.pair.Comparison.{unlike, unlike_at, split_of}
 use Rattle.regression.specs.declared.step.Reached.{Reached}
-use Rattle.regression.specs.StepSteps.{SteppedRow}
-use Rattle.regression.proofs.StepSweeping.{SteppedTo, steps_go_on, row_there}
+use Rattle.regression.specs.Rows.{Of16Bits}
+use Rattle.regression.specs.StepSteps.{IsFresh, SteppedRow}
+use Rattle.regression.proofs.StepSweeping.{SteppedTo, steps_begin, steps_go_on, row_there}
 use Rattle.questions.specs.PairSearch.{Searched}
 
 pub record AlikeTo (ts vs us ws zs hs : List ℕ) (k : ℕ) (r s : RunningSums) : Type 0 where
@@ -24,6 +26,15 @@ pub record AlikeTo (ts vs us ws zs hs : List ℕ) (k : ℕ) (r s : RunningSums) 
   pub second : SteppedTo us ws zs hs k s
   pub upto : k ≤ length zs
   pub alike : NoneBelow (unlike_at ts vs us ws zs hs) k
+
+pub search_begins : {ts vs us ws zs hs : List ℕ} {r s : RunningSums} → PairAccepted ts vs us ws zs hs → Of16Bits ts → Of16Bits vs → Of16Bits us
+    → Of16Bits ws → IsFresh r → IsFresh s → AlikeTo ts vs us ws zs hs 0 r s
+search_begins a t v u w f g = record {
+  first = steps_begin a.first t v f;
+  second = steps_begin a.second u w g;
+  upto = zero-le;
+  alike = λ j l. absurd (omega arith);
+}
 
 module _ {ts vs us ws zs hs : List ℕ} {k : ℕ} {r s : RunningSums} (w : AlikeTo ts vs us ws zs hs k r s) where
   pub alike_throughout : length zs ≤ k → Searched ts vs us ws zs hs None

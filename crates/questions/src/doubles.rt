@@ -14,7 +14,7 @@ pub const ONE_LIMIT: u64 = 9007199254740992;
 pub const LOW_UNIT: u64 = 4294967296;
 
 // The number is a weight or a sum of a row of this weight.
-#[tactic(auto, unfolding(meanings::specs::doubles::Doubles::handed))]
+#[tactic(auto, using(meanings::proofs::Having::handed_empty, crate::proofs::Handing::one_handed, crate::proofs::Handing::pair_handed))]
 pub fn number_cell(weight: u64, number: u64) -> Cell
     ensures { cell_doubles result ≡ handed weight number }
 {

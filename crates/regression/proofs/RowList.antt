@@ -1,6 +1,6 @@
 -- The invariant of a sweep: after k marks the rows of those stand in front of what the list held, and the record is that after k steps.
-use Prim.Native.Nat.{ℕ, suc, ◌+◌, ◌*◌, ◌^◌, ◌≤◌, ◌<◌}
-use mathlib.Core.Path.{◌≡◌, sym, ap, ◌∙◌}
+use Prim.Native.Nat.{ℕ, suc, ◌+◌, ◌*◌, ◌^◌, ◌≤◌, ◌<◌, zero-le}
+use mathlib.Core.Path.{◌≡◌, refl, sym, ap, ◌∙◌}
 use mathlib.Core.List.{List, ◌++◌}
 use native.Mathlib.Numerals.{add-one}
 use native.Mathlib.Omega.{arith}
@@ -13,10 +13,11 @@ use Rattle.meanings.specs.Estimate.{estimate, fields, rows}
 use Rattle.meanings.specs.Moves.{moves}
 use Rattle.meanings.specs.Running.{fresh, passes}
 use Rattle.meanings.proofs.SmoothRows.{rows_length}
-use Rattle.meanings.proofs.SmoothSteps.{running_at, passes_are_edges}
+use Rattle.meanings.proofs.SmoothSteps.{SmoothAccepted, running_at, passes_are_edges}
 use Rattle.regression.specs.declared.step.Reached.{Reached}
-use Rattle.regression.specs.StepSteps.{SteppedRow}
-use Rattle.regression.proofs.StepSweeping.{SteppedTo, edges_fit, steps_go_on, row_there}
+use Rattle.regression.specs.Rows.{Of16Bits}
+use Rattle.regression.specs.StepSteps.{IsFresh, SteppedRow}
+use Rattle.regression.proofs.StepSweeping.{SteppedTo, steps_begin, edges_fit, steps_go_on, row_there}
 
 -- values stored behind a front of n
 store_behind : (M R vs : List ℕ) (n : ℕ) → length M ≡ n → n + length vs ≤ length R
@@ -36,6 +37,10 @@ pub record SmoothedTo (ts vs zs hs R₀ : List ℕ) (k : ℕ) (R : List ℕ) (r 
   pub rows_fit : length R₀ ≡ row_width * length zs
   pub upto : k ≤ length zs
   pub stored : R ≡ rows ts vs zs hs k ++ drop (row_width * k) R₀
+
+pub smoothed_begins : {ts vs zs hs R₀ : List ℕ} {r : RunningSums} → SmoothAccepted ts vs zs hs (length R₀) → Of16Bits ts → Of16Bits vs → IsFresh r
+    → SmoothedTo ts vs zs hs R₀ 0 R₀ r
+smoothed_begins a t v f = record { steps = steps_begin a.lists t v f; rows_fit = a.rows_fit; upto = zero-le; stored = refl }
 
 module _ {ts vs zs hs R₀ : List ℕ} {k : ℕ} {R : List ℕ} {r : RunningSums} (w : SmoothedTo ts vs zs hs R₀ k R r) where
   pub stored_length : length R ≡ length R₀

@@ -51,6 +51,13 @@ module _ {w : ℕ} where
       settled = regrouped (on_to (with_more v (sum_alike x g)) (with_more g a.settled) (omega arith)) refl (omega arith);
     }
 
+    -- one move after another
+    pub settles_on : {u' v' y : ℕ} → Settles w x u' v' y → Settles w s (u + u') (v + v') y
+    settles_on {u'} b = record {
+      below = b.below;
+      settled = regrouped (on_to (with_more v b.settled) (with_more u' a.settled) (omega arith)) (omega arith) (omega arith);
+    }
+
     -- what is gained and lost, in other words
     pub settles_alike : (u' v' : ℕ) → u + v' ≡ u' + v → Settles w s u' v' x
     settles_alike u' v' e = record {

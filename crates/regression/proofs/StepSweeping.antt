@@ -13,12 +13,15 @@ use Rattle.meanings.proofs.SmoothSteps.{CurveAccepted, running_at, running_withi
 use Rattle.meanings.proofs.SmoothRows.{record_of_window_gives_row}
 use Rattle.arithmetic.proofs.Zeros.{IsZeros, zeros}
 use Rattle.regression.specs.declared.step.Reached.{Reached}
+use Rattle.regression.specs.Rows.{Of16Bits}
 use Rattle.regression.specs.StepSteps.{IsFresh, SteppedRow}
+use Rattle.regression.proofs.Rows.{of_16_bits}
 
--- the derived default is a record before any step
+-- what the clause of the derived default says of its result
 abbrev pub IsDefault : RunningSums → Type 0
 IsDefault r = (r.left ≡ 0) × ((r.right ≡ 0) × (IsZeros r.sums × (r.passes ≡ 0)))
 
+-- so the result is a record before any step: the sweep and the searches of `questions` begin with it
 pub default_fresh : {r : RunningSums} → IsDefault r → IsFresh r
 default_fresh (l, (m, (s, p))) = record { zeros = λ i. record { left = l i; right = m i; sums = zeros s i; passes = p i } }
 
@@ -27,6 +30,11 @@ pub record SteppedTo (ts vs zs hs : List ℕ) (k : ℕ) (r : RunningSums) : Type
   pub small : Small ts vs
   pub accepted : CurveAccepted ts vs zs hs
   pub running : r ≡ running_at ts vs zs hs k
+
+-- the fresh record is that after no steps
+pub steps_begin : {ts vs zs hs : List ℕ} {r : RunningSums} → CurveAccepted ts vs zs hs → Of16Bits ts → Of16Bits vs → IsFresh r
+    → SteppedTo ts vs zs hs 0 r
+steps_begin a t v f = record { small = of_16_bits a.even a.few t v; accepted = a; running = f.zeros }
 
 -- its edges, which are the passes of these steps, are as few as the readings
 pub edges_fit : {ts vs zs hs : List ℕ} {k : ℕ} {r : RunningSums} → SteppedTo ts vs zs hs k r → r.right + r.left < 2 ^ 64

@@ -1,11 +1,12 @@
--- Of the lines before, only the last one's minute decides what the reading lines keep.
+-- Of the lines before, only the last one's minute decides what the reading lines keep; before the first line it may be 0.
 use Prim.Native.Nat.{ℕ}
-use mathlib.Core.Path.{◌≡◌, refl}
+use mathlib.Core.Path.{◌≡◌, refl, sym}
 use mathlib.Core.List.{List, [], ◌∷◌, ◌++◌}
 use Rattle.std.specs.Prelude.{Option, None, Some, IsSome}
 use Rattle.sheet.specs.LineValues.{minute_before}
 use Rattle.sheet.proofs.ValuesLastMinutes.{Alike, alike_behind}
 use native.Mathlib.Omega.{arith}
+use borrow.Author.Tests.{le-ltb}
 use Rattle.meanings.specs.declared.Limits.{Limits}
 use Rattle.meanings.specs.Sheet.{Lines, end, unended, line, next_place, add_kept}
 use Rattle.meanings.specs.declared.ranges.Kind.{Kind}
@@ -39,6 +40,10 @@ alike_lines L k p a b ts ls us (line t d r) e =
           e j.minute,
           h j.minute (add_kept (kept_range j) j.minute ts) (add_kept (kept_range j) j.low ls) (add_kept (kept_range j) j.high us),
         )
+
+pub first_minute : (L : Limits) (k : Kind) (p : ℕ) (ts ls us : List ℕ) (r : Lines)
+    → read_readings L k p (after [] ts ls us) r kept_readings ≡ read_readings L k p (after (0 ∷ []) ts ls us) r kept_readings
+first_minute L k p ts ls us r = alike_lines L k p [] (0 ∷ []) ts ls us r (λ y. sym (le-ltb y 0 (omega arith)))
 
 pub last_minute : (L : Limits) (k : Kind) (p : ℕ) (before : List ℕ) (o : Option ℕ) (ts ls us : List ℕ) (r : Lines) → IsSome o
     → read_readings L k p (after (before ++ minute_before o) ts ls us) r kept_readings ≡ read_readings L k p (after (minute_before o) ts ls us) r kept_readings

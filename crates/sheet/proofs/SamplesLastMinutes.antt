@@ -1,11 +1,12 @@
--- Of the lines before, only the last one's minute decides what the reading lines give.
+-- Of the lines before, only the last one's minute decides what the reading lines give; before the first line it may be 0.
 use Prim.Native.Nat.{ℕ}
-use mathlib.Core.Path.{◌≡◌, refl}
+use mathlib.Core.Path.{◌≡◌, refl, sym}
 use mathlib.Core.List.{List, [], ◌∷◌, ◌++◌}
 use Rattle.std.specs.Prelude.{Option, None, Some, IsSome}
 use Rattle.sheet.specs.LineValues.{minute_before}
 use Rattle.sheet.proofs.ValuesLastMinutes.{Alike, alike_behind}
 use native.Mathlib.Omega.{arith}
+use borrow.Author.Tests.{le-ltb}
 use Rattle.meanings.specs.declared.Limits.{Limits}
 use Rattle.meanings.specs.Sheet.{Lines, end, unended, line, next_place, Injection, kept, add_kept, sample_line, with_sample, read_samples}
 
@@ -25,6 +26,10 @@ alike_lines L zs hs p a b ts vs (line t d ls) e =
         ≡ with_sample L p b ts vs o (λ all' ts' vs'. read_samples L zs hs q all' ts' vs' ls)
     by None k = refl
     by (Some j) k = rw (e j.minute, k j.minute (add_kept (kept j) j.minute ts) (add_kept (kept j) j.value vs))
+
+pub first_minute : (L : Limits) (zs hs : List ℕ) (p : ℕ) (ts vs : List ℕ) (ls : Lines)
+    → read_samples L zs hs p [] ts vs ls ≡ read_samples L zs hs p (0 ∷ []) ts vs ls
+first_minute L zs hs p ts vs ls = alike_lines L zs hs p [] (0 ∷ []) ts vs ls (λ y. sym (le-ltb y 0 (omega arith)))
 
 pub last_minute : (L : Limits) (zs hs : List ℕ) (p : ℕ) (before : List ℕ) (o : Option ℕ) (ts vs : List ℕ) (ls : Lines) → IsSome o
     → read_samples L zs hs p (before ++ minute_before o) ts vs ls ≡ read_samples L zs hs p (minute_before o) ts vs ls

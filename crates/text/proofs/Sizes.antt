@@ -1,11 +1,16 @@
--- How long a line is, and whether it fits. A number of 64 bits has at most 20 digits.
+-- How long a line is, and whether it fits. A mark of 16 bits has at most 5 digits, a half width of 32 bits 10, any other number 20, so no line of a
+-- curve has more than 164 bytes.
 use Rattle.std.proofs.Common.{◌≡◌, ℕ, ◌+◌, ◌*◌, ◌/◌, ◌^◌, ◌≤◌, ◌<◌, Bool, true, false, List, [], ◌∷◌}
 use Rattle.std.proofs.Common.{Fits, w64, eqb, leb, length, get_or, drop, map, sym, ◌∙◌, arith, length-append, suc}
 use Rattle.std.proofs.lemmas.Bool.{le-leb}
 use Rattle.meanings.specs.Bytes.{dash}
 use Rattle.meanings.specs.Lists.{pick}
 use Rattle.meanings.specs.Estimate.{missing}
-use Rattle.meanings.specs.Output.{decimal, comma_before, text_line, value_text}
+use Rattle.meanings.specs.declared.Estimate.{Estimate}
+use Rattle.meanings.specs.declared.ranges.RangeEstimate.{RangeEstimate}
+use Rattle.meanings.specs.Output.{decimal, comma_before, text_line, value_text, curve_line}
+use Rattle.meanings.specs.ranges.RangeOutput.{range_curve_line}
+use Rattle.laws.proofs.text.Numbers.{decimal_length}
 use Rattle.text.proofs.RoomLaws.{twenty_at_most}
 use Rattle.text.specs.Line.{fields, line_text, most_bytes}
 
@@ -55,3 +60,36 @@ pub fits_with_room : (f : ℕ) (ns vs : List ℕ) → f < 2 ^ 64 → ((i : ℕ) 
 fits_with_room f ns vs small numbers values room enough =
     le-leb (1 + length ns + length vs) (room / 21) enough
     ∙ sym (le-leb (length (line_text f ns vs)) room (omega (arith, enough, line_short f ns vs small numbers values)))
+
+-- the longest lines of a refusal, a curve and a curve over ranges
+pub pair_short : (a b : ℕ) → a < 2 ^ 64 → b < 2 ^ 64 → length (text_line (decimal a) (decimal b ∷ [])) ≤ 164
+pair_short a b la lb =
+    let c = twenty_at_most a la in
+    let d = twenty_at_most b lb in
+    simp length-append (omega arith)
+
+pub curve_line_short : (z h : ℕ) (e : Estimate) → z < 2 ^ 16 → h < 2 ^ 32 → e.left < 2 ^ 64 → e.right < 2 ^ 64 → e.weight < 2 ^ 64
+    → e.sum < 2 ^ 64 → e.value < 2 ^ 64 → length (curve_line z h e) ≤ 164
+curve_line_short z h e point bandwidth left right weight sum value =
+    let a = decimal_length z 4 (omega arith) in
+    let b = decimal_length h 9 (omega arith) in
+    let c = twenty_at_most e.left left in
+    let d = twenty_at_most e.right right in
+    let f = twenty_at_most e.weight weight in
+    let g = twenty_at_most e.sum sum in
+    let i = value_short e.value value in
+    simp length-append (omega arith)
+
+pub range_line_short : (z h : ℕ) (e : RangeEstimate) → z < 2 ^ 16 → h < 2 ^ 32 → e.left < 2 ^ 64 → e.right < 2 ^ 64 → e.weight < 2 ^ 64
+    → e.sum.low < 2 ^ 64 → e.sum.high < 2 ^ 64 → e.value.low < 2 ^ 64 → e.value.high < 2 ^ 64 → length (range_curve_line z h e) ≤ 164
+range_line_short z h e point bandwidth left right weight low_sum high_sum low_value high_value =
+    let a = decimal_length z 4 (omega arith) in
+    let b = decimal_length h 9 (omega arith) in
+    let c = twenty_at_most e.left left in
+    let d = twenty_at_most e.right right in
+    let f = twenty_at_most e.weight weight in
+    let g = twenty_at_most e.sum.low low_sum in
+    let i = twenty_at_most e.sum.high high_sum in
+    let j = value_short e.value.low low_value in
+    let k = value_short e.value.high high_value in
+    simp length-append (omega arith)
